@@ -1,0 +1,449 @@
+-- Laws of cell ids, as used.
+use mathlib.Core.Path.{_≡_, refl, sym, ap, ap₂, _∙_, subst}
+use mathlib.Core.Logic.{⊎-elim}
+use mathlib.Core.Bool.{Bool, true, false, _&&_, not, Bool·beq}
+use Prim.Native.Nat.{ℕ, zero, suc, _+_, _-_, _*_, _/_, _%_, _^_, _≤_, _<_, min, max}
+use native.Mathlib.Nat.{add-zero, mul-one, one-mul, zero-lt-suc, pow-suc, mul-sub, mul-comm, mul-assoc, add-mul, mul-lt-mul-of-pos-right, lt-of-mul-lt-mul-right, mul-add-div-right, div-div-eq-div-mul, mul-div-cancel, mul-le-mul-right, mod-eq-of-lt, zero-add, mul-left-comm, mul-div-cancel-left, mul-div-mul-right, div-mul-le-self, lt-div-mul-add, div-eq-of-lt-le, div-eq-of-lt, pos-of-ne-zero, div-add-mod', mul-suc, le-max-left, le-trans, lt-of-le-of-lt, lt-of-lt-of-le, add-sub-cancel-left, eq-or-lt-of-le, le-of-suc-le-suc, not-suc-le-zero}
+use native.Mathlib.Numerals.{add-one}
+use native.Mathlib.Omega.{arith}
+use lib.Count.{trailingZeros, trailing-of-zero, leadingZeros, leading-top}
+use lib.Pow.{pow-pos, pow-add, pow-lt, pow-mono, shr-mod, shl-shr}
+use lib.Arith.{bin-ind}
+use lib.Dec.{lit<, leb, ltb, eqb}
+use borrow.Author.Tests.{leb-true, ltb-false, le-leb, lt-leb, eqb-true, eq-eqb}
+use lib.Bits.{bitAnd, bitOr, bitXor, differ, xor-step, xor-shr, xor-self, shifted-half, shifted-even, and-step, and-block, and-high, or-block, or-step, or-zero-r, and-comm}
+use Rattle.cellid.specs.CellId.{idOf, lowBit, levelOf, placeOf, bitAt, placeAt, parentAt, childOf, firstLeaf, lastLeaf, holds, meets, validId, IsCell, commonLevel, evenPlace, pickCommon, spread}
+use Rattle.cellid.specs.declared.Common.{Common}
+
+-- the lowest set bit of an odd number times 2 ^ t stands at t
+pub zeros-of : (k t m : ℕ) → t < k → trailingZeros k ((2 * m + 1) * 2 ^ t) ≡ t
+unfolding trailingZeros
+zeros-of zero t m h = omega arith
+zeros-of (suc k) zero m h = rw (mul-one (2 * m + 1)) (let e : (2 * m + 1) % 2 ≡ 1 = omega arith in rw e)
+zeros-of (suc k) (suc t) m h = rw (shifted-even (2 * m + 1) t, shifted-half (2 * m + 1) t) (ap suc (zeros-of k t m (omega arith)))
+
+-- every number but 0 is an odd number times a power of two
+abbrev pub OddPart : ℕ → ℕ → Type 0
+OddPart k x = (m : ℕ) × (t : ℕ) × (t < k) × (x ≡ (2 * m + 1) * 2 ^ t)
+
+odd-step : (k x : ℕ) → 0 < x → (0 < x / 2 → OddPart k (x / 2)) → (d : ℕ) → x % 2 ≡ d → OddPart (suc k) x
+odd-step k x p ih zero e =
+    let h = ih (omega arith) in
+    (h .0, suc (h .1), omega (arith, h .2), omega (arith, h .3, pow-suc 2 (h .1), mul-assoc (2 * h .0 + 1) (2 ^ h .1) 2, ap (λ (z : ℕ). (2 * h .0 + 1) * z) (pow-suc 2 (h .1))))
+odd-step k x p ih (suc zero) e = (x / 2, 0, zero-lt-suc k, omega (arith, mul-one (2 * (x / 2) + 1)))
+odd-step k x p ih (suc (suc d)) e = absurd (omega arith)
+
+pub odd-part : (k x : ℕ) → 0 < x → x < 2 ^ k → OddPart k x
+odd-part zero x p h = absurd (omega arith)
+odd-part (suc k) x p h = odd-step k x p (λ q. odd-part k (x / 2) q (omega (arith, pow-suc 2 k))) (x % 2) refl
+
+-- a number and its complement share no digit
+pub comp-and : (k a : ℕ) → a < 2 ^ k → bitAnd a ((2 ^ k - 1) - a) ≡ 0
+comp-and zero a h = let e : a ≡ 0 = omega arith in rw e
+comp-and (suc k) a h =
+    let half : ((2 ^ suc k - 1) - a) / 2 ≡ (2 ^ k - 1) - a / 2 = omega (arith, pow-suc 2 k) in
+    let digit : min (a % 2) (((2 ^ suc k - 1) - a) % 2) ≡ 0 = omega (arith, pow-suc 2 k) in
+    and-step a ((2 ^ suc k - 1) - a) ∙ rw (half, digit, comp-and k (a / 2) (omega (arith, pow-suc 2 k)))
+
+-- x & -x is the lowest set bit
+and-neg-odd : (j m : ℕ) → 2 * m + 1 < 2 ^ suc j → bitAnd (2 * m + 1) (2 ^ suc j - (2 * m + 1)) ≡ 1
+and-neg-odd j m h =
+    let half : (2 ^ suc j - (2 * m + 1)) / 2 ≡ (2 ^ j - 1) - m = omega (arith, pow-suc 2 j) in
+    let half' : (2 * m + 1) / 2 ≡ m = omega arith in
+    let digit : min ((2 * m + 1) % 2) ((2 ^ suc j - (2 * m + 1)) % 2) ≡ 1 = omega (arith, pow-suc 2 j) in
+    and-step (2 * m + 1) (2 ^ suc j - (2 * m + 1)) ∙ rw (half, half', digit, comp-and j m (omega (arith, pow-suc 2 j)))
+
+sub-mul : (a b c : ℕ) → (a - b) * c ≡ a * c - b * c
+sub-mul a b c = mul-comm (a - b) c ∙ mul-sub c a b ∙ ap₂ (λ (x y : ℕ). x - y) (mul-comm c a) (mul-comm c b)
+
+pub and-neg : (j t m : ℕ) → (2 * m + 1) * 2 ^ t < 2 ^ (suc j + t)
+    → bitAnd ((2 * m + 1) * 2 ^ t) (2 ^ (suc j + t) - (2 * m + 1) * 2 ^ t) ≡ 2 ^ t
+and-neg j t m h =
+    let e : 2 ^ (suc j + t) - (2 * m + 1) * 2 ^ t ≡ (2 ^ suc j - (2 * m + 1)) * 2 ^ t = rw (sub-mul, pow-add 2 (suc j) t) in
+    let b : 2 * m + 1 < 2 ^ suc j = lt-of-mul-lt-mul-right (2 ^ t) (rw (← pow-add 2 (suc j) t) h) in
+    rw (e, ← add-zero ((2 * m + 1) * 2 ^ t), ← add-zero ((2 ^ suc j - (2 * m + 1)) * 2 ^ t), and-block t (2 * m + 1) (2 ^ suc j - (2 * m + 1)) 0 0 (pow-pos t) (pow-pos t), and-neg-odd j m b)
+    (add-zero (1 * 2 ^ t) ∙ one-mul (2 ^ t))
+
+-- x & -x at 64 bits
+pub low-and : (x : ℕ) → 0 < x → x < 2 ^ 64 → bitAnd x (2 ^ 64 - x) ≡ lowBit x
+unfolding lowBit
+low-and x p h =
+    let o = odd-part 64 x p h in
+    let z : trailingZeros 64 x ≡ o .1 = ap (trailingZeros 64) (o .3) ∙ zeros-of 64 (o .1) (o .0) (o .2) in
+    let w : suc (63 - o .1) + o .1 ≡ 64 = omega (arith, o .2) in
+    rw z (ap (λ (y : ℕ). bitAnd y (2 ^ 64 - y)) (o .3) ∙ ap (λ (n : ℕ). bitAnd ((2 * o .0 + 1) * 2 ^ o .1) (2 ^ n - (2 * o .0 + 1) * 2 ^ o .1)) (sym w)
+    ∙ and-neg (63 - o .1) (o .1) (o .0) (subst (λ (n : ℕ). (2 * o .0 + 1) * 2 ^ o .1 < 2 ^ n) (sym w) (subst (λ (y : ℕ). y < 2 ^ 64) (o .3) h)))
+
+-- the weight of the lowest set bit is at most the number
+pub low-le : (x : ℕ) → 0 < x → x < 2 ^ 64 → lowBit x ≤ x
+unfolding lowBit
+low-le x p h =
+    let o = odd-part 64 x p h in
+    let z : trailingZeros 64 x ≡ o .1 = ap (trailingZeros 64) (o .3) ∙ zeros-of 64 (o .1) (o .0) (o .2) in
+    rw z (omega (arith, o .3, add-mul (2 * o .0) 1 (2 ^ o .1), one-mul (2 ^ o .1)))
+
+pub low-pos : (x : ℕ) → 0 < lowBit x
+unfolding lowBit
+low-pos x = pow-pos (trailingZeros 64 x)
+
+-- and there is room above a number for its lowest set bit
+pub low-room : (x : ℕ) → 0 < x → x < 2 ^ 64 → x + lowBit x ≤ 2 ^ 64
+unfolding lowBit
+low-room x p h =
+    let o = odd-part 64 x p h in
+    let z : trailingZeros 64 x ≡ o .1 = ap (trailingZeros 64) (o .3) ∙ zeros-of 64 (o .1) (o .0) (o .2) in
+    let n : (64 - o .1) + o .1 ≡ 64 = omega (arith, o .2) in
+    let w : 2 ^ (64 - o .1) * 2 ^ o .1 ≡ 2 ^ 64 = sym (pow-add 2 (64 - o .1) (o .1)) ∙ ap (λ (k : ℕ). 2 ^ k) n in
+    let b : 2 * o .0 + 1 < 2 ^ (64 - o .1) = lt-of-mul-lt-mul-right (2 ^ o .1) (rw (w, ← o .3) h) in
+    rw z (omega (arith, o .3, mul-le-mul-right (2 ^ o .1) b, w, add-mul (2 * o .0 + 1) 1 (2 ^ o .1), one-mul (2 ^ o .1), add-one (2 * o .0 + 1), ap (λ (n : ℕ). n * 2 ^ o .1) (add-one (2 * o .0 + 1))))
+
+-- 1 << t at 64 bits
+pub one-shl : (t : ℕ) → t < 64 → (1 * 2 ^ t) % 2 ^ 64 ≡ 2 ^ t
+one-shl t h = rw (one-mul (2 ^ t)) (mod-eq-of-lt (pow-lt h))
+
+-- (x & -2^t) | 2^t clears the digits below t and sets t
+or-one : (a : ℕ) → bitOr a 1 ≡ a / 2 * 2 + 1
+or-one a =
+    let m : max (a % 2) 1 ≡ 1 = omega arith in
+    or-step a 1 ∙ rw (or-zero-r (a / 2), m)
+
+pub or-bit : (a t : ℕ) → bitOr (a * 2 ^ t) (2 ^ t) ≡ (a / 2 * 2 + 1) * 2 ^ t
+or-bit a t =
+    ap₂ bitOr (sym (add-zero (a * 2 ^ t))) (sym (add-zero (1 * 2 ^ t) ∙ one-mul (2 ^ t)))
+    ∙ or-block t a 1 0 0 (pow-pos t) (pow-pos t) ∙ rw (or-one a, add-zero ((a / 2 * 2 + 1) * 2 ^ t))
+
+pub parent-bits : (j t x : ℕ) → x < 2 ^ (j + t)
+    → bitOr (bitAnd x (2 ^ (j + t) - 2 ^ t)) (2 ^ t) ≡ (x / (2 * 2 ^ t)) * (2 * 2 ^ t) + 2 ^ t
+parent-bits j t x h =
+    let q : x / 2 ^ t / 2 ≡ x / (2 * 2 ^ t) = div-div-eq-div-mul x (2 ^ t) 2 ∙ ap (λ (n : ℕ). x / n) (mul-comm (2 ^ t) 2) in
+    rw (and-high x j t, shr-mod j t h, or-bit (x / 2 ^ t) t, q, add-mul, mul-assoc, one-mul)
+
+pub parent-is : (x L : ℕ) → L ≤ 30 → x < 2 ^ 64 → bitOr (bitAnd x (2 ^ 64 - bitAt L)) (bitAt L) ≡ parentAt x L
+unfolding parentAt
+parent-is x L l h =
+    let w : (64 - placeAt L) + placeAt L ≡ 64 = omega arith in
+    ap (λ (n : ℕ). bitOr (bitAnd x (2 ^ n - bitAt L)) (bitAt L)) (sym w) ∙ parent-bits (64 - placeAt L) (placeAt L) x (rw w h)
+
+-- ---- the normal form
+
+pub zeros-id : (L p : ℕ) → trailingZeros 64 (idOf L p) ≡ placeAt L
+unfolding idOf
+zeros-id L p = zeros-of 64 (placeAt L) p (omega arith)
+
+pub low-id : (L p : ℕ) → lowBit (idOf L p) ≡ bitAt L
+unfolding lowBit
+low-id L p = rw (zeros-id L p)
+
+pub level-id : (L p : ℕ) → L ≤ 30 → levelOf (idOf L p) ≡ L
+unfolding levelOf
+level-id L p h = rw (zeros-id L p) (omega arith)
+
+-- products of two variables, laid out for `omega`
+pub odd-mul : (p C : ℕ) → (2 * p + 1) * C ≡ 2 * (p * C) + C
+odd-mul p C = add-mul (2 * p) 1 C ∙ ap₂ (λ (x y : ℕ). x + y) (mul-assoc 2 p C) (one-mul C)
+
+pub place-id : (L p : ℕ) → placeOf (idOf L p) ≡ p
+unfolding placeOf idOf
+place-id L p =
+    let half : (2 * p + 1) / 2 ≡ p = omega arith in
+    rw (zeros-id L p, pow-add 2 (placeAt L) 1, ← div-div-eq-div-mul ((2 * p + 1) * bitAt L) (bitAt L) 2, shl-shr (2 * p + 1) (placeAt L), half)
+
+-- one weight in terms of another, k levels up
+pub bit-up : (L k : ℕ) → L + k ≤ 30 → bitAt L ≡ 2 ^ (2 * k) * bitAt (L + k)
+bit-up L k h =
+    let e : 2 * (30 - L) ≡ 2 * k + 2 * (30 - (L + k)) = omega arith in
+    rw (← pow-add 2 (2 * k) (2 * (30 - (L + k)))) (ap (λ (n : ℕ). 2 ^ n) e)
+
+child-core : (p k C : ℕ) → ((2 * p + 1) * (4 * C) - 4 * C) + (2 * k + 1) * (4 * C / 4) ≡ (2 * (4 * p + k) + 1) * C
+child-core p k C =
+    let q : 4 * C / 4 ≡ C = omega arith in
+    rw q (omega (arith, odd-mul p (4 * C), mul-left-comm p 4 C, odd-mul k C, odd-mul (4 * p + k) C, add-mul (4 * p) k C, mul-assoc 4 p C))
+
+pub child-id : (L p k : ℕ) → L < 30 → childOf (idOf L p) k ≡ idOf (L + 1) (4 * p + k)
+unfolding childOf idOf
+child-id L p k h = rw (low-id L p, bit-up L 1 (omega arith)) (child-core p k (bitAt (L + 1)))
+
+parent-core : (q D C : ℕ) → 0 < D → 0 < C → (2 * q + 1) * C / (2 * (D * C)) * (2 * (D * C)) + D * C ≡ (2 * (q / D) + 1) * (D * C)
+parent-core q D C d c =
+    let half : (2 * q + 1) / 2 ≡ q = omega arith in
+    let e : (2 * q + 1) * C / (2 * (D * C)) ≡ q / D =
+    rw (← mul-assoc 2 D C, mul-div-mul-right (2 * q + 1) (2 * D) c, ← div-div-eq-div-mul (2 * q + 1) 2 D, half) in
+    rw e (omega (arith, odd-mul (q / D) (D * C), mul-left-comm (q / D) 2 (D * C)))
+
+pub parent-id : (L k q : ℕ) → L + k ≤ 30 → parentAt (idOf (L + k) q) L ≡ idOf L (q / 2 ^ (2 * k))
+unfolding parentAt idOf
+parent-id L k q h = rw (bit-up L k h) (parent-core q (2 ^ (2 * k)) (bitAt (L + k)) (pow-pos (2 * k)) (pow-pos (placeAt (L + k))))
+
+-- the leaves of a cell, as places
+pub first-id : (L p : ℕ) → firstLeaf (idOf L p) ≡ 2 * (p * bitAt L) + 1
+unfolding firstLeaf idOf
+first-id L p = rw (low-id L p) (omega (arith, odd-mul p (bitAt L), pow-pos (placeAt L)))
+
+pub last-id : (L p : ℕ) → lastLeaf (idOf L p) + 1 ≡ 2 * (p * bitAt L) + 2 * bitAt L
+unfolding lastLeaf idOf
+last-id L p = rw (low-id L p) (omega (arith, odd-mul p (bitAt L), pow-pos (placeAt L)))
+
+-- ---- what holds what
+
+pub bool-iff : (a b : Bool) → (a ≡ true → b ≡ true) → (b ≡ true → a ≡ true) → a ≡ b
+bool-iff true true f g = refl
+bool-iff true false f g = sym (f refl)
+bool-iff false true f g = g refl
+bool-iff false false f g = refl
+
+pub and-true : (a b : Bool) → (a && b) ≡ true → (a ≡ true) × (b ≡ true)
+and-true true b e = (refl, e)
+and-true false b e = let z : false ≡ true = e in (z, cc)
+
+-- 2pDC < (2q + 1)C < (2p + 2)DC says that q / D is p
+module _ (p q D C : ℕ) (c : 0 < C) (d : 0 < D) where
+  under→ : 2 * (p * (D * C)) + 1 ≤ (2 * q + 1) * C → (2 * q + 1) * C + 1 ≤ 2 * (p * (D * C)) + 2 * (D * C) → q / D ≡ p
+  under→ lo hi =
+      let a : 2 * (p * D) * C ≡ 2 * (p * (D * C)) = rw (mul-assoc, mul-assoc) in
+      let b : (2 * (p * D) + 2 * D) * C ≡ 2 * (p * (D * C)) + 2 * (D * C) = add-mul (2 * (p * D)) (2 * D) C ∙ rw (a, mul-assoc) in
+      let l : 2 * (p * D) < 2 * q + 1 = lt-of-mul-lt-mul-right C (omega (arith, a)) in
+      let u : 2 * q + 1 < 2 * (p * D) + 2 * D = lt-of-mul-lt-mul-right C (omega (arith, b)) in
+      div-eq-of-lt-le D (omega arith) (omega (arith, add-mul p 1 D, one-mul D))
+
+  under← : q / D ≡ p → (2 * (p * (D * C)) + 1 ≤ (2 * q + 1) * C) × ((2 * q + 1) * C + 1 ≤ 2 * (p * (D * C)) + 2 * (D * C))
+  under← e =
+      let a : 2 * (p * D) * C ≡ 2 * (p * (D * C)) = rw (mul-assoc, mul-assoc) in
+      let b : (2 * (p * D) + 2 * D) * C ≡ 2 * (p * (D * C)) + 2 * (D * C) = add-mul (2 * (p * D)) (2 * D) C ∙ rw (a, mul-assoc) in
+      let l : p * D ≤ q = rw (← e) (div-mul-le-self q D) in
+      let u : q < p * D + D = rw (← e) (lt-div-mul-add d) in
+      let l' : 2 * (p * D) * C < (2 * q + 1) * C = mul-lt-mul-of-pos-right (omega arith) c in
+      let u' : (2 * q + 1) * C < (2 * (p * D) + 2 * D) * C = mul-lt-mul-of-pos-right (omega arith) c in
+      (omega (arith, a), omega (arith, b))
+
+-- a cell holds one k levels below it exactly where the places say so
+pub holds-id : (L k p q : ℕ) → L + k ≤ 30 → holds (idOf L p) (idOf (L + k) q) ≡ eqb (q / 2 ^ (2 * k)) p
+unfolding holds
+holds-id L k p q h =
+    let C = bitAt (L + k) in
+    let D = 2 ^ (2 * k) in
+    let c = pow-pos (placeAt (L + k)) in
+    let d = pow-pos (2 * k) in
+    let e : idOf (L + k) q ≡ (2 * q + 1) * C = unfold idOf in refl in
+    let f : firstLeaf (idOf L p) ≡ 2 * (p * (D * C)) + 1 = first-id L p ∙ rw (bit-up L k h) in
+    let g : lastLeaf (idOf L p) + 1 ≡ 2 * (p * (D * C)) + 2 * (D * C) = last-id L p ∙ rw (bit-up L k h) in
+    bool-iff _ _
+    (λ t. let r = and-true (leb (firstLeaf (idOf L p)) (idOf (L + k) q)) (leb (idOf (L + k) q) (lastLeaf (idOf L p))) t in
+    let lo : firstLeaf (idOf L p) ≤ idOf (L + k) q = leb-true _ _ (r .0) in
+    let hi : idOf (L + k) q ≤ lastLeaf (idOf L p) = leb-true _ _ (r .1) in
+    eq-eqb _ _ (under→ p q D C c d (omega (arith, f, e, lo)) (omega (arith, g, e, hi))))
+    (λ t. let r = under← p q D C c d (eqb-true _ _ t) in
+    rw (le-leb (firstLeaf (idOf L p)) (idOf (L + k) q) (omega (arith, f, e, r .0)), le-leb (idOf (L + k) q) (lastLeaf (idOf L p)) (omega (arith, g, e, r .1))))
+
+-- ---- valid ids are the cells
+
+cell-core : (id m t : ℕ) → id ≡ (2 * m + 1) * 2 ^ t → id / 2 ^ 61 ≤ 5 → t ≤ 60 → t % 2 ≡ 0 → IsCell id (30 - t / 2) m
+unfolding idOf
+cell-core id m t e face top even =
+    let place : 2 * (30 - (30 - t / 2)) ≡ t = omega arith in
+    let u : 2 * (30 - t / 2) + t ≡ 60 = omega arith in
+    let w : 2 ^ (2 * (30 - t / 2)) * 2 ^ t ≡ 2 ^ 60 = sym (pow-add 2 (2 * (30 - t / 2)) t) ∙ ap (λ (n : ℕ). 2 ^ n) u in
+    let b : 2 * m + 1 < 12 * 2 ^ (2 * (30 - t / 2)) = lt-of-mul-lt-mul-right (2 ^ t) (rw (← e, mul-assoc, w) (omega arith)) in
+    record { level = omega arith; place = omega arith; is = rw place e }
+
+place-core : (id m t : ℕ) → id ≡ (2 * m + 1) * 2 ^ t → id / 2 ^ (t + 1) ≡ m
+place-core id m t e =
+    let half : (2 * m + 1) / 2 ≡ m = omega arith in
+    rw (e, pow-add 2 t 1, ← div-div-eq-div-mul ((2 * m + 1) * 2 ^ t) (2 ^ t) 2, shl-shr (2 * m + 1) t, half)
+
+pub valid-cell : (id : ℕ) → id < 2 ^ 64 → validId id ≡ true → IsCell id (levelOf id) (placeOf id)
+unfolding validId levelOf placeOf
+valid-cell id h v =
+    let r = and-true (leb (id / 2 ^ 61) 5) (leb (trailingZeros 64 id) 60 && eqb (trailingZeros 64 id % 2) 0) v in
+    let s = and-true (leb (trailingZeros 64 id) 60) (eqb (trailingZeros 64 id % 2) 0) (r .1) in
+    let top : trailingZeros 64 id ≤ 60 = leb-true _ _ (s .0) in
+    let pos : 0 < id = pos-of-ne-zero (λ e. let z : trailingZeros 64 id ≡ 64 = ap (trailingZeros 64) e ∙ trailing-of-zero 64 in omega arith) in
+    let o = odd-part 64 id pos h in
+    let z : trailingZeros 64 id ≡ o .1 = ap (trailingZeros 64) (o .3) ∙ zeros-of 64 (o .1) (o .0) (o .2) in
+    let e : id ≡ (2 * o .0 + 1) * 2 ^ trailingZeros 64 id = o .3 ∙ ap (λ (n : ℕ). (2 * o .0 + 1) * 2 ^ n) (sym z) in
+    let g = cell-core id (o .0) (trailingZeros 64 id) e (leb-true _ _ (r .0)) top (eqb-true _ _ (s .1)) in
+    subst (λ (m : ℕ). IsCell id (30 - trailingZeros 64 id / 2) m) (sym (place-core id (o .0) (trailingZeros 64 id) e)) g
+
+-- ---- where two numbers differ
+
+differ-zero : (x y : ℕ) → differ x y ≡ 0 → x ≡ y
+differ-zero zero y e = sym e
+differ-zero (suc x) zero e = e
+differ-zero (suc x) (suc y) e = ap suc (differ-zero x y e)
+
+xor-zero : (a b : ℕ) → bitXor a b ≡ 0 → a ≡ b
+xor-zero = bin-ind (λ (n : ℕ). (b : ℕ) → bitXor n b ≡ 0 → n ≡ b) (λ b e. sym e)
+    (λ n ih b e. let s : bitXor (n / 2) (b / 2) * 2 + differ (n % 2) (b % 2) ≡ 0 = sym (xor-step n b) ∙ e in
+    let d : n % 2 ≡ b % 2 = differ-zero (n % 2) (b % 2) (omega arith) in
+    let h : n / 2 ≡ b / 2 = ih (b / 2) (omega arith) in
+    omega arith)
+
+-- the digits from k on agree exactly where the exclusive or is below 2 ^ k
+pub same-above : (a b k : ℕ) → bitXor a b < 2 ^ k → a / 2 ^ k ≡ b / 2 ^ k
+same-above a b k h = xor-zero (a / 2 ^ k) (b / 2 ^ k) (sym (xor-shr a b k) ∙ div-eq-of-lt h)
+
+-- ---- the cells are the valid ids, and each is one cell only
+
+pub cell-lt : (id L p : ℕ) → IsCell id L p → id < 12 * 2 ^ 60
+unfolding idOf
+cell-lt id L p c =
+    let u : 2 * L + placeAt L ≡ 60 = omega (arith, c .level) in
+    let w : 2 ^ (2 * L) * bitAt L ≡ 2 ^ 60 = sym (pow-add 2 (2 * L) (placeAt L)) ∙ ap (λ (n : ℕ). 2 ^ n) u in
+    let s : 12 * 2 ^ (2 * L) * bitAt L ≡ 12 * 2 ^ 60 = mul-assoc 12 (2 ^ (2 * L)) (bitAt L) ∙ ap (λ (n : ℕ). 12 * n) w in
+    rw (c .is, ← s) (mul-lt-mul-of-pos-right (omega (arith, c .place)) (pow-pos (placeAt L)))
+
+pub cell-valid : (id L p : ℕ) → IsCell id L p → validId id ≡ true
+unfolding validId
+cell-valid id L p c =
+    let z : trailingZeros 64 id ≡ placeAt L = ap (trailingZeros 64) (c .is) ∙ zeros-id L p in
+    let f : id / 2 ^ 61 ≤ 5 = omega (arith, cell-lt id L p c) in
+    let e : placeAt L % 2 ≡ 0 = omega arith in
+    rw (z, le-leb (id / 2 ^ 61) 5 f, le-leb (placeAt L) 60 (omega arith), eq-eqb (placeAt L % 2) 0 e)
+
+pub cell-unique : (id L p M q : ℕ) → IsCell id L p → IsCell id M q → (L ≡ M) × (p ≡ q)
+cell-unique id L p M q c d = (
+  sym (level-id L p (c .level)) ∙ ap levelOf (sym (c .is) ∙ d .is) ∙ level-id M q (d .level),
+  sym (place-id L p) ∙ ap placeOf (sym (c .is) ∙ d .is) ∙ place-id M q,
+)
+
+pub no-true : (b : Bool) → (b ≡ true → ⊥) → b ≡ false
+no-true true f = absurd (f refl)
+no-true false f = refl
+
+omega-four : (x : ℕ) → x * 4 ≡ 2 * (2 * x)
+omega-four x = omega arith
+
+-- no even multiple of C stands strictly between 2qC and (2q + 2)C
+between : (X q C : ℕ) → 2 * (q * C) + 1 ≤ 2 * X * C → 2 * X * C + 1 ≤ 2 * (q * C) + 2 * C → ⊥
+between X q C lo hi =
+    let a : 2 * X * C ≡ 2 * (X * C) = mul-assoc 2 X C in
+    let l : q < X = lt-of-mul-lt-mul-right C (omega (arith, a)) in
+    let u : X < q + 1 = lt-of-mul-lt-mul-right C (omega (arith, a, add-mul q 1 C, one-mul C)) in
+    omega arith
+
+even-id : (L k p : ℕ) → L + suc k ≤ 30 → idOf L p ≡ (2 * ((2 * p + 1) * (2 * 2 ^ (2 * k)))) * bitAt (L + suc k)
+unfolding idOf
+even-id L k p h =
+    let d : 2 ^ (2 * suc k) ≡ 2 * (2 * 2 ^ (2 * k)) = ap (λ (n : ℕ). 2 ^ n) (mul-suc 2 k) ∙ pow-add 2 (2 * k) 2 ∙ omega-four (2 ^ (2 * k)) in
+    rw (bit-up L (suc k) h, d, ← mul-assoc (2 * p + 1) (2 * (2 * 2 ^ (2 * k))) (bitAt (L + suc k)), mul-left-comm (2 * p + 1) 2 (2 * 2 ^ (2 * k)))
+
+-- the other way up: a smaller cell holds none that is k + 1 levels above it
+pub holds-not : (L k p q : ℕ) → L + suc k ≤ 30 → holds (idOf (L + suc k) q) (idOf L p) ≡ false
+unfolding holds
+holds-not L k p q h =
+    let C = bitAt (L + suc k) in
+    let F = 2 * 2 ^ (2 * k) in
+    let e : idOf L p ≡ (2 * ((2 * p + 1) * F)) * C = even-id L k p h in
+    no-true _ (λ t.
+    let r = and-true (leb (firstLeaf (idOf (L + suc k) q)) (idOf L p)) (leb (idOf L p) (lastLeaf (idOf (L + suc k) q))) t in
+    let lo : firstLeaf (idOf (L + suc k) q) ≤ idOf L p = leb-true _ _ (r .0) in
+    let hi : idOf L p ≤ lastLeaf (idOf (L + suc k) q) = leb-true _ _ (r .1) in
+    between ((2 * p + 1) * F) q C
+    (omega (arith, lo, e, first-id (L + suc k) q))
+    (omega (arith, hi, e, last-id (L + suc k) q)))
+
+-- ---- the common ancestor's level
+
+-- a digit's place from the zeros above it
+top-digit : (x : ℕ) → 0 < x → x < 2 ^ 64 → x < 2 ^ (64 - leadingZeros 64 x)
+top-digit x p h =
+    let t = leading-top 64 x p h in
+    let e : suc (t .0) ≡ 64 - leadingZeros 64 x = omega (arith, t .1) in
+    subst (λ (n : ℕ). x < 2 ^ n) e (t .3)
+
+picked : (t : Bool) (K n : ℕ) → pickCommon t Common.Nothing (Common.Level n) ≡ Common.Level K → (t ≡ false) × (n ≡ K)
+picked true K n e = let z : _≡_ {A = ℕ} 0 1 = cc in absurd (omega arith)
+picked false K n e = (refl, cc)
+
+-- at that level the two have one ancestor
+pub common-same : (a b K : ℕ) → a < 2 ^ 64 → b < 2 ^ 64 → 0 < spread a b → spread a b < 2 ^ 64 → commonLevel a b ≡ Common.Level K → parentAt a K ≡ parentAt b K
+unfolding commonLevel parentAt
+common-same a b K ha hb p h e =
+    let z = leadingZeros 64 (spread a b) in
+    let r = picked (ltb z 3) K ((z - 3) / 2) e in
+    let l : 3 ≤ z = ltb-false z 3 (r .0) in
+    let q : (z - 3) / 2 ≡ K = r .1 in
+    let m : 64 - z ≤ placeAt K + 1 = omega arith in
+    let u : bitXor a b < 2 ^ (placeAt K + 1) =
+    lt-of-le-of-lt (le-trans (le-max-left (bitXor a b) (lowBit a)) (le-max-left (max (bitXor a b) (lowBit a)) (lowBit b))) (lt-of-lt-of-le (top-digit (spread a b) p h) (pow-mono m)) in
+    let w : 2 * bitAt K ≡ 2 ^ (placeAt K + 1) = mul-comm 2 (bitAt K) ∙ sym (pow-add 2 (placeAt K) 1) in
+    rw w (ap (λ (n : ℕ). n * 2 ^ (placeAt K + 1) + bitAt K) (same-above a b (placeAt K + 1) u))
+
+-- ---- a mask that picks places
+
+-- one bit of a mask
+pub and-power : (m t : ℕ) → bitAnd (2 ^ t) m ≡ (m / 2 ^ t % 2) * 2 ^ t
+and-power m t =
+    let e : 2 ^ t ≡ 2 ^ (1 + t) - 2 ^ t = omega (arith, pow-add 2 1 t) in
+    and-comm (2 ^ t) m ∙ ap (bitAnd m) e ∙ and-high m 1 t
+
+unfoldable pub every : ℕ → (ℕ → Bool) → Bool
+every zero f = true
+every (suc n) f = f n && every n f
+
+pub every-at : (n : ℕ) (f : ℕ → Bool) → every n f ≡ true → (k : ℕ) → k < n → f k ≡ true
+unfolding every
+every-at zero f e k h = absurd (not-suc-le-zero h)
+every-at (suc n) f e k h =
+    let r = and-true (f n) (every n f) e in
+    ⊎-elim (λ (q : k ≡ n). rw q (r .0)) (λ (q : k < n). every-at n f (r .1) k q) (eq-or-lt-of-le (le-of-suc-le-suc h))
+
+same-bool : (a b : Bool) → Bool·beq a b ≡ true → a ≡ b
+same-bool true true e = refl
+same-bool true false e = sym e
+same-bool false true e = e
+same-bool false false e = refl
+
+pub even-mask : (t : ℕ) → t < 64 → not (eqb (bitAnd (2 ^ t) 0x1555555555555555) 0) ≡ (leb t 60 && eqb (t % 2) 0)
+unfolding every
+even-mask t h =
+    ap (λ (n : ℕ). not (eqb n 0)) (and-power 0x1555555555555555 t)
+    ∙ same-bool _ _ (every-at 64 (λ k. Bool·beq (not (eqb ((0x1555555555555555 / 2 ^ k % 2) * 2 ^ k) 0)) (leb k 60 && eqb (k % 2) 0)) refl t h)
+
+pub zeros-lt : (x : ℕ) → 0 < x → x < 2 ^ 64 → trailingZeros 64 x < 64
+zeros-lt x p h = let o = odd-part 64 x p h in rw (ap (trailingZeros 64) (o .3) ∙ zeros-of 64 (o .1) (o .0) (o .2)) (o .2)
+
+-- ---- two cells share a leaf exactly where one holds the other
+
+module _ (p q D C : ℕ) (c : 0 < C) (d : 0 < D) where
+  share→ : q * C < p * (D * C) + D * C → p * (D * C) < q * C + C → q / D ≡ p
+  share→ hi lo =
+      let a : p * D * C ≡ p * (D * C) = mul-assoc p D C in
+      let u : q < p * D + D = lt-of-mul-lt-mul-right C (omega (arith, a, add-mul (p * D) D C)) in
+      let l : p * D < q + 1 = lt-of-mul-lt-mul-right C (omega (arith, a, add-mul q 1 C, one-mul C)) in
+      div-eq-of-lt-le D (omega arith) (omega (arith, add-mul p 1 D, one-mul D))
+
+pub meets-id : (L k p q : ℕ) → L + k ≤ 30 → meets (idOf L p) (idOf (L + k) q) ≡ eqb (q / 2 ^ (2 * k)) p
+unfolding meets
+meets-id L k p q h =
+    let C = bitAt (L + k) in
+    let D = 2 ^ (2 * k) in
+    let c = pow-pos (placeAt (L + k)) in
+    let d = pow-pos (2 * k) in
+    let fa : firstLeaf (idOf L p) ≡ 2 * (p * (D * C)) + 1 = first-id L p ∙ rw (bit-up L k h) in
+    let la : lastLeaf (idOf L p) + 1 ≡ 2 * (p * (D * C)) + 2 * (D * C) = last-id L p ∙ rw (bit-up L k h) in
+    let fb = first-id (L + k) q in
+    let lb = last-id (L + k) q in
+    bool-iff _ _
+    (λ t. let r = and-true (leb (firstLeaf (idOf (L + k) q)) (lastLeaf (idOf L p))) (leb (firstLeaf (idOf L p)) (lastLeaf (idOf (L + k) q))) t in
+    let x : firstLeaf (idOf (L + k) q) ≤ lastLeaf (idOf L p) = leb-true _ _ (r .0) in
+    let y : firstLeaf (idOf L p) ≤ lastLeaf (idOf (L + k) q) = leb-true _ _ (r .1) in
+    eq-eqb _ _ (share→ p q D C c d (omega (arith, fb, la, x)) (omega (arith, fa, lb, y))))
+    (λ t. let r = under← p q D C c d (eqb-true _ _ t) in
+    let o = odd-mul q C in
+    rw (le-leb (firstLeaf (idOf (L + k) q)) (lastLeaf (idOf L p)) (omega (arith, fb, la, r .1, o)), le-leb (firstLeaf (idOf L p)) (lastLeaf (idOf (L + k) q)) (omega (arith, fa, lb, r .0, o))))
+
+-- the weight one level up, by a shift
+pub shl-two : (L : ℕ) → L < 30 → (bitAt (L + 1) * 2 ^ 2) % 2 ^ 64 ≡ bitAt L
+shl-two L h =
+    let e : bitAt (L + 1) * 2 ^ 2 ≡ bitAt L = mul-comm (bitAt (L + 1)) 4 ∙ sym (bit-up L 1 (omega arith)) in
+    rw e (mod-eq-of-lt (pow-lt {i = placeAt L} {j = 64} (omega arith)))
+
+pub cell-pos : (id L p : ℕ) → IsCell id L p → 0 < id
+unfolding idOf
+cell-pos id L p c = rw (c .is) (omega (arith, odd-mul p (bitAt L), pow-pos (placeAt L)))
+
+pub low-cell : (id L p : ℕ) → IsCell id L p → lowBit id ≡ bitAt L
+low-cell id L p c = ap lowBit (c .is) ∙ low-id L p
+
+pub level-cell : (id L p : ℕ) → IsCell id L p → levelOf id ≡ L
+level-cell id L p c = ap levelOf (c .is) ∙ level-id L p (c .level)
