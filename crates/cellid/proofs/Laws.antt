@@ -1,19 +1,18 @@
 -- Laws of cell ids, as used.
 use mathlib.Core.Path.{_≡_, refl, sym, ap, ap₂, _∙_, subst}
 use mathlib.Core.Logic.{⊎-elim}
-use mathlib.Core.Bool.{Bool, true, false, _&&_, not, Bool·beq}
+use mathlib.Core.Bool.{Bool, true, false, _&&_, Bool·beq}
 use Prim.Native.Nat.{ℕ, zero, suc, _+_, _-_, _*_, _/_, _%_, _^_, _≤_, _<_, min, max}
-use native.Mathlib.Nat.{add-zero, mul-one, one-mul, zero-lt-suc, pow-suc, mul-sub, mul-comm, mul-assoc, add-mul, mul-lt-mul-of-pos-right, lt-of-mul-lt-mul-right, mul-add-div-right, div-div-eq-div-mul, mul-div-cancel, mul-le-mul-right, mod-eq-of-lt, zero-add, mul-left-comm, mul-div-cancel-left, mul-div-mul-right, div-mul-le-self, lt-div-mul-add, div-eq-of-lt-le, div-eq-of-lt, pos-of-ne-zero, div-add-mod', mul-suc, le-max-left, le-trans, lt-of-le-of-lt, lt-of-lt-of-le, add-sub-cancel-left, eq-or-lt-of-le, le-of-suc-le-suc, not-suc-le-zero}
+use native.Mathlib.Nat.{add-zero, mul-one, one-mul, zero-lt-suc, pow-suc, mul-sub, mul-comm, mul-assoc, add-mul, mul-lt-mul-of-pos-right, lt-of-mul-lt-mul-right, div-div-eq-div-mul, mul-le-mul-right, mod-eq-of-lt, mul-left-comm, mul-div-mul-right, div-mul-le-self, lt-div-mul-add, div-eq-of-lt-le, div-eq-of-lt, pos-of-ne-zero, mul-suc, eq-or-lt-of-le, le-of-suc-le-suc, not-suc-le-zero}
 use native.Mathlib.Numerals.{add-one}
 use native.Mathlib.Omega.{arith}
-use lib.Count.{trailingZeros, trailing-of-zero, leadingZeros, leading-top}
+use lib.Count.{trailingZeros, trailing-of-zero}
 use lib.Pow.{pow-pos, pow-add, pow-lt, pow-mono, shr-mod, shl-shr}
 use lib.Arith.{bin-ind}
-use lib.Dec.{lit<, leb, ltb, eqb}
-use borrow.Author.Tests.{leb-true, ltb-false, le-leb, lt-leb, eqb-true, eq-eqb}
-use lib.Bits.{bitAnd, bitOr, bitXor, differ, xor-step, xor-shr, xor-self, shifted-half, shifted-even, and-step, and-block, and-high, or-block, or-step, or-zero-r, and-comm}
-use Rattle.cellid.specs.CellId.{idOf, lowBit, levelOf, placeOf, bitAt, placeAt, parentAt, childOf, firstLeaf, lastLeaf, holds, meets, validId, IsCell, commonLevel, evenPlace, pickCommon, spread}
-use Rattle.cellid.specs.declared.Common.{Common}
+use lib.Dec.{leb, eqb}
+use borrow.Author.Tests.{leb-true, le-leb, eqb-true, eq-eqb}
+use lib.Bits.{bitAnd, bitOr, bitXor, differ, xor-step, xor-shr, shifted-half, shifted-even, and-step, and-block, and-high, or-block, or-step, or-zero-r, and-comm}
+use Rattle.cellid.specs.CellId.{idOf, lowBit, levelOf, placeOf, bitAt, placeAt, parentAt, childOf, firstLeaf, lastLeaf, holds, meets, validId, IsCell, Cell}
 
 -- the lowest set bit of an odd number times 2 ^ t stands at t
 pub zeros-of : (k t m : ℕ) → t < k → trailingZeros k ((2 * m + 1) * 2 ^ t) ≡ t
@@ -153,6 +152,10 @@ pub bit-up : (L k : ℕ) → L + k ≤ 30 → bitAt L ≡ 2 ^ (2 * k) * bitAt (L
 bit-up L k h =
     let e : 2 * (30 - L) ≡ 2 * k + 2 * (30 - (L + k)) = omega arith in
     rw (← pow-add 2 (2 * k) (2 * (30 - (L + k)))) (ap (λ (n : ℕ). 2 ^ n) e)
+
+-- one level more, four times as many
+pub pow-pair : (n m : ℕ) → m ≡ n + 1 → 2 ^ (2 * m) ≡ 4 * 2 ^ (2 * n)
+pow-pair n m h = let e : 2 * m ≡ 2 + 2 * n = omega arith in ap (λ (k : ℕ). 2 ^ k) e ∙ pow-add 2 2 (2 * n)
 
 child-core : (p k C : ℕ) → ((2 * p + 1) * (4 * C) - 4 * C) + (2 * k + 1) * (4 * C / 4) ≡ (2 * (4 * p + k) + 1) * C
 child-core p k C =
@@ -341,33 +344,6 @@ holds-not L k p q h =
     (omega (arith, lo, e, first-id (L + suc k) q))
     (omega (arith, hi, e, last-id (L + suc k) q)))
 
--- ---- the common ancestor's level
-
--- a digit's place from the zeros above it
-top-digit : (x : ℕ) → 0 < x → x < 2 ^ 64 → x < 2 ^ (64 - leadingZeros 64 x)
-top-digit x p h =
-    let t = leading-top 64 x p h in
-    let e : suc (t .0) ≡ 64 - leadingZeros 64 x = omega (arith, t .1) in
-    subst (λ (n : ℕ). x < 2 ^ n) e (t .3)
-
-picked : (t : Bool) (K n : ℕ) → pickCommon t Common.Nothing (Common.Level n) ≡ Common.Level K → (t ≡ false) × (n ≡ K)
-picked true K n e = let z : _≡_ {A = ℕ} 0 1 = cc in absurd (omega arith)
-picked false K n e = (refl, cc)
-
--- at that level the two have one ancestor
-pub common-same : (a b K : ℕ) → a < 2 ^ 64 → b < 2 ^ 64 → 0 < spread a b → spread a b < 2 ^ 64 → commonLevel a b ≡ Common.Level K → parentAt a K ≡ parentAt b K
-unfolding commonLevel parentAt
-common-same a b K ha hb p h e =
-    let z = leadingZeros 64 (spread a b) in
-    let r = picked (ltb z 3) K ((z - 3) / 2) e in
-    let l : 3 ≤ z = ltb-false z 3 (r .0) in
-    let q : (z - 3) / 2 ≡ K = r .1 in
-    let m : 64 - z ≤ placeAt K + 1 = omega arith in
-    let u : bitXor a b < 2 ^ (placeAt K + 1) =
-    lt-of-le-of-lt (le-trans (le-max-left (bitXor a b) (lowBit a)) (le-max-left (max (bitXor a b) (lowBit a)) (lowBit b))) (lt-of-lt-of-le (top-digit (spread a b) p h) (pow-mono m)) in
-    let w : 2 * bitAt K ≡ 2 ^ (placeAt K + 1) = mul-comm 2 (bitAt K) ∙ sym (pow-add 2 (placeAt K) 1) in
-    rw w (ap (λ (n : ℕ). n * 2 ^ (placeAt K + 1) + bitAt K) (same-above a b (placeAt K + 1) u))
-
 -- ---- a mask that picks places
 
 -- one bit of a mask
@@ -387,20 +363,11 @@ every-at (suc n) f e k h =
     let r = and-true (f n) (every n f) e in
     ⊎-elim (λ (q : k ≡ n). rw q (r .0)) (λ (q : k < n). every-at n f (r .1) k q) (eq-or-lt-of-le (le-of-suc-le-suc h))
 
-same-bool : (a b : Bool) → Bool·beq a b ≡ true → a ≡ b
+pub same-bool : (a b : Bool) → Bool·beq a b ≡ true → a ≡ b
 same-bool true true e = refl
 same-bool true false e = sym e
 same-bool false true e = e
 same-bool false false e = refl
-
-pub even-mask : (t : ℕ) → t < 64 → not (eqb (bitAnd (2 ^ t) 0x1555555555555555) 0) ≡ (leb t 60 && eqb (t % 2) 0)
-unfolding every
-even-mask t h =
-    ap (λ (n : ℕ). not (eqb n 0)) (and-power 0x1555555555555555 t)
-    ∙ same-bool _ _ (every-at 64 (λ k. Bool·beq (not (eqb ((0x1555555555555555 / 2 ^ k % 2) * 2 ^ k) 0)) (leb k 60 && eqb (k % 2) 0)) refl t h)
-
-pub zeros-lt : (x : ℕ) → 0 < x → x < 2 ^ 64 → trailingZeros 64 x < 64
-zeros-lt x p h = let o = odd-part 64 x p h in rw (ap (trailingZeros 64) (o .3) ∙ zeros-of 64 (o .1) (o .0) (o .2)) (o .2)
 
 -- ---- two cells share a leaf exactly where one holds the other
 
@@ -447,3 +414,10 @@ low-cell id L p c = ap lowBit (c .is) ∙ low-id L p
 
 pub level-cell : (id L p : ℕ) → IsCell id L p → levelOf id ≡ L
 level-cell id L p c = ap levelOf (c .is) ∙ level-id L p (c .level)
+
+pub low-small : (id : ℕ) → Cell id → lowBit id ≤ 2 ^ 60
+low-small id c = rw (low-cell id (c .0) (c .1) (c .2)) (pow-mono {i = placeAt (c .0)} {j = 60} (omega arith))
+
+pub level-le : (id : ℕ) → levelOf id ≤ 30
+unfolding levelOf
+level-le id = omega arith

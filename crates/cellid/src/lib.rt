@@ -1,7 +1,7 @@
+// Cell ids: u64 numbers whose lowest set bit tells the level. Every function is a few shifts and masks.
 ghost use mathlib.Core.Path.{_≡_};
-ghost use Prim.Native.Nat.{ℕ, _+_, _-_, _*_, _/_, _%_, _^_, _<_, _≤_, max};
-ghost use lib.Count.{trailingZeros};
-ghost use Rattle.cellid.specs.CellId.{levelOf, lowBit, validId, parentAt, childOf, firstLeaf, lastLeaf, holds, meets, commonLevel, evenPlace, IsCell};
+ghost use Prim.Native.Nat.{ℕ, _+_, _-_, _*_, _^_, _<_, _≤_, max};
+ghost use Rattle.cellid.specs.CellId.{Cell, IsCell, faceOf, lowBit, levelOf, validId, isFace, isLeaf, faceCell, parentAt, childOf, childrenOf, nextOf, firstLeaf, lastLeaf, holds, meets, commonLevel};
 
 // The weight of the lowest set bit.
 pub fn lsb(id: u64) -> u64
@@ -11,7 +11,22 @@ pub fn lsb(id: u64) -> u64
     id & std::num::wrapping_sub_u64(0, id)
 }
 
-// The level, read from the lowest set bit.
+// The weight of the lowest set bit of a level's ids.
+pub fn lsb_for_level(level: u64) -> u64
+    requires { ⌜ level ≤ 30 ⌝ }
+    ensures { λ r. ⌜ r ≡ 2 ^ (2 * (30 - level)) ⌝ }
+{
+    1 << (2 * (30 - level))
+}
+
+// The top three bits.
+pub fn face(id: u64) -> u64
+    ensures { λ r. ⌜ r ≡ faceOf id ⌝ }
+{
+    id >> 61
+}
+
+// The level, read from the lowest set bit; 0 where that stands above every level's place.
 pub fn level(id: u64) -> u64
     ensures { λ r. ⌜ r ≡ levelOf id ⌝ }
 {
@@ -19,10 +34,11 @@ pub fn level(id: u64) -> u64
     if half <= 30 { (30 - half) as u64 } else { 0 }
 }
 
+// Whether a number is a cell: face 0 to 5, and the lowest set bit at an even place, 0 to 60.
 pub fn is_valid(id: u64) -> bool
     ensures { λ r. ⌜ r ≡ validId id ⌝ }
 {
-    if id >> 61 > 5 {
+    if face(id) > 5 {
         return false;
     }
     let low = u64::trailing_zeros(id);
@@ -32,14 +48,29 @@ pub fn is_valid(id: u64) -> bool
     low % 2 == 0
 }
 
-// The weight of a level's lowest bit.
-pub fn lsb_for_level(level: u64) -> u64
-    requires { ⌜ level ≤ 30 ⌝ }
-    ensures { λ r. ⌜ r ≡ 2 ^ (2 * (30 - level)) ⌝ }
+// Whether a cell is a whole face.
+pub fn is_face(id: u64) -> bool
+    ensures { λ r. ⌜ r ≡ isFace id ⌝ }
 {
-    1 << (2 * (30 - level))
+    id & (lsb_for_level(0) - 1) == 0
 }
 
+// Whether a cell is of the deepest level.
+pub fn is_leaf(id: u64) -> bool
+    ensures { λ r. ⌜ r ≡ isLeaf id ⌝ }
+{
+    id & 1 != 0
+}
+
+// The cell of a face.
+pub fn from_face(face: u64) -> u64
+    requires { ⌜ face < 6 ⌝ }
+    ensures { λ r. ⌜ r ≡ faceCell face ⌝ }
+{
+    (face << 61) + lsb_for_level(0)
+}
+
+// The ancestor at a level, of a cell at that level or below.
 pub fn parent(id: u64, level: u64) -> u64
     requires { ⌜ level ≤ 30 ⌝ }
     ensures { λ r. ⌜ r ≡ parentAt id level ⌝ }
@@ -48,6 +79,42 @@ pub fn parent(id: u64, level: u64) -> u64
     (id & std::num::wrapping_sub_u64(0, low)) | low
 }
 
+// The cell one level up, of a cell that is no face.
+pub fn immediate_parent(id: u64) -> u64
+    requires { ⌜ ((L : ℕ) × (p : ℕ) × IsCell id (L + 1) p) ⌝ }
+    ensures { λ r. ⌜ r ≡ parentAt id (levelOf id - 1) ⌝ }
+{
+    let low = lsb(id) << 2;
+    (id & std::num::wrapping_sub_u64(0, low)) | low
+}
+
+// The k-th child, 0 to 3, of a cell that is no leaf.
+pub fn child(id: u64, k: u64) -> u64
+    requires { ⌜ 0 < id ⌝ }
+    requires { ⌜ k < 4 ⌝ }
+    ensures { λ r. ⌜ r ≡ childOf id k ⌝ }
+{
+    let low = lsb(id);
+    id - low + (2 * k + 1) * (low >> 2)
+}
+
+// The four children, ascending.
+pub fn children(id: u64) -> [u64; 4]
+    requires { ⌜ 0 < id ⌝ }
+    ensures { λ r. ⌜ r ≡ childrenOf id ⌝ }
+{
+    [child(id, 0), child(id, 1), child(id, 2), child(id, 3)]
+}
+
+// The cell that follows in the order of its level. After the last one it is no cell.
+pub fn next(id: u64) -> u64
+    requires { ⌜ Cell id ⌝ }
+    ensures { λ r. ⌜ r ≡ nextOf id ⌝ }
+{
+    id + (lsb(id) << 1)
+}
+
+// The first leaf beneath a cell.
 pub fn range_min(id: u64) -> u64
     requires { ⌜ 0 < id ⌝ }
     ensures { λ r. ⌜ r ≡ firstLeaf id ⌝ }
@@ -55,6 +122,7 @@ pub fn range_min(id: u64) -> u64
     id - (lsb(id) - 1)
 }
 
+// The last leaf beneath a cell.
 pub fn range_max(id: u64) -> u64
     requires { ⌜ 0 < id ⌝ }
     ensures { λ r. ⌜ r ≡ lastLeaf id ⌝ }
@@ -62,6 +130,7 @@ pub fn range_max(id: u64) -> u64
     id + (lsb(id) - 1)
 }
 
+// Whether a contains b.
 pub fn contains(a: u64, b: u64) -> bool
     requires { ⌜ 0 < a ⌝ }
     ensures { λ r. ⌜ r ≡ holds a b ⌝ }
@@ -73,6 +142,7 @@ pub fn contains(a: u64, b: u64) -> bool
     }
 }
 
+// Whether a and b have a leaf in common.
 pub fn intersects(a: u64, b: u64) -> bool
     requires { ⌜ 0 < a ⌝ }
     requires { ⌜ 0 < b ⌝ }
@@ -85,30 +155,22 @@ pub fn intersects(a: u64, b: u64) -> bool
     }
 }
 
-// The k-th child, 0 to 3.
-pub fn child(id: u64, k: u64) -> u64
-    requires { ⌜ 0 < id ⌝ }
-    requires { ⌜ k < 4 ⌝ }
-    ensures { λ r. ⌜ r ≡ childOf id k ⌝ }
-{
-    let low = lsb(id);
-    id - low + (2 * k + 1) * (low >> 2)
-}
-
 fn larger(a: u64, b: u64) -> u64
     ensures { λ r. ⌜ r ≡ max a b ⌝ }
 {
     if a < b { b } else { a }
 }
 
+// The level of the deepest common ancestor; nothing, where the faces differ.
 pub enum Common {
     Level(u64),
     Nothing,
 }
 
+// Read from the highest bit at which the two differ, or the higher of their lowest set bits.
 pub fn common_ancestor_level(a: u64, b: u64) -> Common
-    requires { ⌜ 0 < a ⌝ }
-    requires { ⌜ 0 < b ⌝ }
+    requires { ⌜ Cell a ⌝ }
+    requires { ⌜ Cell b ⌝ }
     ensures { λ r. ⌜ r ≡ commonLevel a b ⌝ }
 {
     let bits = larger(larger(a ^ b, lsb(a)), lsb(b));
@@ -118,21 +180,4 @@ pub fn common_ancestor_level(a: u64, b: u64) -> Common
     } else {
         Common::Level(((above - 3) >> 1) as u64)
     }
-}
-
-// The crate's own test of the lowest bit: one of the even places, 0 to 60.
-pub fn even_place(id: u64) -> bool
-    requires { ⌜ 0 < id ⌝ }
-    ensures { λ r. ⌜ r ≡ evenPlace id ⌝ }
-{
-    lsb(id) & 0x1555_5555_5555_5555 != 0
-}
-
-// The cell one level up.
-pub fn immediate_parent(id: u64) -> u64
-    requires { ⌜ ((L : ℕ) × (p : ℕ) × IsCell id (L + 1) p) ⌝ }
-    ensures { λ r. ⌜ r ≡ parentAt id (levelOf id - 1) ⌝ }
-{
-    let low = lsb(id) << 2;
-    (id & std::num::wrapping_sub_u64(0, low)) | low
 }

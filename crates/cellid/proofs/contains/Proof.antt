@@ -1,28 +1,19 @@
-use native.Mathlib.Omega.{arith}
-use borrow.Author.Tests.{le-ltb, lt-ltb, le-leb, lt-leb}
+use borrow.Author.Tests.{le-leb, lt-leb}
 use Rattle.cellid.specs.CellId.{holds}
 use borrow.Author.Needs.{needs}
 use Rattle.cellid.proofs.contains.Statement.{statement}
 use Rattle.cellid.proofs.contains.Tie as tie
-use Rattle.cellid.proofs.contains.Reads as reads
-use Rattle.cellid.proofs.contains.Lts as lts
-use Rattle.cellid.proofs.range_max.Reads as range-max-reads
-use Rattle.cellid.proofs.range_min.Reads as range-min-reads
 
--- src/lib.rt:69:8
 range-min-requires : tie.Need-range-min-requires
 range-min-requires c κs = search needs
 
--- src/lib.rt:70:14
 range-max-requires : tie.Need-range-max-requires
 range-max-requires c κs = search needs
 
--- src/lib.rt:65:1
 returns : tie.Need-returns
 unfolding holds
 returns c = rw (← c .before .before .range-min .ensures, ← c .range-max .ensures, le-leb _ _ (c .before .if1 .taken))
 
--- src/lib.rt:65:1
 returns-2 : tie.Need-returns-2
 unfolding holds
 returns-2 c = rw (← c .before .range-min .ensures, lt-leb _ _ (c .if1 .left))

@@ -8,20 +8,13 @@ use Rattle.cellid.proofs.Laws.{parent-is, shl-two, cell-pos, low-cell, 
 use borrow.Author.Needs.{needs}
 use Rattle.cellid.proofs.immediate_parent.Statement.{statement}
 use Rattle.cellid.proofs.immediate_parent.Tie as tie
-use Rattle.cellid.proofs.immediate_parent.Reads as reads
-use Rattle.cellid.proofs.immediate_parent.Lts as lts
-use Rattle.cellid.proofs.lsb.Reads as lsb-reads
-use Rattle.std.proofs.num.wrapping_sub_u64.Reads as wrapping-sub-u64-reads
 
--- src/lib.rt:136:15
 lsb-requires : tie.Need-lsb-requires
 lsb-requires c κs = cell-pos _ _ _ (c .pre .2)
 
--- src/lib.rt:137:11
 wrapping-sub-u64-requires : tie.Need-wrapping-sub-u64-requires
 wrapping-sub-u64-requires c κs = search needs
 
--- src/lib.rt:132:1
 returns : tie.Need-returns
 returns c = let id = c .before .before .args .id in
     let u = c .before .before .pre in

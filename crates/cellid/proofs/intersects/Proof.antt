@@ -3,33 +3,23 @@ use Rattle.cellid.specs.CellId.{meets}
 use borrow.Author.Needs.{needs}
 use Rattle.cellid.proofs.intersects.Statement.{statement}
 use Rattle.cellid.proofs.intersects.Tie as tie
-use Rattle.cellid.proofs.intersects.Reads as reads
-use Rattle.cellid.proofs.intersects.Lts as lts
-use Rattle.cellid.proofs.range_max.Reads as range-max-reads
-use Rattle.cellid.proofs.range_min.Reads as range-min-reads
 
--- src/lib.rt:81:8
 range-min-requires : tie.Need-range-min-requires
 range-min-requires c κs = search needs
 
--- src/lib.rt:81:24
 range-max-requires : tie.Need-range-max-requires
 range-max-requires c κs = search needs
 
--- src/lib.rt:82:9
 range-min-requires-2 : tie.Need-range-min-requires-2
 range-min-requires-2 c κs = search needs
 
--- src/lib.rt:82:25
 range-max-requires-2 : tie.Need-range-max-requires-2
 range-max-requires-2 c κs = search needs
 
--- src/lib.rt:76:1
 returns : tie.Need-returns
 unfolding meets
 returns c = rw (← c .before .before .before .before .range-min .ensures, ← c .before .before .before .range-max .ensures, le-leb _ _ (c .before .before .if1 .taken), ← c .before .range-min2 .ensures, ← c .range-max2 .ensures)
 
--- src/lib.rt:76:1
 returns-2 : tie.Need-returns-2
 unfolding meets
 returns-2 c = rw (← c .before .before .range-min .ensures, ← c .before .range-max .ensures, lt-leb _ _ (c .if1 .left))

@@ -3,19 +3,14 @@ use Rattle.cellid.specs.CellId.{levelOf}
 use borrow.Author.Needs.{needs}
 use Rattle.cellid.proofs.level.Statement.{statement}
 use Rattle.cellid.proofs.level.Tie as tie
-use Rattle.cellid.proofs.level.Reads as reads
-use Rattle.cellid.proofs.level.Lts as lts
 
--- src/lib.rt:19:21
 cast-result : tie.Need-cast-result
 cast-result c = search needs
 
--- src/lib.rt:15:1
 returns : tie.Need-returns
 unfolding levelOf
 returns c = omega arith
 
--- src/lib.rt:15:1
 returns-2 : tie.Need-returns-2
 unfolding levelOf
 returns-2 c = omega arith

@@ -1,27 +1,20 @@
 use native.Mathlib.Omega.{arith}
-use mathlib.Core.Path.{_∙_, _≡_, ap, ap₂}
+use mathlib.Core.Path.{_∙_, _≡_, ap₂}
 use Prim.Native.Nat.{ℕ, _-_, _*_, _^_}
 use lib.Bits.{bitAnd, bitOr}
-use lib.Pow.{pow-pos, pow-lt}
+use lib.Pow.{pow-pos}
 use Rattle.cellid.specs.CellId.{bitAt}
 use Rattle.cellid.proofs.Laws.{parent-is}
 use borrow.Author.Needs.{needs}
 use Rattle.cellid.proofs.parent.Statement.{statement}
 use Rattle.cellid.proofs.parent.Tie as tie
-use Rattle.cellid.proofs.parent.Reads as reads
-use Rattle.cellid.proofs.parent.Lts as lts
-use Rattle.cellid.proofs.lsb_for_level.Reads as lsb-for-level-reads
-use Rattle.std.proofs.num.wrapping_sub_u64.Reads as wrapping-sub-u64-reads
 
--- src/lib.rt:47:9
 lsb-for-level-requires : tie.Need-lsb-for-level-requires
 lsb-for-level-requires c κs = search needs
 
--- src/lib.rt:48:11
 wrapping-sub-u64-requires : tie.Need-wrapping-sub-u64-requires
 wrapping-sub-u64-requires c κs = search needs
 
--- src/lib.rt:43:1
 returns : tie.Need-returns
 returns c =
     let id = c .before .before .args .id in

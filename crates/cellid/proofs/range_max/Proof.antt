@@ -4,23 +4,16 @@ use Rattle.cellid.proofs.Laws.{low-pos, low-room}
 use borrow.Author.Needs.{needs}
 use Rattle.cellid.proofs.range_max.Statement.{statement}
 use Rattle.cellid.proofs.range_max.Tie as tie
-use Rattle.cellid.proofs.range_max.Reads as reads
-use Rattle.cellid.proofs.range_max.Lts as lts
-use Rattle.cellid.proofs.lsb.Reads as lsb-reads
 
--- src/lib.rt:62:11
 lsb-requires : tie.Need-lsb-requires
 lsb-requires c κs = search needs
 
--- src/lib.rt:62:11
 sub-result : tie.Need-sub-result
 sub-result c = omega (arith, c .lsb .ensures, low-pos (c .before .args .id))
 
--- src/lib.rt:62:5
 add-result : tie.Need-add-result
 add-result c = omega (arith, c .lsb .ensures, low-room (c .before .args .id) (c .before .pre) (c .before .fits .id .fits))
 
--- src/lib.rt:58:1
 returns : tie.Need-returns
 unfolding lastLeaf
 returns c = omega (arith, c .lsb .ensures)

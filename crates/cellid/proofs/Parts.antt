@@ -1,0 +1,164 @@
+-- An id's parts: a face, two bits a level, a single one, zeros; the cells are exactly the numbers so made, and exactly the valid ids.
+use mathlib.Core.Path.{_≡_, refl, sym, ap, _∙_}
+use mathlib.Core.Logic.{⊎-elim, _↔_}
+use mathlib.Core.Bool.{true}
+use Prim.Native.Nat.{ℕ, zero, suc, _+_, _-_, _*_, _/_, _%_, _^_, _≤_, _<_}
+use native.Mathlib.Nat.{eq-zero-or-pos, eq-or-lt-of-le, mul-comm, mul-assoc, mul-left-comm, add-mul, mul-one, one-mul, div-div-eq-div-mul, eq-of-mul-eq-mul-right}
+use native.Mathlib.Omega.{arith}
+use lib.Count.{trailingZeros}
+use lib.Dec.{eqb}
+use lib.Pow.{pow-pos, pow-add}
+use borrow.Author.Tests.{eqb-true, le-leb, eq-eqb, ne-eqb}
+use Rattle.cellid.specs.CellId.{Cell, IsCell, Spelt, spell, idOf, bitAt, placeAt, faceOf, pairOf, levelOf, placeOf, validId, isFace, isLeaf, faceCell, nextOf}
+use Rattle.cellid.proofs.Laws.{odd-mul, pow-pair, bit-up, low-cell, place-id, zeros-id, zeros-of, valid-cell, cell-valid, cell-lt, bool-iff}
+
+-- ---- the face and the pairs, as one number: the place
+
+unfoldable pub placeFrom : ℕ → (ℕ → ℕ) → ℕ → ℕ
+placeFrom f d zero = f
+placeFrom f d (suc k) = 4 * placeFrom f d k + d (suc k)
+
+-- one pair of bits further down
+next-pair : (k : ℕ) → k < 30 → 2 ^ (2 * (30 - k) + 1) ≡ 4 * 2 ^ (2 * (29 - k) + 1)
+next-pair k h = let e : 2 * (30 - k) + 1 ≡ 2 + (2 * (29 - k) + 1) = omega arith in ap (λ (n : ℕ). 2 ^ n) e ∙ pow-add 2 2 (2 * (29 - k) + 1)
+
+spell-is : (f : ℕ) (d : ℕ → ℕ) (k : ℕ) → k ≤ 30 → spell f d k ≡ placeFrom f d k * 2 ^ (2 * (30 - k) + 1)
+unfolding spell placeFrom
+spell-is f d zero h = refl
+spell-is f d (suc k) h =
+    let X = 2 ^ (2 * (29 - k) + 1) in
+    let e : 2 * (30 - suc k) + 1 ≡ 2 * (29 - k) + 1 = omega arith in
+    let g : spell f d k ≡ 4 * placeFrom f d k * X = spell-is f d k (omega arith) ∙ ap (λ (n : ℕ). placeFrom f d k * n) (next-pair k (omega arith))
+    ∙ sym (mul-assoc (placeFrom f d k) 4 X) ∙ ap (λ (n : ℕ). n * X) (mul-comm (placeFrom f d k) 4) in
+    rw (e, g) (sym (add-mul (4 * placeFrom f d k) (d (suc k)) X))
+
+place-lt : (f : ℕ) (d : ℕ → ℕ) → f ≤ 5 → ((k : ℕ) → d k < 4) → (k : ℕ) → placeFrom f d k < 6 * 2 ^ (2 * k)
+unfolding placeFrom
+place-lt f d h g zero = omega arith
+place-lt f d h g (suc k) = omega (arith, place-lt f d h g k, g (suc k), pow-pair k (suc k) (omega arith))
+
+one-more : (p C : ℕ) → p * (C * 2) + C ≡ (2 * p + 1) * C
+one-more p C = omega (arith, odd-mul p C, mul-assoc p C 2, mul-left-comm p 2 C, mul-comm C 2, ap (λ (n : ℕ). p * n) (mul-comm C 2))
+
+-- ---- both ways
+
+-- a number so made is a cell of that level
+pub spelt-cell : (id f : ℕ) (d : ℕ → ℕ) (L : ℕ) → Spelt id f d L → IsCell id L (placeFrom f d L)
+unfolding idOf
+spelt-cell id f d L s = record {
+  level = s .level;
+  place = place-lt f d (s .face) (s .pairs) L;
+  is = s .is ∙ rw (spell-is f d L (s .level), pow-add 2 (placeAt L) 1) (one-more (placeFrom f d L) (bitAt L));
+}
+
+-- the bits down to a level's pair, read as a number
+abbrev pub upper : ℕ → ℕ → ℕ
+upper id k = id / 2 ^ (2 * (30 - k) + 1)
+
+pub upper-step : (id k : ℕ) → k < 30 → upper id k ≡ upper id (suc k) / 4
+upper-step id k h =
+    let e : 2 * (30 - suc k) + 1 ≡ 2 * (29 - k) + 1 = omega arith in
+    rw (e, next-pair k h, mul-comm 4 (2 ^ (2 * (29 - k) + 1))) (sym (div-div-eq-div-mul id (2 ^ (2 * (29 - k) + 1)) 4))
+
+pub upper-place : (id L p : ℕ) → IsCell id L p → upper id L ≡ p
+unfolding placeOf
+upper-place id L p c = rw (c .is, ← zeros-id L p) (place-id L p)
+
+spelt-upper : (id f : ℕ) (d : ℕ → ℕ) (L : ℕ) → Spelt id f d L → (m k : ℕ) → k + m ≡ L → upper id k ≡ placeFrom f d k
+unfolding placeFrom
+spelt-upper id f d L s zero k e =
+    let l : k ≡ L = omega arith in
+    let c = spelt-cell id f d L s in
+    rw l (upper-place id L (placeFrom f d L) c)
+spelt-upper id f d L s (suc m) k e =
+    upper-step id k (omega (arith, s .level)) ∙ ap (λ (n : ℕ). n / 4) (spelt-upper id f d L s m (suc k) (omega arith)) ∙ omega (arith, s .pairs (suc k))
+
+-- and has that face and those pairs
+pub spelt-face : (id f : ℕ) (d : ℕ → ℕ) (L : ℕ) → Spelt id f d L → faceOf id ≡ f
+unfolding placeFrom
+spelt-face id f d L s = spelt-upper id f d L s L 0 (omega arith)
+
+pub spelt-pair : (id f : ℕ) (d : ℕ → ℕ) (L k : ℕ) → Spelt id f d L → 0 < k → k ≤ L → pairOf id k ≡ d k
+unfolding placeFrom
+spelt-pair id f d L zero s z h = absurd (omega arith)
+spelt-pair id f d L (suc k) s z h =
+    ap (λ (n : ℕ). n % 4) (spelt-upper id f d L s (L - suc k) (suc k) (omega arith)) ∙ omega (arith, s .pairs (suc k))
+
+-- the face and the pairs of any number make its upper bits
+own-upper : (id k : ℕ) → k ≤ 30 → placeFrom (faceOf id) (pairOf id) k ≡ upper id k
+unfolding placeFrom
+own-upper id zero h = refl
+own-upper id (suc k) h = let e = own-upper id k (omega arith) in let u = upper-step id k (omega arith) in omega arith
+
+-- so a cell is made of its own face and pairs, a one and zeros
+pub cell-spelt : (id L p : ℕ) → IsCell id L p → Spelt id (faceOf id) (pairOf id) L
+unfolding idOf
+cell-spelt id L p c =
+    let e : placeFrom (faceOf id) (pairOf id) L ≡ p = own-upper id L (c .level) ∙ upper-place id L p c in
+    record {
+      face = omega (arith, cell-lt id L p c);
+      level = c .level;
+      pairs = λ k. omega arith;
+      is = c .is ∙ sym (rw (spell-is (faceOf id) (pairOf id) L (c .level), e, pow-add 2 (placeAt L) 1) (one-more p (bitAt L)));
+    }
+
+-- ---- valid ids
+
+-- a number's lowest set bit stands at t
+abbrev pub LowestAt : ℕ → ℕ → Type 0
+LowestAt id t = (m : ℕ) × (id ≡ (2 * m + 1) * 2 ^ t)
+
+-- valid exactly where the face is at most 5 and the lowest set bit stands at an even place, 0 to 60
+pub valid-bits : (id : ℕ) → id < 2 ^ 64 → (validId id ≡ true) ↔ ((faceOf id ≤ 5) × (t : ℕ) × (t ≤ 60) × (t % 2 ≡ 0) × LowestAt id t)
+unfolding validId idOf
+valid-bits id h = (
+  λ v. let c = valid-cell id h v in
+      (omega (arith, cell-lt id (levelOf id) (placeOf id) c), placeAt (levelOf id), omega arith, omega arith, (placeOf id, c .is)),
+  λ r. let z : trailingZeros 64 id ≡ r .1 = ap (trailingZeros 64) (r .4 .1) ∙ zeros-of 64 (r .1) (r .4 .0) (omega (arith, r .2)) in
+      rw (z, le-leb (faceOf id) 5 (r .0), le-leb (r .1) 60 (r .2), eq-eqb (r .1 % 2) 0 (r .3)),
+)
+
+-- valid exactly where it is a cell; of one level and one place, by `cell-unique`
+pub valid-cells : (id : ℕ) → id < 2 ^ 64 → (validId id ≡ true) ↔ Cell id
+valid-cells id h = (λ v. (levelOf id, placeOf id, valid-cell id h v), λ c. cell-valid id (c .0) (c .1) (c .2))
+
+-- ---- faces, leaves, the next cell
+
+pub face-cell : (f : ℕ) → f < 6 → IsCell (faceCell f) 0 f
+unfolding faceCell idOf
+face-cell f h = record { level = omega arith; place = omega arith; is = omega arith }
+
+no-face : (L p w : ℕ) → 0 < L → L ≤ 30 → (2 * p + 1) * bitAt L ≡ w * 2 ^ 60 → ⊥
+no-face L p w z h e =
+    let u : 2 * L + placeAt L ≡ 60 = omega arith in
+    let x : 2 ^ 60 ≡ 2 ^ (2 * L) * bitAt L = sym (sym (pow-add 2 (2 * L) (placeAt L)) ∙ ap (λ (n : ℕ). 2 ^ n) u) in
+    let y : (2 * p + 1) * bitAt L ≡ w * 2 ^ (2 * L) * bitAt L = e ∙ ap (λ (n : ℕ). w * n) x ∙ sym (mul-assoc w (2 ^ (2 * L)) (bitAt L)) in
+    let o : 2 * p + 1 ≡ w * 2 ^ (2 * L) = eq-of-mul-eq-mul-right (bitAt L) (pow-pos (placeAt L)) _ _ y in
+    let q : 2 ^ (2 * L) ≡ 4 * 2 ^ (2 * (L - 1)) = pow-pair (L - 1) L (omega arith) in
+    omega (arith, o ∙ ap (λ (n : ℕ). w * n) q ∙ mul-left-comm w 4 (2 ^ (2 * (L - 1))))
+
+-- a face is a cell of the level 0
+pub face-level : (id L p : ℕ) → IsCell id L p → isFace id ≡ eqb L 0
+unfolding isFace idOf
+face-level id L p c = bool-iff (eqb (id % 2 ^ 60) 0) (eqb L 0)
+    (λ t. let r : id % 2 ^ 60 ≡ 0 = eqb-true _ _ t in
+    ⊎-elim (λ (e : L ≡ 0). eq-eqb L 0 e) (λ (z : 0 < L). absurd (no-face L p (id / 2 ^ 60) z (c .level) (sym (c .is) ∙ omega arith))) (eq-zero-or-pos L))
+    (λ t. let e : L ≡ 0 = eqb-true _ _ t in let f : id ≡ (2 * p + 1) * 2 ^ 60 = c .is ∙ ap (λ (n : ℕ). (2 * p + 1) * bitAt n) e in eq-eqb (id % 2 ^ 60) 0 (omega arith))
+
+-- a leaf is a cell of the level 30
+pub leaf-level : (id L p : ℕ) → IsCell id L p → isLeaf id ≡ eqb L 30
+unfolding isLeaf idOf
+leaf-level id L p c = ⊎-elim
+    (λ (e : L ≡ 30). let f : id ≡ (2 * p + 1) * 2 ^ 0 = c .is ∙ ap (λ (n : ℕ). (2 * p + 1) * bitAt n) e in
+    rw (ne-eqb (id % 2) 0 (λ z. omega (arith, mul-one (2 * p + 1))), eq-eqb L 30 e))
+    (λ (l : L < 30). let f : id ≡ 4 * ((2 * p + 1) * bitAt (L + 1)) = c .is ∙ ap (λ (n : ℕ). (2 * p + 1) * n) (bit-up L 1 (omega arith)) ∙ mul-left-comm (2 * p + 1) 4 (bitAt (L + 1)) in
+    rw (eq-eqb (id % 2) 0 (omega arith), ne-eqb L 30 (λ e. omega arith)))
+    (eq-or-lt-of-le (c .level))
+
+-- the next id is that of the next place of the level
+pub next-is : (id L p : ℕ) → IsCell id L p → nextOf id ≡ idOf L (p + 1)
+unfolding nextOf idOf
+next-is id L p c = omega (arith, c .is, low-cell id L p c, odd-mul p (bitAt L), odd-mul (p + 1) (bitAt L), add-mul p 1 (bitAt L), one-mul (bitAt L))
+
+pub next-cell : (id L p : ℕ) → IsCell id L p → p + 1 < 6 * 2 ^ (2 * L) → IsCell (nextOf id) L (p + 1)
+next-cell id L p c h = record { level = c .level; place = h; is = next-is id L p c }

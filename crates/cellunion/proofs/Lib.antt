@@ -1,0 +1,13 @@
+pub mod Spans
+pub mod Unique
+pub mod Stack
+pub mod Norm
+pub mod Denorm
+pub mod Counts
+pub mod Memory
+pub mod Mask
+pub mod Runs
+pub mod Writes
+pub mod Results
+pub mod Short
+pub mod Words

@@ -1,0 +1,299 @@
+-- The memory's turns are the stack's turns.
+use mathlib.Core.Path.{_≡_, refl, sym, ap, ap₂, _∙_, subst}
+use mathlib.Core.Logic.{_⊎_, inl, inr, ⊎-elim}
+use mathlib.Core.Bool.{Bool, true, false, not}
+use mathlib.Core.List.{List, [], _∷_, _++_}
+use Prim.Native.Nat.{ℕ, zero, suc, _+_, _-_, _*_, _≤_, _<_}
+use native.Mathlib.Omega.{arith}
+use native.Mathlib.Numerals.{add-one}
+use lib.ListN.{length, getD, take, drop, set, length-append}
+use lib.Seq.{getD-drop, length-take-le, take-suc, take-at, drop-at, drop-set-lt, getD-set-same, getD-set-other}
+use lib.Dec.{ltb}
+use Rattle.cellid.specs.CellId.{Cell, IsCell, holds}
+use Rattle.cellid.proofs.Laws.{cell-pos}
+use Rattle.order.specs.Order.{All, Sorted, sort}
+use Rattle.order.proofs.SortLaws.{sorted-sort, sort-sorted, length-sort}
+use Rattle.order.proofs.LexLaws.{numbers}
+use Rattle.cellunion.specs.CellUnion.{lo, hi, Member, isFour, upOne, clearOf, collapse, keep, pass, rev, normalise}
+use Rattle.cellunion.specs.Stack.{Down, Stack, down, Topped, Next, Gives, PassDone}
+use Rattle.cellunion.specs.Memory.{zeros, laid, normalised}
+use Rattle.cellunion.proofs.Spans.{span, kid, In, holds-no}
+use Rattle.cellunion.proofs.Unique.{all-at, at-all}
+use Rattle.cellunion.proofs.Stack.{clear-laws, not-next, keep-laws, stack-nil, tail, four→, rise, collapse-go, collapse-end}
+use Rattle.cellunion.proofs.Norm.{Ready, ready-on, all-ready, member-sort→, normalise-sorted}
+use Rattle.cellunion.proofs.Memory.{next-word, no-more, drop-more, length-zeros}
+
+pub down-pop : (k : ℕ) (m : List ℕ) → 0 < k → down k m ≡ getD m (k - 1) 0 ∷ down (k - 1) m
+unfolding down
+down-pop zero m h = absurd (omega arith)
+down-pop (suc k) m h = let e : suc k - 1 ≡ k = omega arith in rw e
+
+-- ---- what stands inside c
+
+not-true : (b : Bool) → not b ≡ true → b ≡ false
+not-true true e = sym e
+not-true false e = refl
+
+not-false : (b : Bool) → not b ≡ false → b ≡ true
+not-false true e = refl
+not-false false e = sym e
+
+pub clear-go : (c k : ℕ) (m : List ℕ) (b : Bool) → 0 < k → b ≡ holds c (getD m (k - 1) 0) → not b ≡ false → clearOf c (down k m) ≡ clearOf c (down (k - 1) m)
+unfolding clearOf
+clear-go c k m b h e t =
+    let f : holds c (getD m (k - 1) 0) ≡ true = sym e ∙ not-false b t in
+    rw (down-pop k m h, clearOf, f)
+
+pub clear-stop : (c k : ℕ) (m : List ℕ) (b : Bool) → 0 < k → b ≡ holds c (getD m (k - 1) 0) → not b ≡ true → clearOf c (down k m) ≡ down k m
+unfolding clearOf
+clear-stop c k m b h e t =
+    let f : holds c (getD m (k - 1) 0) ≡ false = sym e ∙ not-true b t in
+    rw (down-pop k m h, clearOf, f)
+
+pub clear-end : (c k : ℕ) (m : List ℕ) → k ≤ 0 → clearOf c (down k m) ≡ down k m
+unfolding clearOf down
+clear-end c k m h = let e : k ≡ 0 = omega arith in rw e
+
+-- ---- c on top
+
+pub down-three : (k : ℕ) (m : List ℕ) → 3 ≤ k → down k m ≡ getD m (k - 1) 0 ∷ getD m (k - 2) 0 ∷ getD m (k - 3) 0 ∷ down (k - 3) m
+unfolding down
+down-three zero m h = absurd (omega arith)
+down-three (suc zero) m h = absurd (omega arith)
+down-three (suc (suc zero)) m h = absurd (omega arith)
+down-three (suc (suc (suc k))) m h =
+    let e1 : suc (suc (suc k)) - 1 ≡ suc (suc k) = omega arith in
+    let e2 : suc (suc (suc k)) - 2 ≡ suc k = omega arith in
+    let e3 : suc (suc (suc k)) - 3 ≡ k = omega arith in
+    rw (e1, e2, e3)
+
+abbrev pub SiblingsAsk : ℕ → ℕ → ℕ → ℕ → Type 0
+SiblingsAsk x y z c = Cell c × (x < y) × (y < z) × (z < c)
+
+asks : (x y z c : ℕ) (s : List ℕ) → Topped (z ∷ y ∷ x ∷ s) c → SiblingsAsk x y z c
+unfolding All Down
+asks x y z c s T =
+    let sc = span (T .cell) in
+    let sz = span (T .stack .cells .0) in
+    let sy = span (T .stack .cells .1 .0) in
+    let sx = span (T .stack .cells .1 .1 .0) in
+    (T .cell, omega (arith, T .stack .down .1 .0 .0), omega (arith, T .stack .down .0 .0), omega (arith, T .under .0))
+
+rises : (x y z c : ℕ) (s : List ℕ) → Topped (z ∷ y ∷ x ∷ s) c → isFour x y z c ≡ true → Topped s (upOne c)
+rises x y z c s T e =
+    let R = rise x y z c s (T .stack) (T .cell) (four→ (T .cell) e) in
+    record { stack = tail (tail (tail (T .stack))); cell = R .cell; under = R .under }
+
+pub below-face : (x y z c : ℕ) → Cell c → (b : Bool) → b ≡ isFour x y z c → not b ≡ false → (L : ℕ) × (p : ℕ) × IsCell c (L + 1) p
+below-face x y z c C b e t =
+    let F = four→ {x = x} {y = y} {z = z} C (sym e ∙ not-false b t) in
+    (F .L, 4 * F .p + 3, subst (λ (w : ℕ). IsCell w (F .L + 1) (4 * F .p + 3)) (sym (F .is3)) (kid 3 (F .cell) (F .small) (omega arith)))
+
+pub record Going (m : List ℕ) (k₀ c₀ k c : ℕ) : Type 0 where
+  pub within : k ≤ k₀
+  pub room : k₀ < length m
+  pub topped : Topped (down k m) c
+  pub same : collapse (down k m) c ≡ collapse (down k₀ m) c₀
+
+pub siblings-ask : (m : List ℕ) (k₀ c₀ k c : ℕ) → Going m k₀ c₀ k c → 3 ≤ k → SiblingsAsk (getD m (k - 3) 0) (getD m (k - 2) 0) (getD m (k - 1) 0) c
+siblings-ask m k₀ c₀ k c G h = asks _ _ _ c (down (k - 3) m) (subst (λ (s : List ℕ). Topped s c) (down-three k m h) (G .topped))
+
+pub collapse-turn : (m : List ℕ) (k₀ c₀ k c p : ℕ) (b : Bool) → Going m k₀ c₀ k c → 3 ≤ k → b ≡ isFour (getD m (k - 3) 0) (getD m (k - 2) 0) (getD m (k - 1) 0) c → not b ≡ false → p ≡ upOne c → Going m k₀ c₀ (k - 3) p
+collapse-turn m k₀ c₀ k c p b G h e t q =
+    let f : isFour (getD m (k - 3) 0) (getD m (k - 2) 0) (getD m (k - 1) 0) c ≡ true = sym e ∙ not-false b t in
+    rw q (record {
+      within = omega (arith, G .within);
+      room = G .room;
+      topped = rises _ _ _ c (down (k - 3) m) (subst (λ (s : List ℕ). Topped s c) (down-three k m h) (G .topped)) f;
+      same = sym (ap (λ (s : List ℕ). collapse s c) (down-three k m h) ∙ collapse-go _ _ _ c (down (k - 3) m) f) ∙ G .same;
+    })
+
+pub collapse-stop : (m : List ℕ) (k c : ℕ) (b : Bool) → 3 ≤ k → b ≡ isFour (getD m (k - 3) 0) (getD m (k - 2) 0) (getD m (k - 1) 0) c → not b ≡ true → collapse (down k m) c ≡ c ∷ down k m
+collapse-stop m k c b h e t =
+    let f : isFour (getD m (k - 3) 0) (getD m (k - 2) 0) (getD m (k - 1) 0) c ≡ false = sym e ∙ not-true b t in
+    ap (λ (s : List ℕ). collapse s c) (down-three k m h) ∙ collapse-end _ _ _ c (down (k - 3) m) f ∙ ap (λ (s : List ℕ). c ∷ s) (sym (down-three k m h))
+
+pub collapse-low : (m : List ℕ) (k c : ℕ) → k < 3 → collapse (down k m) c ≡ c ∷ down k m
+unfolding collapse down
+collapse-low m zero c h = refl
+collapse-low m (suc zero) c h = refl
+collapse-low m (suc (suc zero)) c h = refl
+collapse-low m (suc (suc (suc k))) c h = absurd (omega arith)
+
+pub down-set : (k i v : ℕ) (m : List ℕ) → k ≤ i → i < length m → down k (set m i v) ≡ down k m
+unfolding down
+down-set zero i v m h g = refl
+down-set (suc k) i v m h g = ap₂ (λ (x : ℕ) (s : List ℕ). x ∷ s) (getD-set-other m i k v 0 (omega arith)) (down-set k i v m (omega arith) g)
+
+pub down-push : (k v : ℕ) (m : List ℕ) → k < length m → down (k + 1) (set m k v) ≡ v ∷ down k m
+unfolding down
+down-push k v m h = rw (add-one k) (ap₂ (λ (x : ℕ) (s : List ℕ). x ∷ s) (getD-set-same m k v 0 h) (down-set k k v m (omega arith) h))
+
+pub collapse-done : (m : List ℕ) (k₀ c₀ k c : ℕ) → Going m k₀ c₀ k c → collapse (down k m) c ≡ c ∷ down k m → Gives (collapse (down k₀ m) c₀) k₀ m (set m k c) (k + 1)
+collapse-done m k₀ c₀ k c G e = record {
+  is = down-push k c m (omega (arith, G .within, G .room)) ∙ sym e ∙ G .same;
+  within = omega (arith, G .within);
+  rest = drop-set-lt (k₀ + 1) m k c (omega (arith, G .within));
+}
+
+-- ---- one more cell
+
+abbrev pub HeadFree : List ℕ → ℕ → ℕ → Type 0
+HeadFree m k c = (k ≤ 0) ⊎ ((0 < k) × (holds (getD m (k - 1) 0) c ≡ false))
+
+pub head-pos : (m : List ℕ) (k c : ℕ) → Next (down k m) c → 0 < k → 0 < getD m (k - 1) 0
+unfolding All
+head-pos m k c N h =
+    let C = subst (λ (s : List ℕ). All Cell s) (down-pop k m h) (N .stack .cells) .0 in
+    cell-pos _ _ _ (C .2)
+
+pub keep-skip : (m : List ℕ) (k c : ℕ) (b : Bool) → 0 < k → b ≡ holds (getD m (k - 1) 0) c → b ≡ true → Gives (keep (down k m) c) k m m k
+unfolding keep
+keep-skip m k c b h e t =
+    let f : holds (getD m (k - 1) 0) c ≡ true = sym e ∙ t in
+    record {
+      is = let q : keep (down k m) c ≡ down k m = rw (down-pop k m h, keep, f) in sym q;
+      within = omega arith;
+      rest = refl;
+    }
+
+keep-go : (m : List ℕ) (k c : ℕ) → HeadFree m k c → keep (down k m) c ≡ collapse (clearOf c (down k m)) c
+unfolding keep clearOf collapse down
+keep-go m k c (inl h) = let e : k ≡ 0 = omega arith in rw e
+keep-go m k c (inr h) = rw (down-pop k m (h .0), keep, h .1)
+
+not-held : (s : List ℕ) (c : ℕ) → Next s c → (t : ℕ) (r : List ℕ) → s ≡ t ∷ r → holds t c ≡ false → (y : ℕ) → Member y s → In c y → ⊥
+unfolding All Down Member
+not-held s c N t r e f y m i =
+    let S : Stack (t ∷ r) = subst Stack e (N .stack) in
+    let R : All (λ y. 2 * lo y + 1 ≤ c) (t ∷ r) = subst (λ (z : List ℕ). All (λ y. 2 * lo y + 1 ≤ c) z) e (N .ready) in
+    ⊎-elim (λ (q : y ≡ t). holds-no (S .cells .0) (N .cell) f (omega (arith, i .0, ap lo q), omega (arith, i .1, ap hi q)))
+    (λ m. not-next t c r (N .cell) (R .0) (S .down .0) y m i) (subst (λ (z : List ℕ). Member y z) e m)
+
+none-held : (m : List ℕ) (k c : ℕ) → Next (down k m) c → HeadFree m k c → (y : ℕ) → Member y (down k m) → In c y → ⊥
+unfolding Member down
+none-held m k c N (inl h) y w i = let e : k ≡ 0 = omega arith in (rw e at w)
+none-held m k c N (inr h) y w i = not-held (down k m) c N (getD m (k - 1) 0) (down (k - 1) m) (down-pop k m (h .0)) (h .1) y w i
+
+pub keep-topped : (m : List ℕ) (k c j : ℕ) → k < length m → Next (down k m) c → HeadFree m k c → j ≤ k → down j m ≡ clearOf c (down k m) → (j < length m) × Topped (down j m) c
+keep-topped m k c j h N f l e =
+    let A = clear-laws c (N .cell) (down k m) (N .stack) (N .ready) (none-held m k c N f) in
+    (omega arith, rw e (record { stack = A .stack; cell = N .cell; under = A .under }))
+
+pub keep-done : (m : List ℕ) (k c j : ℕ) (m' : List ℕ) (r : ℕ) → HeadFree m k c → j ≤ k → down j m ≡ clearOf c (down k m) → Gives (collapse (down j m) c) j m m' r → Gives (keep (down k m) c) k m m' r
+keep-done m k c j m' r f l e G = record {
+  is = G .is ∙ ap (λ (s : List ℕ). collapse s c) e ∙ sym (keep-go m k c f);
+  within = omega (arith, G .within);
+  rest = drop-more (j + 1) (k + 1) m' m (omega arith) (G .rest);
+}
+
+-- ---- the pass
+
+pub record Passing (m₀ : List ℕ) (n : ℕ) (m : List ℕ) (k i : ℕ) : Type 0 where
+  pub few : k ≤ i
+  pub within : i ≤ n
+  pub room : n ≤ length m₀
+  pub len : length m ≡ length m₀
+  pub rest : drop i m ≡ drop i m₀
+  pub stack : Stack (down k m)
+  pub ready : All (Ready (down k m)) (drop i (take n m₀))
+  pub cells : All Cell (drop i (take n m₀))
+  pub sorted : Sorted ltb (drop i (take n m₀))
+  pub same : pass (down k m) (drop i (take n m₀)) ≡ pass [] (take n m₀)
+
+pub pass-start : (m₀ : List ℕ) (n : ℕ) → n ≤ length m₀ → All Cell (take n m₀) → Sorted ltb (take n m₀) → Passing m₀ n m₀ 0 0
+unfolding down
+pass-start m₀ n h C S = record { few = omega arith; within = omega arith; room = h; len = refl; rest = refl; stack = stack-nil; ready = all-ready (take n m₀); cells = C; sorted = S; same = refl }
+
+-- the pass has not yet written what it reads next
+next-read : (m₀ : List ℕ) (n : ℕ) (m : List ℕ) (k i : ℕ) → Passing m₀ n m k i → i < n → drop i (take n m₀) ≡ getD m i 0 ∷ drop (i + 1) (take n m₀)
+next-read m₀ n m k i P h =
+    let z : i + 0 ≡ i = omega arith in
+    let b : getD m i 0 ≡ getD m₀ i 0 = ap (λ (w : ℕ). getD m w 0) (sym z) ∙ sym (getD-drop i m 0 0) ∙ ap (λ (s : List ℕ). getD s 0 0) (P .rest) ∙ getD-drop i m₀ 0 0 ∙ ap (λ (w : ℕ). getD m₀ w 0) z in
+    next-word m₀ n i (P .room) h ∙ ap (λ (x : ℕ). x ∷ drop (i + 1) (take n m₀)) (sym b)
+
+pub pass-next : (m₀ : List ℕ) (n : ℕ) (m : List ℕ) (k i : ℕ) → Passing m₀ n m k i → i < n → (k < length m) × Next (down k m) (getD m i 0)
+unfolding All
+pass-next m₀ n m k i P h =
+    let e = next-read m₀ n m k i P h in (
+      omega (arith, P .few, P .room, P .len),
+      record {
+        stack = P .stack;
+        cell = subst (λ (s : List ℕ). All Cell s) e (P .cells) .0;
+        ready = subst (λ (s : List ℕ). All (Ready (down k m)) s) e (P .ready) .0;
+      },
+    )
+
+pub pass-turn : (m₀ : List ℕ) (n : ℕ) (m : List ℕ) (k i : ℕ) (m' : List ℕ) (r : ℕ) → Passing m₀ n m k i → i < n → length m' ≡ length m → Gives (keep (down k m) (getD m i 0)) k m m' r → Passing m₀ n m' r (i + 1)
+unfolding All Sorted pass
+pass-turn m₀ n m k i m' r P h q G =
+    let e = next-read m₀ n m k i P h in
+    let c = getD m i 0 in
+    let l = drop (i + 1) (take n m₀) in
+    let N = pass-next m₀ n m k i P h .1 in
+    let K = keep-laws (down k m) c (N .stack) (N .cell) (N .ready) in
+    let O = subst (Sorted ltb) e (P .sorted) in
+    record {
+      few = omega (arith, G .within, P .few);
+      within = omega arith;
+      room = P .room;
+      len = q ∙ P .len;
+      rest = drop-more (k + 1) (i + 1) m' m (omega (arith, P .few)) (G .rest) ∙ drop-more i (i + 1) m m₀ (omega arith) (P .rest);
+      stack = subst Stack (sym (G .is)) (K .stack);
+      ready = subst (λ (s : List ℕ). All (Ready s) l) (sym (G .is)) (ready-on (keep (down k m) c) c l (K .low) (O .0));
+      cells = subst (λ (s : List ℕ). All Cell s) e (P .cells) .1;
+      sorted = O .1;
+      same = ap (λ (s : List ℕ). pass s l) (G .is) ∙ sym (ap (pass (down k m)) e) ∙ P .same;
+    }
+
+rev-down : (k : ℕ) (m : List ℕ) → k ≤ length m → take k m ≡ rev (down k m)
+unfolding rev down
+rev-down zero m h = refl
+rev-down (suc k) m h = take-suc m k 0 h ∙ ap (λ (s : List ℕ). s ++ (getD m k 0 ∷ [])) (rev-down k m (omega arith))
+
+pub pass-done : (m₀ : List ℕ) (n : ℕ) (m : List ℕ) (k i : ℕ) → Sorted ltb (take n m₀) → Passing m₀ n m k i → n ≤ i → PassDone n m₀ m k
+unfolding normalise pass
+pass-done m₀ n m k i S P h =
+    let z = no-more m₀ n i (P .room) h in
+    let s : down k m ≡ pass [] (take n m₀) = sym (ap (pass (down k m)) z) ∙ P .same in
+    record {
+      within = omega (arith, P .few);
+      is = rev-down k m (omega (arith, P .few, P .len, P .room)) ∙ ap rev (s ∙ ap (pass []) (sym (sorted-sort ltb numbers (take n m₀) S)));
+      rest = drop-more i n m m₀ (P .within) (P .rest);
+    }
+
+-- ---- sort, pass, clear
+
+pub record SortDone (n : ℕ) (m s : List ℕ) : Type 0 where
+  pub room : n ≤ length s
+  pub front : take n s ≡ sort ltb (take n m)
+  pub back : drop n s ≡ drop n m
+
+pub sort-done : (n : ℕ) (m p : List ℕ) → n ≤ length m → p ≡ sort ltb (take (n - 0) m) → SortDone n m (p ++ drop (n - 0) m)
+sort-done n m p h e =
+    let z : n - 0 ≡ n = omega arith in
+    let f : p ≡ sort ltb (take n m) = e ∙ ap (λ (k : ℕ). sort ltb (take k m)) z in
+    let l : length p ≡ n = ap length f ∙ length-sort ltb (take n m) ∙ length-take-le n m h in
+    record {
+      room = omega (arith, length-append p (drop (n - 0) m));
+      front = take-at p (drop (n - 0) m) n l ∙ f;
+      back = drop-at p (drop (n - 0) m) n l ∙ ap (λ (k : ℕ). drop k m) z;
+    }
+
+pub pass-asks : (n : ℕ) (m s : List ℕ) → All Cell (take n m) → SortDone n m s → (n ≤ length s) × All Cell (take n s) × Sorted ltb (take n s)
+pass-asks n m s C S = (
+  S .room,
+  subst (λ (l : List ℕ). All Cell l) (sym (S .front)) (at-all Cell (sort ltb (take n m)) (λ x k. all-at Cell (take n m) C x (member-sort→ (take n m) x k))),
+  subst (Sorted ltb) (sym (S .front)) (sort-sorted ltb numbers (take n m)),
+)
+
+pub normalize-done : (n : ℕ) (m s m' : List ℕ) (k : ℕ) (out : List ℕ) → SortDone n m s → length m' ≡ length s → PassDone n s m' k → out ≡ laid k (zeros (n - k)) m' → (k ≡ length (normalise (take n m))) × (out ≡ normalised n m)
+unfolding normalised laid
+normalize-done n m s m' k out S l P e =
+    let f : take k m' ≡ normalise (take n m) = P .is ∙ ap normalise (S .front) ∙ normalise-sorted (take n m) in
+    let q : k ≡ length (normalise (take n m)) = sym (length-take-le k m' (omega (arith, P .within, S .room))) ∙ ap length f in
+    let w : k + length (zeros (n - k)) ≡ n = omega (arith, length-zeros (n - k), P .within) in (
+      q,
+      e ∙ ap₂ (λ (a b : List ℕ). a ++ (zeros (n - k) ++ b)) f (ap (λ (i : ℕ). drop i m') w ∙ P .rest ∙ S .back)
+          ∙ ap (λ (i : ℕ). normalise (take n m) ++ (zeros (n - i) ++ drop n m)) q,
+    )

@@ -1,0 +1,147 @@
+-- Lists of cells: the leaves they hold, normal lists, normalising, denormalising. Quoted lines are paper 01's words, from "Lists" and "Cell ids".
+use mathlib.Core.Path.{_≡_}
+use mathlib.Core.Bool.{Bool, true, false, _&&_, _||_}
+use mathlib.Core.List.{List, [], _∷_, _++_}
+use mathlib.Core.Logic.{_⊎_}
+use Prim.Native.Nat.{ℕ, zero, suc, _+_, _-_, _*_, _/_, _%_, _^_, _≤_, _<_, min, max}
+use lib.Dec.{ltb, eqb}
+use Rattle.cellid.specs.CellId.{Cell, idOf, lowBit, levelOf, placeOf, parentAt, childOf, firstLeaf, lastLeaf, holds}
+use Rattle.order.specs.Order.{All, sort}
+
+-- ---- leaves. Leaf number n, from 0, has the id 2n + 1.
+
+-- the leaf n lies under the cell id: "the leaves beneath run from id − (b − 1) to id + (b − 1)"
+unfoldable pub hasLeaf : ℕ → ℕ → Bool
+hasLeaf id n = holds id (2 * n + 1)
+
+-- it lies under some cell of the list
+unfoldable pub covers : List ℕ → ℕ → Bool
+covers [] n = false
+covers (id ∷ l) n = hasLeaf id n || covers l n
+
+-- two lists hold the same ground
+abbrev pub SameLeaves : List ℕ → List ℕ → Type 0
+SameLeaves a b = (n : ℕ) → covers a n ≡ covers b n
+
+-- the number of a cell's first leaf, and of the leaf after its last: the cell is the stretch between
+unfoldable pub lo : ℕ → ℕ
+lo id = (id - lowBit id) / 2
+
+unfoldable pub hi : ℕ → ℕ
+hi id = (id + lowBit id) / 2
+
+-- ---- what a list may be
+
+unfoldable pub Member : ℕ → List ℕ → Type 0
+Member x [] = ⊥
+Member x (y ∷ l) = (x ≡ y) ⊎ Member x l
+
+-- ascending and free of overlap: each cell's last leaf stands before the first leaf of all later ones
+unfoldable pub Apart : List ℕ → Type 0
+Apart [] = Unit
+Apart (x ∷ l) = All (λ y. lastLeaf x < firstLeaf y) l × Apart l
+
+-- the same in 01's words: "ascending, no cell inside another" (proofs/Words)
+unfoldable pub Clear : List ℕ → Type 0
+Clear [] = Unit
+Clear (x ∷ l) = All (λ y. (x < y) × (holds x y ≡ false) × (holds y x ≡ false)) l × Clear l
+
+-- no four siblings are left: no cell has all its four children in the list
+unfoldable pub NoFour : List ℕ → Type 0
+NoFour l = (L p : ℕ) → L < 30 → p < 6 * 2 ^ (2 * L)
+    → Member (childOf (idOf L p) 0) l → Member (childOf (idOf L p) 1) l → Member (childOf (idOf L p) 2) l → Member (childOf (idOf L p) 3) l → ⊥
+
+-- "ascending, no cell inside another, four siblings replaced by their parent until none are left"
+pub record Normal (l : List ℕ) : Type 0 where
+  pub cells : All Cell l
+  pub apart : Apart l
+  pub nofour : NoFour l
+
+-- ---- normalising: sort, then one pass with the kept cells as a stack, the last kept on top. It is the Rust's pass; the laws (proofs/Norm) say that it
+-- gives the one normal list with the same leaves.
+
+-- the parent
+abbrev pub upOne : ℕ → ℕ
+upOne c = parentAt c (levelOf c - 1)
+
+-- x, y, z and c are the four children of one cell, in order
+unfoldable pub isFour : ℕ → ℕ → ℕ → ℕ → Bool
+isFour x y z c =
+    ltb 0 (levelOf c)
+    && (eqb x (childOf (upOne c) 0) && (eqb y (childOf (upOne c) 1) && (eqb z (childOf (upOne c) 2) && eqb c (childOf (upOne c) 3))))
+
+-- c goes on top, and as long as it completes four siblings their parent goes in their place
+unfoldable pub collapse : List ℕ → ℕ → List ℕ
+collapse [] c = c ∷ []
+collapse (z ∷ []) c = c ∷ z ∷ []
+collapse (z ∷ y ∷ []) c = c ∷ z ∷ y ∷ []
+collapse (z ∷ y ∷ x ∷ s) c = elim (isFour x y z c) [ true ↦ collapse s (upOne c) | false ↦ c ∷ z ∷ y ∷ x ∷ s ]
+
+-- without the kept cells inside c
+unfoldable pub clearOf : ℕ → List ℕ → List ℕ
+clearOf c [] = []
+clearOf c (t ∷ s) = elim (holds c t) [ true ↦ clearOf c s | false ↦ t ∷ s ]
+
+-- one more cell: nothing if the last kept holds it
+unfoldable pub keep : List ℕ → ℕ → List ℕ
+keep [] c = c ∷ []
+keep (t ∷ s) c = elim (holds t c) [ true ↦ t ∷ s | false ↦ collapse (clearOf c (t ∷ s)) c ]
+
+unfoldable pub pass : List ℕ → List ℕ → List ℕ
+pass s [] = s
+pass s (c ∷ l) = pass (keep s c) l
+
+-- the stack read from below
+unfoldable pub rev : List ℕ → List ℕ
+rev [] = []
+rev (x ∷ l) = rev l ++ (x ∷ [])
+
+unfoldable pub normalise : List ℕ → List ℕ
+normalise l = rev (pass [] (sort ltb l))
+
+-- ---- denormalising
+
+-- "m = max(level, min); m + ((30 − (m − min)) mod level_mod), at most 30"
+unfoldable pub goal : ℕ → ℕ → ℕ → ℕ
+goal low step L = min 30 (max L low + (30 - (max L low - low)) % step)
+
+-- n cells of the level L from the place p on
+unfoldable pub cellsFrom : ℕ → ℕ → ℕ → List ℕ
+cellsFrom L p zero = []
+cellsFrom L p (suc n) = idOf L p ∷ cellsFrom L (p + 1) n
+
+-- "its descendants at that level": the cells of the level M under id, four times as many a level
+unfoldable pub below : ℕ → ℕ → List ℕ
+below M id = cellsFrom M (placeOf id * 2 ^ (2 * (M - levelOf id))) (2 ^ (2 * (M - levelOf id)))
+
+-- each cell becomes its descendants at its goal
+unfoldable pub denormalise : ℕ → ℕ → List ℕ → List ℕ
+denormalise low step [] = []
+denormalise low step (id ∷ l) = below (goal low step (levelOf id)) id ++ denormalise low step l
+
+-- how many that are: 4 ^ (goal − level) for each cell
+unfoldable pub countOf : ℕ → ℕ → List ℕ → ℕ
+countOf low step [] = 0
+countOf low step (id ∷ l) = 2 ^ (2 * (goal low step (levelOf id) - levelOf id)) + countOf low step l
+
+-- a level that runs from low to top in whole steps from low
+pub record OnStep (low top step L : ℕ) : Type 0 where
+  pub from : low ≤ L
+  pub to : L ≤ top
+  pub on : (L - low) % step ≡ 0
+
+-- ---- counting leaves
+
+abbrev pub one : Bool → ℕ
+one true = 1
+one false = 0
+
+-- how many of 0, .., N - 1 pass
+unfoldable pub countTo : (ℕ → Bool) → ℕ → ℕ
+countTo f zero = 0
+countTo f (suc N) = one (f N) + countTo f N
+
+-- "A cell holds 4^(30 − level) leaves": the sum over a list
+unfoldable pub leafSum : List ℕ → ℕ
+leafSum [] = 0
+leafSum (id ∷ l) = 2 ^ (2 * (30 - levelOf id)) + leafSum l

@@ -1,0 +1,3 @@
+pub mod CellUnion
+pub mod Stack
+pub mod Memory

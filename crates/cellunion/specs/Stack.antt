@@ -1,0 +1,47 @@
+-- The kept cells of the pass as a stack, the last kept on top, and where they stand in memory.
+use mathlib.Core.Path.{_≡_}
+use mathlib.Core.List.{List, [], _∷_}
+use Prim.Native.Nat.{ℕ, zero, suc, _+_, _*_, _≤_}
+use lib.ListN.{getD, take, drop}
+use Rattle.cellid.specs.CellId.{Cell}
+use Rattle.order.specs.Order.{All}
+use Rattle.cellunion.specs.CellUnion.{lo, hi, NoFour, normalise}
+
+-- each cell ends before those above it begin
+unfoldable pub Down : List ℕ → Type 0
+Down [] = Unit
+Down (x ∷ s) = All (λ y. hi y ≤ lo x) s × Down s
+
+pub record Stack (s : List ℕ) : Type 0 where
+  pub cells : All Cell s
+  pub down : Down s
+  pub nofour : NoFour s
+
+-- the first k words, the last of them first
+unfoldable pub down : ℕ → List ℕ → List ℕ
+down zero m = []
+down (suc k) m = getD m k 0 ∷ down k m
+
+-- c may go on top: all of s ends before it begins
+pub record Topped (s : List ℕ) (c : ℕ) : Type 0 where
+  pub stack : Stack s
+  pub cell : Cell c
+  pub under : All (λ y. hi y ≤ lo c) s
+
+-- c may be looked at next: all of s begins before it
+pub record Next (s : List ℕ) (c : ℕ) : Type 0 where
+  pub stack : Stack s
+  pub cell : Cell c
+  pub ready : All (λ y. 2 * lo y + 1 ≤ c) s
+
+-- r words are kept, and what stands from place k + 1 on is as before
+pub record Gives (want : List ℕ) (k : ℕ) (m m' : List ℕ) (r : ℕ) : Type 0 where
+  pub is : down r m' ≡ want
+  pub within : r ≤ k + 1
+  pub rest : drop (k + 1) m' ≡ drop (k + 1) m
+
+-- the first r words are the normal list of the first n, and what stands from place n on is as before
+pub record PassDone (n : ℕ) (m m' : List ℕ) (r : ℕ) : Type 0 where
+  pub within : r ≤ n
+  pub is : take r m' ≡ normalise (take n m)
+  pub rest : drop n m' ≡ drop n m

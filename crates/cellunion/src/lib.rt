@@ -1,0 +1,230 @@
+// Lists of cells in lent memory: normalising in place, denormalising into an output.
+ghost use mathlib.Core.Path.{_≡_};
+ghost use Prim.Native.Nat.{_+_, _-_, _*_, _^_, _≤_, _<_, min, max};
+ghost use lib.ListN.{length, take};
+ghost use lib.Dec.{ltb};
+ghost use Rattle.cellid.specs.CellId.{Cell, lowBit, levelOf};
+ghost use Rattle.order.specs.Order.{All, Sorted};
+ghost use Rattle.cellunion.specs.CellUnion.{normalise, isFour, clearOf, collapse, keep, goal, below, denormalise, countOf};
+ghost use Rattle.cellunion.specs.Memory.{zeros, normalised, laid, roomFor, laidOver, Asks};
+ghost use Rattle.cellunion.specs.Stack.{down, Topped, Next, Gives, PassDone};
+
+// The answer of a function that lays a list over an output: how many words it laid, or that they do not fit and nothing was written.
+pub enum Laid {
+    Done(usize),
+    NoRoom,
+}
+
+// All bits but the two that tell c from its siblings.
+fn sibling_mask(c: u64) -> u64
+    requires { ⌜ Cell c ⌝ }
+    ensures { λ r. ⌜ r ≡ (2 ^ 64 - 1) - 6 * lowBit c ⌝ }
+{
+    let mask = cellid::lsb(c) << 1;
+    !(mask + (mask << 1))
+}
+
+// Whether x, y, z and c, which ascend, are the four children of one cell: the exclusive or is a quick necessary test.
+fn are_siblings(x: u64, y: u64, z: u64, c: u64) -> bool
+    requires { ⌜ Cell c × (x < y) × (y < z) × (z < c) ⌝ }
+    ensures { λ r. ⌜ r ≡ isFour x y z c ⌝ }
+{
+    if x ^ y ^ z ^ c != 0 {
+        return false;
+    }
+    let mask = sibling_mask(c);
+    let should = c & mask;
+    if x & mask != should {
+        return false;
+    }
+    if y & mask != should {
+        return false;
+    }
+    if z & mask != should {
+        return false;
+    }
+    0 < cellid::level(c)
+}
+
+// How many of the first k are left without those inside c.
+fn clear_of(mem: &[u64], k: usize, c: u64) -> usize
+    requires { ⌜ (k ≤ length (now mem)) × (0 < c) ⌝ }
+    ensures { λ r. ⌜ (r ≤ k) × (down r (now (mem .entry)) ≡ clearOf c (down k (now (mem .entry)))) ⌝ }
+{
+    let mut left = k;
+    while 0 < left {
+        if !cellid::contains(c, mem[left - 1]) {
+            break;
+        }
+        left -= 1;
+    }
+    left
+}
+
+// Puts c on top of the first k, and as long as it completes four siblings their parent in their place.
+fn collapse(mem: &mut [u64], k: usize, c: u64) -> usize
+    requires { ⌜ (k < length (now mem)) × Topped (down k (now mem)) c ⌝ }
+    ensures { λ r. ⌜ Gives (collapse (down k (now (mem .entry))) c) k (now (mem .entry)) (now (mem .exit)) r ⌝ }
+{
+    let mut left = k;
+    let mut top = c;
+    while 3 <= left {
+        if !are_siblings(mem[left - 3], mem[left - 2], mem[left - 1], top) {
+            break;
+        }
+        left -= 3;
+        top = cellid::immediate_parent(top);
+    }
+    mem[left] = top;
+    left + 1
+}
+
+// One more cell: nothing if the last kept holds it, else it goes on top of what does not lie in it.
+fn keep(mem: &mut [u64], k: usize, c: u64) -> usize
+    requires { ⌜ (k < length (now mem)) × Next (down k (now mem)) c ⌝ }
+    ensures { λ r. ⌜ Gives (keep (down k (now (mem .entry))) c) k (now (mem .entry)) (now (mem .exit)) r ⌝ }
+{
+    if 0 < k {
+        if cellid::contains(mem[k - 1], c) {
+            return k;
+        }
+    }
+    let left = clear_of(mem, k, c);
+    collapse(mem, left, c)
+}
+
+// The pass over the first n words, which are sorted.
+fn pass(mem: &mut [u64], n: usize) -> usize
+    requires { ⌜ (n ≤ length (now mem)) × All Cell (take n (now mem)) × Sorted ltb (take n (now mem)) ⌝ }
+    ensures { λ r. ⌜ PassDone n (now (mem .entry)) (now (mem .exit)) r ⌝ }
+{
+    let mut kept: usize = 0;
+    let mut i: usize = 0;
+    while i < n {
+        let c = mem[i];
+        kept = keep(mem, kept, c);
+        i += 1;
+    }
+    kept
+}
+
+// Zeros the words from `from` to before `to`.
+fn clear(mem: &mut [u64], from: usize, to: usize)
+    requires { ⌜ (from ≤ to) × (to ≤ length (now mem)) ⌝ }
+    ensures { λ _. ⌜ now (mem .exit) ≡ laid from (zeros (to - from)) (now (mem .entry)) ⌝ }
+{
+    let mut i = from;
+    while i < to {
+        mem[i] = 0;
+        i += 1;
+    }
+}
+
+// Normalises the first n words in place: sorts them, then one pass; the words that the normal list leaves over become zero.
+// Gives the length of the normal list. The words may come in any order, repeat and overlap.
+pub fn normalize(mem: &mut [u64], n: usize) -> usize
+    requires { ⌜ (n ≤ length (now mem)) × All Cell (take n (now mem)) ⌝ }
+    ensures { λ r. ⌜ (r ≡ length (normalise (take n (now (mem .entry))))) × (now (mem .exit) ≡ normalised n (now (mem .entry))) ⌝ }
+{
+    order::sort(&mut mem[0..n]);
+    let kept = pass(mem, n);
+    clear(mem, kept, n);
+    kept
+}
+
+fn larger(a: u64, b: u64) -> u64
+    ensures { λ r. ⌜ r ≡ max a b ⌝ }
+{
+    if a < b { b } else { a }
+}
+
+// The level a cell goes to.
+fn goal_level(level: u64, low: u64, step: u64) -> u64
+    requires { ⌜ (level ≤ 30) × (low ≤ 30) × (0 < step) ⌝ }
+    ensures { λ r. ⌜ r ≡ goal low step level ⌝ }
+{
+    let m = larger(level, low);
+    let r = m + (30 - (m - low)) % step;
+    if 30 < r { 30 } else { r }
+}
+
+// How many cells the first n become; limit + 1 as soon as they are more than limit.
+fn count(mem: &[u64], n: usize, low: u64, step: u64, limit: usize) -> usize
+    requires { ⌜ Asks n low step (now mem) × (limit ≤ 2 ^ 62) ⌝ }
+    ensures { λ r. ⌜ r ≡ min (countOf low step (take n (now (mem .entry)))) (limit + 1) ⌝ }
+{
+    let mut total: usize = 0;
+    let mut i: usize = 0;
+    while i < n {
+        let level = cellid::level(mem[i]);
+        total += 1 << (2 * (goal_level(level, low, step) - level));
+        if limit < total {
+            return limit + 1;
+        }
+        i += 1;
+    }
+    total
+}
+
+// Writes the cells of the level `to` under id from place `at` on; gives the place after them.
+fn spread(id: u64, to: u64, out: &mut [u64], at: usize) -> usize
+    requires { ⌜ Cell id × (levelOf id ≤ to) × (to ≤ 30) × (at + 2 ^ (2 * (to - levelOf id)) ≤ length (now out)) ⌝ }
+    ensures { λ r. ⌜ (r ≡ at + 2 ^ (2 * (to - levelOf id))) × (now (out .exit) ≡ laid at (below to id) (now (out .entry))) ⌝ }
+{
+    let bit = cellid::lsb_for_level(to);
+    let mut c = id - cellid::lsb(id) + bit;
+    let mut left: u64 = 1 << (2 * (to - cellid::level(id)));
+    let mut place = at;
+    while 0 < left {
+        out[place] = c;
+        place += 1;
+        c += bit << 1;
+        left -= 1;
+    }
+    place
+}
+
+// Writes the denormalised list of the first n into the output's first places; gives its length.
+fn write(mem: &[u64], n: usize, low: u64, step: u64, out: &mut [u64]) -> usize
+    requires { ⌜ Asks n low step (now mem) × (countOf low step (take n (now mem)) ≤ length (now out)) ⌝ }
+    ensures { λ r. ⌜ (r ≡ countOf low step (take n (now (mem .entry)))) × (now (out .exit) ≡ laid 0 (denormalise low step (take n (now (mem .entry)))) (now (out .entry))) ⌝ }
+{
+    let mut at: usize = 0;
+    let mut i: usize = 0;
+    while i < n {
+        let id = mem[i];
+        let to = goal_level(cellid::level(id), low, step);
+        at = spread(id, to, out, at);
+        i += 1;
+    }
+    at
+}
+
+// Lays the cells that the first n words of mem become, by 01's levels for low and step, over the output's first places.
+// They are counted before anything is written, and the count stops as soon as it is past the output's length: a list with no room costs at most n steps.
+pub fn denormalize(mem: &[u64], n: usize, low: u64, step: u64, out: &mut [u64]) -> Laid
+    requires { ⌜ Asks n low step (now mem) ⌝ }
+    ensures { λ r. ⌜ (r ≡ roomFor (denormalise low step (take n (now (mem .entry)))) (now (out .entry))) × (now (out .exit) ≡ laidOver (denormalise low step (take n (now (mem .entry)))) (now (out .entry))) ⌝ }
+{
+    let limit = out.len();
+    if limit < count(mem, n, low, step, limit) {
+        return Laid::NoRoom;
+    }
+    Laid::Done(write(mem, n, low, step, out))
+}
+
+// Lays the first n words of mem over the output's first places, as they are.
+pub fn lay(mem: &[u64], n: usize, out: &mut [u64]) -> Laid
+    requires { ⌜ n ≤ length (now mem) ⌝ }
+    ensures { λ r. ⌜ (r ≡ roomFor (take n (now (mem .entry))) (now (out .entry))) × (now (out .exit) ≡ laidOver (take n (now (mem .entry))) (now (out .entry))) ⌝ }
+{
+    if out.len() < n {
+        return Laid::NoRoom;
+    }
+    let mut i: usize = 0;
+    while i < n {
+        out[i] = mem[i];
+        i += 1;
+    }
+    Laid::Done(n)
+}

@@ -1,0 +1,112 @@
+-- The counts of the sets are those of the list of children.
+use mathlib.Core.Path.{_≡_, refl, sym, ap, _∙_}
+use mathlib.Core.Bool.{Bool, true, false, true≢false}
+use mathlib.Core.List.{List, [], _∷_, _++_}
+use Prim.Native.Nat.{ℕ, zero, suc, _+_, _-_, _*_, _/_, _%_, _^_, _≤_, _<_}
+use native.Mathlib.Omega.{arith}
+use lib.Count.{ones, onesIn, ones-cat, ones-step}
+use lib.Arith.{bin-ind}
+use lib.Dec.{eqb}
+use borrow.Author.Tests.{eq-eqb, eqb-true}
+use lib.ListN.{length, length-append}
+use Rattle.cellid.specs.CellId.{childOf}
+use Rattle.cellid.proofs.Laws.{bool-iff}
+use Rattle.run.specs.declared.Found.{Found}
+use Rattle.run.specs.Run.{isEmpty, Child, Expansion, Look, Request, divide, ending, expand, fails, fourOf, join, look, none, reached, terminal}
+use Rattle.run.specs.Masks.{noneFound, found, foundAt, placeIn, upTo}
+use Rattle.run.proofs.Masks.{Small, up-small, found-small, branch, branch-small}
+
+ending-one : (b : Bool) (m n k : ℕ) → m ≡ n + k → elim b [ true ↦ suc m | false ↦ m ] ≡ (elim b as (λ x. ℕ) [ true ↦ suc n | false ↦ n ]) + k
+ending-one true m n k e = omega arith
+ending-one false m n k e = e
+
+ending-append : (l r : List Child) → ending (l ++ r) ≡ ending l + ending r
+unfolding ending
+ending-append [] r = omega arith
+ending-append (c ∷ l) r = ending-one (c .ends) (ending (l ++ r)) (ending l) (ending r) (ending-append l r)
+
+pub record Counted (f : Found) (e : Expansion) : Type 0 where
+  pub present : ones (f .present) ≡ length (e .children)
+  pub terminal : ones (f .terminal) ≡ ending (e .children)
+
+at-counted : (id : ℕ) (v : Look) → Counted (foundAt v) (reached id v)
+unfolding foundAt reached ending ones onesIn
+at-counted id fails = record { present = refl; terminal = refl }
+at-counted id none = record { present = refl; terminal = refl }
+at-counted id terminal = record { present = refl; terminal = refl }
+at-counted id divide = record { present = refl; terminal = refl }
+
+branch-counted : (b : Bool) (f : Found) (e : Expansion) (c : ℕ) → Counted f e
+    → Counted (elim b [ true ↦ f | false ↦ noneFound ]) (elim b [ true ↦ e | false ↦ record { children = []; failed = c ∷ [] } ])
+unfolding ending ones onesIn
+branch-counted true f e c h = h
+branch-counted false f e c h = record { present = refl; terminal = refl }
+
+join-length : (a b : Expansion) → length (join a b .children) ≡ length (a .children) + length (b .children)
+unfolding join
+join-length a b = length-append (a .children) (b .children)
+
+join-ending : (a b : Expansion) → ending (join a b .children) ≡ ending (a .children) + ending (b .children)
+unfolding join
+join-ending a b = ending-append (a .children) (b .children)
+
+four-length : (e : ℕ → Expansion) (id : ℕ) → length (fourOf e id .children)
+    ≡ length (e (childOf id 0) .children) + (length (e (childOf id 1) .children) + (length (e (childOf id 2) .children) + length (e (childOf id 3) .children)))
+unfolding fourOf
+four-length e id = simp join-length
+
+four-ending : (e : ℕ → Expansion) (id : ℕ) → ending (fourOf e id .children)
+    ≡ ending (e (childOf id 0) .children) + (ending (e (childOf id 1) .children) + (ending (e (childOf id 2) .children) + ending (e (childOf id 3) .children)))
+unfolding fourOf
+four-ending e id = simp join-ending
+
+module _ (f : ℕ → Found) (w id : ℕ) (s : (k : ℕ) → k < 4 → Small w (f (childOf id k))) where
+  up-zero : (ones (upTo f w id 0 .present) ≡ 0) × (ones (upTo f w id 0 .terminal) ≡ 0)
+  unfolding upTo ones onesIn
+  up-zero = (refl, refl)
+
+  up-one : (k : ℕ) → k ≤ 4 → (ones (upTo f w id (suc k) .present) ≡ ones (f (childOf id k) .present) + ones (upTo f w id k .present))
+      × (ones (upTo f w id (suc k) .terminal) ≡ ones (f (childOf id k) .terminal) + ones (upTo f w id k .terminal))
+  unfolding upTo placeIn
+  up-one k h = let u = up-small f w id s k h in (ones-cat (w * k) (f (childOf id k) .present) (upTo f w id k .present) (u .present), ones-cat (w * k) (f (childOf id k) .terminal) (upTo f w id k .terminal) (u .terminal))
+
+  four-counted : (e : ℕ → Expansion) → ((k : ℕ) → k < 4 → Counted (f (childOf id k)) (e (childOf id k))) → Counted (upTo f w id 4) (fourOf e id)
+  four-counted e c =
+      let c₀ = c 0 (omega arith) in
+      let c₁ = c 1 (omega arith) in
+      let c₂ = c 2 (omega arith) in
+      let c₃ = c 3 (omega arith) in
+      let u₀ = up-one 0 (omega arith) in
+      let u₁ = up-one 1 (omega arith) in
+      let u₂ = up-one 2 (omega arith) in
+      let u₃ = up-one 3 (omega arith) in
+      record {
+        present = omega (arith, up-zero .0, u₀ .0, u₁ .0, u₂ .0, u₃ .0, four-length e id);
+        terminal = omega (arith, up-zero .1, u₀ .1, u₁ .1, u₂ .1, u₃ .1, four-ending e id);
+      }
+
+module _ (q : Request) (hits within : ℕ → Bool) where
+  pub found-counted : (n id : ℕ) → Counted (found q hits within n id) (expand q hits within n id)
+  unfolding found expand
+  found-counted zero id = at-counted id (look q hits within id)
+  found-counted (suc n) id = four-counted (branch q hits within n) (2 ^ (2 * n)) id
+      (λ k g. branch-small q hits within (2 ^ (2 * n)) (childOf id k) (found q hits within n (childOf id k)) (found-small q hits within n (childOf id k)))
+      (λ c. elim (hits c) [ true ↦ expand q hits within n c | false ↦ record { children = []; failed = c ∷ [] } ])
+      (λ k g. branch-counted (hits (childOf id k)) (found q hits within n (childOf id k)) (expand q hits within n (childOf id k)) (childOf id k) (found-counted n (childOf id k)))
+
+ones-zero : (n : ℕ) → ones n ≡ 0 → n ≡ 0
+ones-zero = bin-ind (λ (n : ℕ). ones n ≡ 0 → n ≡ 0) (λ e. refl)
+    (λ n ih e. let s : n % 2 + ones (n / 2) ≡ 0 = sym (ones-step n) ∙ e in let h : n / 2 ≡ 0 = ih (omega arith) in omega arith)
+
+empty-length : {A : Type 0} (l : List A) → isEmpty l ≡ eqb (length l) 0
+unfolding isEmpty
+empty-length [] = refl
+empty-length (x ∷ l) = sym (bool-iff _ _ (λ t. let z : suc (length l) ≡ 0 = eqb-true _ _ t in absurd (omega arith)) (λ t. absurd (true≢false (sym t))))
+
+pub empty-set : (q : Request) (hits within : ℕ → Bool) (n id : ℕ) → isEmpty (expand q hits within n id .children) ≡ eqb (found q hits within n id .present) 0
+unfolding ones onesIn
+empty-set q hits within n id =
+    let k : ones (found q hits within n id .present) ≡ length (expand q hits within n id .children) = found-counted q hits within n id .present in
+    empty-length (expand q hits within n id .children) ∙ bool-iff _ _
+    (λ t. let z : length (expand q hits within n id .children) ≡ 0 = eqb-true _ _ t in eq-eqb (found q hits within n id .present) 0 (ones-zero (found q hits within n id .present) (k ∙ z)))
+    (λ t. let z : found q hits within n id .present ≡ 0 = eqb-true _ _ t in eq-eqb (length (expand q hits within n id .children)) 0 (sym k ∙ ap ones z))

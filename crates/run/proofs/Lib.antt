@@ -1,0 +1,12 @@
+pub mod Lists
+pub mod Looks
+pub mod Masks
+pub mod Counts
+pub mod Records
+pub mod Turns
+pub mod Ground
+pub mod Steps
+pub mod Leaves
+pub mod Starts
+pub mod Demand3
+pub mod Totals

@@ -1,0 +1,3 @@
+pub mod Run
+pub mod Masks
+pub mod Ground

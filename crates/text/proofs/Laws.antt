@@ -1,0 +1,85 @@
+-- Laws of `specs/Text.antt`: a number grows with its digits, and a run of blanks or of others is left where it ends.
+use mathlib.Core.Path.{_≡_, refl, sym, ap, _∙_}
+use mathlib.Core.Bool.{Bool, true, false, _&&_, Bool·beq}
+use mathlib.Core.List.{List, [], _∷_}
+use Prim.Native.Nat.{ℕ, zero, suc, _+_, _-_, _*_, _/_, _≤_, _<_}
+use native.Mathlib.Omega.{arith}
+use native.Mathlib.Numerals.{add-one}
+use mathlib.Core.Logic.{by-cases}
+use native.Mathlib.Decide.{decLt}
+use native.Mathlib.Nat.{le-mul-of-pos-right, div-lt-iff-lt-mul, le-div-iff-mul-le, le-trans}
+use lib.Dec.{ltb, leb}
+use lib.ListN.{length, getD, drop, drop-of-length-le}
+use lib.Seq.{drop-cons}
+use borrow.Author.Tests.{lt-ltb, le-ltb}
+use Rattle.text.specs.declared.Number.{Number}
+use Rattle.text.specs.Text.{digitOf, allDigits, valueFrom, limited, isBlank, leading}
+
+-- ---- runs
+
+pub leading-end : (blank : Bool) (l : List ℕ) (i : ℕ) → length l ≤ i → leading blank (drop i l) ≡ 0
+unfolding leading
+leading-end blank l i h = rw (drop-of-length-le l h)
+
+pub leading-stop : (blank : Bool) (l : List ℕ) (i : ℕ) → i < length l → Bool·beq (isBlank (getD l i 0)) blank ≡ false → leading blank (drop i l) ≡ 0
+unfolding leading
+leading-stop blank l i h e = rw (drop-cons l i 0 h, leading, e)
+
+pub leading-go : (blank : Bool) (l : List ℕ) (i : ℕ) → i < length l → Bool·beq (isBlank (getD l i 0)) blank ≡ true
+    → leading blank (drop i l) ≡ suc (leading blank (drop (i + 1) l))
+unfolding leading
+leading-go blank l i h e = rw (drop-cons l i 0 h, leading, e, add-one i)
+
+-- ---- numbers
+
+-- a number is no less than what its first digits make
+pub value-grows : (base n : ℕ) (l : List ℕ) → 0 < base → n ≤ valueFrom base n l
+unfolding valueFrom
+value-grows base n [] h = omega arith
+value-grows base n (b ∷ l) h =
+    let more : n ≤ n * base = le-mul-of-pos-right n h in
+    le-trans {n = n} {m = n * base + digitOf b} (omega arith) (value-grows base (n * base + digitOf b) l h)
+
+pub value-go : (base n : ℕ) (l : List ℕ) (i : ℕ) → i < length l → valueFrom base n (drop i l) ≡ valueFrom base (n * base + digitOf (getD l i 0)) (drop (i + 1) l)
+unfolding valueFrom
+value-go base n l i h = rw (drop-cons l i 0 h, valueFrom, add-one i)
+
+pub value-end : (base n : ℕ) (l : List ℕ) (i : ℕ) → length l ≤ i → valueFrom base n (drop i l) ≡ n
+unfolding valueFrom
+value-end base n l i h = rw (drop-of-length-le l h)
+
+pub digits-go : (base : ℕ) (l : List ℕ) (i : ℕ) → i < length l → allDigits base (drop i l) ≡ (ltb (digitOf (getD l i 0)) base && allDigits base (drop (i + 1) l))
+unfolding allDigits
+digits-go base l i h = rw (drop-cons l i 0 h, allDigits, add-one i)
+
+pub digits-end : (base : ℕ) (l : List ℕ) (i : ℕ) → length l ≤ i → allDigits base (drop i l) ≡ true
+unfolding allDigits
+digits-end base l i h = rw (drop-of-length-le l h)
+
+pub limited-over : (limit n : ℕ) → limit < n → limited limit n ≡ Number.TooLarge
+unfolding limited
+limited-over limit n h = rw (limited, lt-ltb limit n h)
+
+pub limited-in : (limit n : ℕ) → n ≤ limit → limited limit n ≡ Number.Value n
+unfolding limited
+limited-in limit n h = rw (limited, le-ltb limit n h)
+
+-- the test before a product says what the test after it would
+pub product-over : (limit digit base n : ℕ) → 0 < base → digit ≤ limit → ltb ((limit - digit) / base) n ≡ ltb limit (n * base + digit)
+product-over limit digit base n p d = by-cases (decLt ((limit - digit) / base) n)
+    (λ h.
+    let m : limit - digit < n * base = div-lt-iff-lt-mul p .0 h in
+    let k : limit < n * base + digit = omega arith in
+    lt-ltb _ _ h ∙ sym (lt-ltb _ _ k))
+    (λ h.
+    let g : n ≤ (limit - digit) / base = omega arith in
+    let m : n * base ≤ limit - digit = le-div-iff-mul-le p .0 g in
+    let k : n * base + digit ≤ limit = omega arith in
+    le-ltb _ _ g ∙ sym (le-ltb _ _ k))
+
+-- a number that is over the limit with some of its digits is over it with all
+pub value-over : (limit base n : ℕ) (l : List ℕ) (i : ℕ) → 0 < base → i < length l → limit < n * base + digitOf (getD l i 0)
+    → limited limit (valueFrom base n (drop i l)) ≡ Number.TooLarge
+value-over limit base n l i p h o =
+    let g : n * base + digitOf (getD l i 0) ≤ valueFrom base (n * base + digitOf (getD l i 0)) (drop (i + 1) l) = value-grows base _ (drop (i + 1) l) p in
+    limited-over limit _ (omega (arith, g, value-go base n l i h))

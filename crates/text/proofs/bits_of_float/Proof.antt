@@ -1,0 +1,17 @@
+-- `text::bits_of_float`: a NaN apart, the pattern is the float's.
+use Rattle.text.proofs.Floats.{nan-bits, number}
+use borrow.Author.Needs.{needs}
+use Rattle.text.proofs.bits_of_float.Statement.{statement}
+use Rattle.text.proofs.bits_of_float.Tie as tie
+
+returns : tie.Need-returns
+returns c = nan-bits _ (c .if1 .taken)
+
+float-to-bits-result : tie.Need-float-to-bits-result
+float-to-bits-result c = number _ (c .if1 .left)
+
+returns-2 : tie.Need-returns-2
+returns-2 c = search needs
+
+pub bits-of-float-spec : {M : Type 1} → statement M
+bits-of-float-spec = tie.close (tie.spec returns float-to-bits-result returns-2)

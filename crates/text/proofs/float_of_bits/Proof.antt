@@ -1,0 +1,20 @@
+-- `text::float_of_bits`: a NaN apart, the pattern is the float's.
+use mathlib.Core.Path.{sym}
+use lib.Ieee.{ofBits, div}
+use Rattle.text.proofs.Floats.{nan-pattern, number-pattern}
+use borrow.Author.Needs.{needs}
+use Rattle.text.proofs.float_of_bits.Statement.{statement}
+use Rattle.text.proofs.float_of_bits.Tie as tie
+
+returns : tie.Need-returns
+unfolding ofBits div
+returns c = sym (nan-pattern _ (c .if1 .taken))
+
+float-from-bits-result : tie.Need-float-from-bits-result
+float-from-bits-result c = number-pattern _ (c .if1 .left)
+
+returns-2 : tie.Need-returns-2
+returns-2 c = search needs
+
+pub float-of-bits-spec : {M : Type 1} → statement M
+float-of-bits-spec = tie.close (tie.spec returns float-from-bits-result returns-2)

@@ -1,0 +1,122 @@
+//! What the patched copies of region.rs report to the line program, and where they are stopped.
+//!
+//! The words are paper 01's: a step takes one candidate from the queue; 7 when the queue would hold 1,025 candidates,
+//! 8 when a 1,025th raw cell would be kept, 9 when the queue isn't empty and the allowance is used up, looked at before
+//! each step. Once a run is refused, nothing more is added and no step is taken. Set aside are, in an outer run, a start
+//! cell that fails, and the failed cells of the expansion of a candidate that is handed on to its children or has none.
+
+use crate::s2::cellid::{CellID, MAX_LEVEL};
+use std::cell::RefCell;
+
+/// The most places that the line program's output has.
+pub const ROOM: u128 = 65_536;
+const LIMIT: usize = 1_024;
+
+/// One run: the allowance that it was given and what it has reported so far.
+#[derive(Default)]
+pub struct Run {
+    pub allowance: u64,
+    pub steps: u64,
+    pub aside: u64,
+    /// 7, 8 or 9 once the run is refused, else 0.
+    pub refused: u8,
+    pub starts: Vec<CellID>,
+    pub raw: Vec<CellID>,
+    /// Cost and id of each candidate taken.
+    pub taken: Vec<(i64, u64)>,
+    /// A list would have become longer than ROOM and was left as it was.
+    pub long: bool,
+}
+
+thread_local! {
+    static RUN: RefCell<Run> = RefCell::new(Run::default());
+}
+
+fn with<T>(f: impl FnOnce(&mut Run) -> T) -> T {
+    RUN.with(|run| f(&mut run.borrow_mut()))
+}
+
+pub fn begin(allowance: u64) {
+    with(|run| *run = Run { allowance, ..Run::default() })
+}
+
+pub fn end() -> Run {
+    with(std::mem::take)
+}
+
+pub fn leaves(id: &CellID) -> u64 {
+    1 << (2 * (MAX_LEVEL - id.level()))
+}
+
+pub fn refused() -> bool {
+    with(|run| run.refused != 0)
+}
+
+/// Before each step, with the queue's length.
+pub fn may_step(queue: usize) -> bool {
+    with(|run| {
+        if run.refused == 0 && queue > 0 {
+            if run.steps == run.allowance {
+                run.refused = 9;
+            } else {
+                run.steps += 1;
+            }
+        }
+        run.refused == 0
+    })
+}
+
+pub fn taken(priority: isize, id: &CellID) {
+    with(|run| run.taken.push((-(priority as i64), id.0)))
+}
+
+/// Before a candidate is queued, with the queue's length.
+pub fn may_queue(queue: usize) -> bool {
+    with(|run| {
+        if queue == LIMIT {
+            run.refused = 7;
+        }
+        run.refused == 0
+    })
+}
+
+/// Before a cell is kept, with the number of cells kept so far.
+pub fn may_keep(kept: usize) -> bool {
+    with(|run| {
+        if kept == LIMIT {
+            run.refused = 8;
+        }
+        run.refused == 0
+    })
+}
+
+pub fn set_aside(inner: bool, leaves: u64) {
+    if !inner {
+        with(|run| run.aside += leaves)
+    }
+}
+
+pub fn starts(cells: &[CellID]) {
+    with(|run| run.starts = cells.to_vec())
+}
+
+pub fn raw(cells: &[CellID]) {
+    with(|run| run.raw = cells.to_vec())
+}
+
+/// How many cells a list has once denormalised, by paper 01's rule.
+pub fn denormalized(cells: &[CellID], min: u64, step: u64) -> u128 {
+    let count = |id: &CellID| {
+        let m = id.level().max(min);
+        let level = (m + (30 - (m - min)) % step).min(30);
+        1u128 << (2 * (level - id.level()))
+    };
+    cells.iter().map(count).sum()
+}
+
+/// Before fast covering denormalises: a list that would not fit is reported and left as it is.
+pub fn room(cells: &[CellID], min: u64, step: u64) -> bool {
+    let fits = denormalized(cells, min, step) <= ROOM;
+    with(|run| run.long |= !fits);
+    fits
+}

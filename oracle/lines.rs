@@ -1,0 +1,557 @@
+//! The oracle's line program: one question a line from standard input, one answer a line to standard output.
+//!
+//! It answers the lines of `cover` and of `probe`, with one or more blanks (spaces, tabs, carriage returns) between fields.
+//! Floats and ids are 16 hex digits, other numbers decimal; a truth is 1 or 0, a list `COUNT ID...`. Empty lines and lines
+//! that begin with # are passed over; `error LINE-NUMBER WORD` answers a line that is no question, or a question outside
+//! its function's domain.
+//!
+//!     KIND MIN MAX MOD MAX_CELLS REGION [allow=N] [out=N] [mem=N]
+//!                            KIND covering, cellunion, raw, interior, icellunion, iraw or fast; REGION cap X Y Z R or cell ID;
+//!                            answer ok STEPS ASIDE COUNT ID... or refused NUMBER
+//!     trace KIND ...         the candidates that the run takes, COUNT COST:ID...; hooked builds only
+//!     levels R COUNT         the level for each of COUNT floats from R upwards in their bits, as runs LEVEL:HOW-MANY...
+//!     valid, is_unit, cell_contains_point, cap_contains_cell, cap_intersects_cell, common_ancestor_level, level,
+//!     face_ij_orientation, cellid_from_point, vertices, edges, cell_cap_bound, sqrt, st_to_uv, uv_to_st, vertex_neighbors,
+//!     bound, normalize, denormalize, normalize_covering, starts
+//!
+//! The values are the Rust's. The paper's refusals 1 to 6 and 10 are decided here, around it; 7, 8 and 9 by the hooks.
+//! Domains: ids are valid; floats are finite (but for cover's regions and sqrt); a point is_unit (but for is_unit itself);
+//! a cap is in paper 01's domain, a radius at most 4; vertex_neighbors asks for a level above the id's own.
+//! The build with the unmodified region.rs has no steps, set-aside totals, raw lists and start cells: it writes `-` for
+//! these and never refuses with 7 to 10. It finds the normalised outer list by normalising the covering, which has the
+//! same leaves. Where a run asks too many tests, or fast covering might have too many cells, it answers `cut`.
+//! `panic` answers a question at which the Rust panics.
+//!
+//! Bounds: a gigabyte of memory for the process, two minutes for a question; both end the program.
+
+mod consts;
+#[allow(dead_code)]
+mod hooks;
+mod r1;
+mod r2;
+mod r3;
+mod s1;
+mod s2;
+
+use r3::vector::Vector;
+use s1::ChordAngle;
+use s2::cap::Cap;
+use s2::cell::Cell;
+use s2::cellid::CellID;
+use s2::cellunion::CellUnion;
+use s2::metric::MIN_WIDTHMETRIC;
+use s2::point::Point;
+use s2::region::{Region, RegionCoverer};
+use std::cell::Cell as Counter;
+use std::io::{BufRead, Write};
+use std::panic::{AssertUnwindSafe, catch_unwind, panic_any};
+
+const MEMORY: u64 = 1 << 30;
+const SECONDS: u32 = 120;
+/// The most intersection tests of one run: beyond the longest run that the refusals allow, and small for the build without.
+const TESTS: u64 = if cfg!(hooked) { 100_000_000 } else { 300_000 };
+const NAN: &str = "7ff8000000000000";
+
+unsafe extern "C" {
+    fn setrlimit(resource: i32, limit: *const [u64; 2]) -> i32;
+    fn alarm(seconds: u32) -> u32;
+}
+
+/// A run that asks more than TESTS tests ends with this.
+struct Cut;
+
+thread_local! {
+    static ASKED: Counter<u64> = const { Counter::new(0) };
+}
+
+/// A region of paper 01: a cap or a cell. The tests are counted, so that every run ends.
+enum Asked {
+    Cap(Cap),
+    Cell(Cell),
+}
+
+impl Region for Asked {
+    fn cap_bound(&self) -> Cap {
+        match self {
+            Asked::Cap(cap) => cap.cap_bound(),
+            Asked::Cell(cell) => cell.cap_bound(),
+        }
+    }
+
+    fn contains_cell(&self, cell: &Cell) -> bool {
+        match self {
+            Asked::Cap(cap) => cap.contains_cell(cell),
+            Asked::Cell(own) => own.contains_cell(cell),
+        }
+    }
+
+    fn intersects_cell(&self, cell: &Cell) -> bool {
+        let asked = ASKED.get() + 1;
+        ASKED.set(asked);
+        if asked > TESTS {
+            panic_any(Cut);
+        }
+        match self {
+            Asked::Cap(cap) => cap.intersects_cell(cell),
+            Asked::Cell(own) => own.intersects_cell(cell),
+        }
+    }
+
+    fn cell_union_bound(&self) -> Vec<CellID> {
+        match self {
+            Asked::Cap(cap) => cap.cell_union_bound(),
+            Asked::Cell(cell) => cell.cell_union_bound(),
+        }
+    }
+}
+
+/// A region that is only a bound: fast covering of it is the crate's normalize_covering of the list.
+struct Bound(Vec<CellID>);
+
+impl Region for Bound {
+    fn cap_bound(&self) -> Cap {
+        unreachable!()
+    }
+
+    fn cell_union_bound(&self) -> Vec<CellID> {
+        self.0.clone()
+    }
+}
+
+type Word = &'static str;
+
+/// The fields of a line, one after another.
+struct Fields<'a>(std::iter::Peekable<std::vec::IntoIter<&'a str>>);
+
+impl<'a> Fields<'a> {
+    fn word(&mut self) -> Result<&'a str, Word> {
+        self.0.next().ok_or("missing")
+    }
+
+    fn number(&mut self) -> Result<u64, Word> {
+        decimal(self.word()?)
+    }
+
+    fn bits(&mut self) -> Result<u64, Word> {
+        let word = self.word()?;
+        if word.len() != 16 || !word.bytes().all(|b| b.is_ascii_digit() || (b'a'..=b'f').contains(&b)) {
+            return Err("hex");
+        }
+        u64::from_str_radix(word, 16).map_err(|_| "hex")
+    }
+
+    fn any_float(&mut self) -> Result<f64, Word> {
+        self.bits().map(f64::from_bits)
+    }
+
+    fn float(&mut self) -> Result<f64, Word> {
+        self.any_float().and_then(|x| if x.is_finite() { Ok(x) } else { Err("finite") })
+    }
+
+    fn vector(&mut self) -> Result<Vector, Word> {
+        Ok(Vector { x: self.float()?, y: self.float()?, z: self.float()? })
+    }
+
+    fn point(&mut self) -> Result<Point, Word> {
+        self.vector().and_then(|v| if v.is_unit() { Ok(Point(v)) } else { Err("unit") })
+    }
+
+    fn radius(&mut self) -> Result<f64, Word> {
+        self.float().and_then(|r| if r <= 4. { Ok(r) } else { Err("radius") })
+    }
+
+    fn cap(&mut self) -> Result<Cap, Word> {
+        Ok(Cap { center: self.point()?, radius: ChordAngle(self.radius()?) })
+    }
+
+    fn id(&mut self) -> Result<CellID, Word> {
+        self.bits().map(CellID).and_then(|id| if id.is_valid() { Ok(id) } else { Err("id") })
+    }
+
+    fn ids(&mut self) -> Result<Vec<CellID>, Word> {
+        let mut ids = Vec::new();
+        while self.0.peek().is_some() {
+            ids.push(self.id()?);
+        }
+        Ok(ids)
+    }
+
+    /// A region inside the domain, or None for one outside it.
+    fn region(&mut self) -> Result<Option<Asked>, Word> {
+        match self.word()? {
+            "cap" => {
+                let (x, y, z, r) = (self.any_float()?, self.any_float()?, self.any_float()?, self.any_float()?);
+                let center = Vector { x, y, z };
+                let finite = x.is_finite() && y.is_finite() && z.is_finite() && r.is_finite();
+                let inside = finite && center.is_unit() && r <= 4.;
+                Ok(inside.then_some(Asked::Cap(Cap { center: Point(center), radius: ChordAngle(r) })))
+            }
+            "cell" => {
+                let id = CellID(self.bits()?);
+                Ok(if id.is_valid() { Some(Asked::Cell(Cell::from(id))) } else { None })
+            }
+            _ => Err("region"),
+        }
+    }
+
+    fn end(&mut self) -> Result<(), Word> {
+        if self.0.peek().is_some() { Err("more") } else { Ok(()) }
+    }
+}
+
+fn decimal(word: &str) -> Result<u64, Word> {
+    if word.is_empty() || !word.bytes().all(|b| b.is_ascii_digit()) {
+        return Err("number");
+    }
+    word.parse().map_err(|_| "digits")
+}
+
+fn list(ids: &[CellID]) -> String {
+    let mut text = ids.len().to_string();
+    for id in ids {
+        text.push_str(&format!(" {:016x}", id.0));
+    }
+    text
+}
+
+/// The bits of a float. Every NaN is written with paper 01's bits; the test is one of text, because the compiler takes one
+/// NaN for another in a choice between two floats.
+fn float(x: f64) -> String {
+    let text = format!("{:016x}", x.to_bits());
+    if x.is_nan() { String::from(NAN) } else { text }
+}
+
+fn points(points: &[Point]) -> String {
+    let one = |p: &Point| format!("{} {} {}", float(p.0.x), float(p.0.y), float(p.0.z));
+    points.iter().map(one).collect::<Vec<_>>().join(" ")
+}
+
+/// The level that cell_union_bound picks for a squared chord radius.
+fn level(radius: f64) -> u64 {
+    let center = Point(Vector { x: 1., y: 0., z: 0. });
+    MIN_WIDTHMETRIC.max_level(Cap { center, radius: ChordAngle(radius) }.radius().rad())
+}
+
+fn truth(t: bool) -> String {
+    String::from(if t { "1" } else { "0" })
+}
+
+/// The numbers of a request, as the line gives them.
+struct Numbers {
+    min: u64,
+    max: u64,
+    step: u64,
+    cells: u64,
+}
+
+impl Numbers {
+    fn read(fields: &mut Fields) -> Result<Numbers, Word> {
+        Ok(Numbers { min: fields.number()?, max: fields.number()?, step: fields.number()?, cells: fields.number()? })
+    }
+
+    /// Paper 01's refusals 1 to 4, in this order; 0 for none.
+    fn refusal(&self) -> u8 {
+        if self.max > 30 {
+            1
+        } else if self.min > self.max {
+            2
+        } else if !(1..=3).contains(&self.step) {
+            3
+        } else if self.cells > 1_000 {
+            4
+        } else {
+            0
+        }
+    }
+
+    fn coverer(&self) -> RegionCoverer {
+        RegionCoverer {
+            min_level: self.min as u8,
+            max_level: self.max as u8,
+            level_mod: self.step as u8,
+            max_cells: self.cells as usize,
+        }
+    }
+}
+
+#[derive(PartialEq)]
+enum Kind {
+    Covering,
+    Cellunion,
+    Raw,
+    Interior,
+    Icellunion,
+    Iraw,
+    Fast,
+}
+
+fn kind(word: &str) -> Option<Kind> {
+    Some(match word {
+        "covering" => Kind::Covering,
+        "cellunion" => Kind::Cellunion,
+        "raw" => Kind::Raw,
+        "interior" => Kind::Interior,
+        "icellunion" => Kind::Icellunion,
+        "iraw" => Kind::Iraw,
+        "fast" => Kind::Fast,
+        _ => return None,
+    })
+}
+
+#[cfg(hooked)]
+fn outer(coverer: &RegionCoverer, region: &Asked) -> Vec<CellID> {
+    // The hooks keep the raw list. A refused run's list is a part only and isn't used.
+    coverer.cellunion(region).0
+}
+
+#[cfg(not(hooked))]
+fn outer(coverer: &RegionCoverer, region: &Asked) -> Vec<CellID> {
+    let mut union = coverer.covering(region);
+    union.normalize();
+    union.0
+}
+
+/// Whether the unmodified fast covering of a list might have more cells than the output has places.
+fn may_be_long(bound: &[CellID], numbers: &Numbers) -> bool {
+    let adjusted = |id: &CellID| id.parent(id.level().min(numbers.max).saturating_sub(numbers.step - 1));
+    let bound: Vec<CellID> = bound.iter().map(adjusted).collect();
+    !cfg!(hooked) && hooks::denormalized(&bound, numbers.min, numbers.step) > hooks::ROOM
+}
+
+fn cover(kind: Kind, fields: &mut Fields, trace: bool) -> Result<String, Word> {
+    let numbers = Numbers::read(fields)?;
+    let region = fields.region()?;
+    let (mut allowance, mut out, mut memory) = (None, None, None);
+    while let Ok(word) = fields.word() {
+        let (name, value) = word.split_once('=').ok_or("option")?;
+        let place = match name {
+            "allow" => &mut allowance,
+            "out" => &mut out,
+            "mem" => &mut memory,
+            _ => return Err("option"),
+        };
+        if place.replace(decimal(value)?).is_some() {
+            return Err("twice");
+        }
+    }
+    let (allowance, out, memory) = (allowance.unwrap_or(0xffffffff), out.unwrap_or(65_536), memory.unwrap_or(4_096));
+    if allowance > 0xffffffff || u128::from(out) > hooks::ROOM {
+        return Err("large");
+    }
+    let refused = |number: u8| Ok(format!("refused {number}"));
+    if numbers.refusal() != 0 {
+        return refused(numbers.refusal());
+    }
+    let Some(region) = region else { return refused(5) };
+    if memory < 4_096 {
+        return refused(6);
+    }
+    let coverer = numbers.coverer();
+    if kind == Kind::Fast && may_be_long(&region.cell_union_bound(), &numbers) {
+        return Ok(String::from("cut"));
+    }
+    if (trace || kind == Kind::Raw || kind == Kind::Iraw) && !cfg!(hooked) {
+        return Ok(String::from("-"));
+    }
+    hooks::begin(allowance);
+    ASKED.set(0);
+    let found = match kind {
+        Kind::Covering => coverer.covering(&region).0,
+        Kind::Cellunion | Kind::Raw => outer(&coverer, &region),
+        Kind::Interior => coverer.interior_covering(&region).0,
+        Kind::Icellunion | Kind::Iraw => coverer.interior_cellunion(&region).0,
+        Kind::Fast => coverer.fast_covering(&region).0,
+    };
+    let run = hooks::end();
+    if trace {
+        let mut text = run.taken.len().to_string();
+        for (cost, id) in run.taken {
+            text.push_str(&format!(" {cost}:{id:016x}"));
+        }
+        return Ok(text);
+    }
+    if run.refused != 0 {
+        return refused(run.refused);
+    }
+    let found = if kind == Kind::Raw || kind == Kind::Iraw { run.raw } else { found };
+    if cfg!(hooked) && (run.long || found.len() as u64 > out) {
+        return refused(10);
+    }
+    let numbers = if cfg!(hooked) { format!("{} {}", run.steps, run.aside) } else { String::from("- -") };
+    Ok(format!("ok {numbers} {}", list(&found)))
+}
+
+fn probe(question: &str, fields: &mut Fields) -> Result<String, Word> {
+    Ok(match question {
+        "valid" => truth(CellID(fields.bits()?).is_valid()),
+        "is_unit" => truth(fields.vector()?.is_unit()),
+        "cell_contains_point" => {
+            let point = fields.point()?;
+            truth(Cell::from(fields.id()?).contains_point(&point))
+        }
+        "cap_contains_cell" => {
+            let cap = fields.cap()?;
+            truth(cap.contains_cell(&Cell::from(fields.id()?)))
+        }
+        "cap_intersects_cell" => {
+            let cap = fields.cap()?;
+            truth(cap.intersects_cell(&Cell::from(fields.id()?)))
+        }
+        "common_ancestor_level" => {
+            let (a, b) = (fields.id()?, fields.id()?);
+            a.common_ancestor_level(&b).map_or(String::from("-1"), |level| level.to_string())
+        }
+        "level" => level(fields.radius()?).to_string(),
+        "levels" => {
+            let (first, count) = (fields.radius()?.to_bits(), fields.number()?);
+            let last = first.saturating_add(count.saturating_sub(1));
+            if count == 0 || count > 10_000_000 || !(f64::from_bits(last) <= 4.) {
+                return Err("domain");
+            }
+            let mut runs: Vec<(u64, u64)> = Vec::new();
+            for bits in first..=last {
+                let found = level(f64::from_bits(bits));
+                match runs.last_mut() {
+                    Some((before, many)) if *before == found => *many += 1,
+                    _ => runs.push((found, 1)),
+                }
+            }
+            runs.iter().map(|(found, many)| format!("{found}:{many}")).collect::<Vec<_>>().join(" ")
+        }
+        "face_ij_orientation" => {
+            let (f, i, j, o) = fields.id()?.face_ij_orientation();
+            format!("{f} {i} {j} {o}")
+        }
+        "cellid_from_point" => format!("{:016x}", CellID::from(fields.point()?).0),
+        "vertices" => points(&Cell::from(fields.id()?).vertices()),
+        "edges" => {
+            let cell = Cell::from(fields.id()?);
+            points(&[cell.edge(0), cell.edge(1), cell.edge(2), cell.edge(3)])
+        }
+        "cell_cap_bound" => {
+            let cap = Cell::from(fields.id()?).cap_bound();
+            format!("{} {}", points(&[cap.center]), float(cap.radius.0))
+        }
+        "sqrt" => float(fields.any_float()?.sqrt()),
+        "st_to_uv" => float(s2::stuv::st_to_uv(fields.float()?)),
+        "uv_to_st" => float(s2::stuv::uv_to_st(fields.float()?)),
+        "vertex_neighbors" => {
+            let (id, level) = (fields.id()?, fields.number()?);
+            if level >= id.level() {
+                return Err("level");
+            }
+            list(&id.vertex_neighbors(level))
+        }
+        "bound" => list(&fields.region()?.ok_or("domain")?.cell_union_bound()),
+        "normalize" => {
+            let mut union = CellUnion(fields.ids()?);
+            union.normalize();
+            list(&union.0)
+        }
+        "denormalize" => {
+            let (min, step) = (fields.number()?, fields.number()?);
+            if min > 30 || !(1..=3).contains(&step) {
+                return Err("domain");
+            }
+            let mut union = CellUnion(fields.ids()?);
+            if hooks::denormalized(&union.0, min, step) > hooks::ROOM {
+                return Err("room");
+            }
+            union.denormalize(min, step);
+            list(&union.0)
+        }
+        "normalize_covering" => {
+            let numbers = Numbers::read(fields)?;
+            let bound = fields.ids()?;
+            if numbers.refusal() != 0 {
+                return Err("domain");
+            }
+            if may_be_long(&bound, &numbers) {
+                return Ok(String::from("cut"));
+            }
+            hooks::begin(0);
+            let found = numbers.coverer().fast_covering(&Bound(bound)).0;
+            if hooks::end().long {
+                return Err("room");
+            }
+            list(&found)
+        }
+        "starts" => {
+            let numbers = Numbers::read(fields)?;
+            let region = fields.region()?;
+            if numbers.refusal() != 0 {
+                return Err("domain");
+            }
+            let region = region.ok_or("domain")?;
+            if !cfg!(hooked) {
+                return Ok(String::from("-"));
+            }
+            hooks::begin(0);
+            ASKED.set(0);
+            numbers.coverer().covering(&region);
+            list(&hooks::end().starts)
+        }
+        _ => return Err("unknown"),
+    })
+}
+
+fn question(line: &str) -> Result<String, Word> {
+    let fields: Vec<&str> = line.split([' ', '\t', '\r']).filter(|field| !field.is_empty()).collect();
+    let mut fields = Fields(fields.into_iter().peekable());
+    let mut word = fields.word()?;
+    let trace = word == "trace";
+    if trace {
+        word = fields.word()?;
+    }
+    let answer = match kind(word) {
+        Some(kind) => cover(kind, &mut fields, trace)?,
+        None if trace => return Err("kind"),
+        None => probe(word, &mut fields)?,
+    };
+    fields.end()?;
+    Ok(answer)
+}
+
+fn answer(number: u64, line: &[u8]) -> String {
+    let text = match std::str::from_utf8(line) {
+        Ok(text) if text.is_ascii() => text,
+        _ => return format!("error {number} bytes"),
+    };
+    match catch_unwind(AssertUnwindSafe(|| question(text))) {
+        Ok(Ok(answer)) => answer,
+        Ok(Err(word)) => format!("error {number} {word}"),
+        Err(cause) if cause.is::<Cut>() => String::from("cut"),
+        Err(_) => String::from("panic"),
+    }
+}
+
+fn main() {
+    // RLIMIT_AS is 9 on Linux. The largest list that is ever built stays far below the bound.
+    assert_eq!(unsafe { setrlimit(9, &[MEMORY, MEMORY]) }, 0, "no memory bound");
+    let report = std::panic::take_hook();
+    std::panic::set_hook(Box::new(move |info| {
+        if !info.payload().is::<Cut>() {
+            report(info)
+        }
+    }));
+    let mut input = std::io::stdin().lock();
+    let mut output = std::io::stdout().lock();
+    let (mut number, mut line) = (0, Vec::new());
+    loop {
+        line.clear();
+        if input.read_until(b'\n', &mut line).expect("standard input") == 0 {
+            return;
+        }
+        number += 1;
+        let text = line.strip_suffix(b"\n").unwrap_or(&line);
+        if text.is_empty() || text[0] == b'#' {
+            continue;
+        }
+        unsafe { alarm(SECONDS) };
+        let answer = answer(number, text);
+        unsafe { alarm(0) };
+        if writeln!(output, "{answer}").and_then(|()| output.flush()).is_err() {
+            return;
+        }
+    }
+}
