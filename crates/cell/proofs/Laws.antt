@@ -5,7 +5,7 @@ use native.Mathlib.Nat.{div-mul-le-self, mod-eq-of-lt, div-lt-iff-lt-mul, mul-le
 use native.Mathlib.Omega.{arith}
 use lib.Pow.{pow-add, pow-pos}
 use Rattle.cellid.specs.CellId as CellId
-use Rattle.cell.specs.Cell.{firstAt, cellOf}
+use Rattle.cell.specs.Cell.{cellOf}
 use Rattle.hilbert.proofs.Laws.{face-ij-in}
 
 -- of 0 to 3, what is none of 0, 1 and 2

@@ -4,16 +4,17 @@ use mathlib.Core.Path.{_≡_, refl, sym, ap, _∙_, subst}
 use mathlib.Core.Logic.{_⊎_, inl, inr, ⊎-elim, _↔_}
 use mathlib.Core.Bool.{Bool, true, false, _&&_}
 use Prim.Native.Nat.{ℕ, zero, suc, _+_, _-_, _*_, _/_, _^_, _≤_, _<_, max}
-use native.Mathlib.Nat.{le-trans, mul-comm, mul-assoc, eq-of-mul-eq-mul-right, div-lt-iff-lt-mul, eq-or-lt-of-le, le-of-suc-le-suc, div-div-eq-div-mul, lt-div-mul-add}
+use native.Mathlib.Nat.{le-trans, mul-comm, mul-assoc, eq-of-mul-eq-mul-right, div-lt-iff-lt-mul, eq-or-lt-of-le, le-of-suc-le-suc, div-div-eq-div-mul}
 use native.Mathlib.Omega.{arith}
-use lib.Bits.{bitXor, xor-shr, xor-self, xor-lt}
+use lib.Bits.{bitXor, xor-lt}
 use lib.Count.{leadingZeros, leading-top, leading-le}
 use lib.Dec.{leb, ltb, eqb}
 use lib.Pow.{pow-pos, pow-add, pow-lt, pow-mono}
-use borrow.Author.Tests.{leb-true, ltb-true, ltb-false, eqb-true, le-leb, lt-leb, lt-ltb, le-ltb, eq-eqb}
+use borrow.Author.Tests.{leb-true, ltb-true, eqb-true, le-leb, lt-leb, lt-ltb, le-ltb, eq-eqb}
 use Rattle.cellid.specs.CellId.{Cell, IsCell, idOf, bitAt, placeAt, faceOf, lowBit, levelOf, parentAt, holds, SameAt, sameAt, deepest, commonLevel}
 use Rattle.cellid.specs.declared.Common.{Common}
-use Rattle.cellid.proofs.Leaves.{which, no, holds-deeper}
+use Rattle.cellid.proofs.Leaves.{holds-deeper, Depth, deeper, higher, depth}
+use Rattle.cellid.proofs.Bits.{never, xor-below}
 use Rattle.cellid.proofs.Laws.{and-true, bool-iff, no-true, level-le, same-above, low-cell, low-pos, low-small, level-cell, parent-id, cell-lt}
 
 -- ---- the ancestor at a level
@@ -88,7 +89,7 @@ deepest-level a b (suc n) K false e s =
     let r = deepest-level a b n K (sameAt a b n) (rw (deepest, s) at e) refl in (
       r .0,
       λ N h g. ⊎-elim
-          (λ (q : N ≡ suc n). no (sym (same← a b N g) ∙ ap (sameAt a b) q ∙ s))
+          (λ (q : N ≡ suc n). never (sym (same← a b N g) ∙ ap (sameAt a b) q ∙ s))
           (λ (q : N < suc n). r .1 N (le-of-suc-le-suc q) g)
           (eq-or-lt-of-le h),
     )
@@ -101,12 +102,9 @@ common-level a b K e = let r = deepest-level a b 30 K (sameAt a b 30) e refl in 
 deepest-nothing : (a b n : ℕ) → deepest a b n ≡ Common.Nothing → sameAt a b 0 ≡ false
 unfolding deepest
 deepest-nothing a b zero e = no-true _ (λ t. let f : Common.Level 0 ≡ Common.Nothing = rw (deepest, t) at e in let z : _≡_ {A = ℕ} 0 1 = cc in omega arith)
-deepest-nothing a b (suc n) e = deepest-nothing a b n
-    (by-bool (sameAt a b (suc n)) (λ t. let f : Common.Level (suc n) ≡ Common.Nothing = rw (deepest, t) at e in let z : _≡_ {A = ℕ} 0 1 = cc in absurd (omega arith)) (λ t. rw (deepest, t) at e))
-  where
-    by-bool : {A : Type 0} (t : Bool) → (t ≡ true → A) → (t ≡ false → A) → A
-    by-bool true f g = f refl
-    by-bool false f g = g refl
+deepest-nothing a b (suc n) e =
+    let f = no-true (sameAt a b (suc n)) (λ t. let g : Common.Level (suc n) ≡ Common.Nothing = rw (deepest, t) at e in let z : _≡_ {A = ℕ} 0 1 = cc in omega arith) in
+    deepest-nothing a b n (rw (deepest, f) at e)
 
 -- the ancestor at the level 0 is the face
 same-face : (a b N : ℕ) → N ≤ 30 → parentAt a N ≡ parentAt b N → faceOf a ≡ faceOf b
@@ -123,7 +121,7 @@ level-or-nothing Common.Nothing = inr refl
 -- there is none exactly where the faces differ
 pub common-nothing : (a b : ℕ) → (commonLevel a b ≡ Common.Nothing) ↔ (faceOf a ≡ faceOf b → ⊥)
 common-nothing a b = (
-  λ e f. no (sym (same← a b 0 (omega arith, omega arith, parents← a b 0 f)) ∙ deepest-nothing a b 30 (unfold commonLevel in e)),
+  λ e f. never (sym (same← a b 0 (omega arith, omega arith, parents← a b 0 f)) ∙ deepest-nothing a b 30 (unfold commonLevel in e)),
   λ d. ⊎-elim
       (λ (r : (K : ℕ) × (commonLevel a b ≡ Common.Level K)).
       let s = common-level a b (r .0) (r .1) .0 in absurd (d (same-face a b (r .0) (le-trans (s .0) (level-le a)) (s .2))))
@@ -137,13 +135,12 @@ common-nothing a b = (
 abbrev pub spread : ℕ → ℕ → ℕ
 spread a b = max (max (bitXor a b) (lowBit a)) (lowBit b)
 
-xor-below : (a b k : ℕ) → a / 2 ^ k ≡ b / 2 ^ k → bitXor a b < 2 ^ k
-xor-below a b k e =
-    let z : bitXor a b / 2 ^ k ≡ 0 = xor-shr a b k ∙ rw (e, xor-self (b / 2 ^ k)) in
-    omega (arith, lt-div-mul-add {a = bitXor a b} {b = 2 ^ k} (pow-pos k), ap (λ (n : ℕ). n * 2 ^ k) z)
-
 pow-less : (i j : ℕ) → 2 ^ i < 2 ^ j → i < j
-pow-less i j h = ⊎-elim (λ (t : ltb i j ≡ true). ltb-true _ _ t) (λ (t : ltb i j ≡ false). absurd (omega (arith, pow-mono {i = j} {j = i} (ltb-false _ _ t)))) (which (ltb i j))
+pow-less i j h = by (depth j i)
+  where
+    by : Depth j i → i < j
+    by (deeper k e) = absurd (omega (arith, pow-mono {i = j} {j = i} (omega arith)))
+    by (higher k e) = omega arith
 
 -- a cell's lowest set bit stands below a level's pair exactly where the cell is at that level or deeper
 low-below : (id N : ℕ) → Cell id → N ≤ 30 → (N ≤ levelOf id) ↔ (lowBit id < 2 ^ (placeAt N + 1))

@@ -1,67 +1,22 @@
--- Laws of cell ids, as used.
-use mathlib.Core.Path.{_≡_, refl, sym, ap, ap₂, _∙_, subst}
-use mathlib.Core.Logic.{⊎-elim}
-use mathlib.Core.Bool.{Bool, true, false, _&&_, Bool·beq}
-use Prim.Native.Nat.{ℕ, zero, suc, _+_, _-_, _*_, _/_, _%_, _^_, _≤_, _<_, min, max}
-use native.Mathlib.Nat.{add-zero, mul-one, one-mul, zero-lt-suc, pow-suc, mul-sub, mul-comm, mul-assoc, add-mul, mul-lt-mul-of-pos-right, lt-of-mul-lt-mul-right, div-div-eq-div-mul, mul-le-mul-right, mod-eq-of-lt, mul-left-comm, mul-div-mul-right, div-mul-le-self, lt-div-mul-add, div-eq-of-lt-le, div-eq-of-lt, pos-of-ne-zero, mul-suc, eq-or-lt-of-le, le-of-suc-le-suc, not-suc-le-zero}
+-- Laws of cell ids: the lowest set bit; what each operation makes of the p-th cell of the level L; cells are the valid ids; which cell contains
+-- and which intersects another.
+use mathlib.Core.Path.{_≡_, refl, sym, ap, _∙_, subst}
+use mathlib.Core.Bool.{true, false, _&&_}
+use Prim.Native.Nat.{ℕ, suc, _+_, _-_, _*_, _/_, _%_, _^_, _≤_, _<_}
+use native.Mathlib.Nat.{one-mul, mul-comm, mul-assoc, mul-left-comm, mul-suc, add-mul, mul-lt-mul-of-pos-right, lt-of-mul-lt-mul-right, div-div-eq-div-mul, mul-le-mul-right, mod-eq-of-lt, mul-div-mul-right, div-mul-le-self, lt-div-mul-add, div-eq-of-lt-le, pos-of-ne-zero}
 use native.Mathlib.Numerals.{add-one}
 use native.Mathlib.Omega.{arith}
+use lib.Bits.{bitAnd, bitOr}
 use lib.Count.{trailingZeros, trailing-of-zero}
-use lib.Pow.{pow-pos, pow-add, pow-lt, pow-mono, shr-mod, shl-shr}
-use lib.Arith.{bin-ind}
 use lib.Dec.{leb, eqb}
+use lib.Pow.{pow-pos, pow-add, pow-lt, pow-mono, shl-shr}
 use borrow.Author.Tests.{leb-true, le-leb, eqb-true, eq-eqb}
-use lib.Bits.{bitAnd, bitOr, bitXor, differ, xor-step, xor-shr, shifted-half, shifted-even, and-step, and-block, and-high, or-block, or-step, or-zero-r, and-comm}
 use Rattle.cellid.specs.CellId.{idOf, lowBit, levelOf, placeOf, bitAt, placeAt, parentAt, childOf, firstLeaf, lastLeaf, holds, meets, validId, IsCell, Cell}
+pub use Rattle.cellid.proofs.Bits.{bool-iff, and-true, no-true, same-bool, every-at, odd-mul, pow-pair, one-shl, zeros-of, odd-part, and-power, same-above}
+unfoldable pub use Rattle.cellid.proofs.Bits.{every}
+use Rattle.cellid.proofs.Bits.{and-neg, parent-bits}
 
--- the lowest set bit of an odd number times 2 ^ t stands at t
-pub zeros-of : (k t m : ℕ) → t < k → trailingZeros k ((2 * m + 1) * 2 ^ t) ≡ t
-unfolding trailingZeros
-zeros-of zero t m h = omega arith
-zeros-of (suc k) zero m h = rw (mul-one (2 * m + 1)) (let e : (2 * m + 1) % 2 ≡ 1 = omega arith in rw e)
-zeros-of (suc k) (suc t) m h = rw (shifted-even (2 * m + 1) t, shifted-half (2 * m + 1) t) (ap suc (zeros-of k t m (omega arith)))
-
--- every number but 0 is an odd number times a power of two
-abbrev pub OddPart : ℕ → ℕ → Type 0
-OddPart k x = (m : ℕ) × (t : ℕ) × (t < k) × (x ≡ (2 * m + 1) * 2 ^ t)
-
-odd-step : (k x : ℕ) → 0 < x → (0 < x / 2 → OddPart k (x / 2)) → (d : ℕ) → x % 2 ≡ d → OddPart (suc k) x
-odd-step k x p ih zero e =
-    let h = ih (omega arith) in
-    (h .0, suc (h .1), omega (arith, h .2), omega (arith, h .3, pow-suc 2 (h .1), mul-assoc (2 * h .0 + 1) (2 ^ h .1) 2, ap (λ (z : ℕ). (2 * h .0 + 1) * z) (pow-suc 2 (h .1))))
-odd-step k x p ih (suc zero) e = (x / 2, 0, zero-lt-suc k, omega (arith, mul-one (2 * (x / 2) + 1)))
-odd-step k x p ih (suc (suc d)) e = absurd (omega arith)
-
-pub odd-part : (k x : ℕ) → 0 < x → x < 2 ^ k → OddPart k x
-odd-part zero x p h = absurd (omega arith)
-odd-part (suc k) x p h = odd-step k x p (λ q. odd-part k (x / 2) q (omega (arith, pow-suc 2 k))) (x % 2) refl
-
--- a number and its complement share no digit
-pub comp-and : (k a : ℕ) → a < 2 ^ k → bitAnd a ((2 ^ k - 1) - a) ≡ 0
-comp-and zero a h = let e : a ≡ 0 = omega arith in rw e
-comp-and (suc k) a h =
-    let half : ((2 ^ suc k - 1) - a) / 2 ≡ (2 ^ k - 1) - a / 2 = omega (arith, pow-suc 2 k) in
-    let digit : min (a % 2) (((2 ^ suc k - 1) - a) % 2) ≡ 0 = omega (arith, pow-suc 2 k) in
-    and-step a ((2 ^ suc k - 1) - a) ∙ rw (half, digit, comp-and k (a / 2) (omega (arith, pow-suc 2 k)))
-
--- x & -x is the lowest set bit
-and-neg-odd : (j m : ℕ) → 2 * m + 1 < 2 ^ suc j → bitAnd (2 * m + 1) (2 ^ suc j - (2 * m + 1)) ≡ 1
-and-neg-odd j m h =
-    let half : (2 ^ suc j - (2 * m + 1)) / 2 ≡ (2 ^ j - 1) - m = omega (arith, pow-suc 2 j) in
-    let half' : (2 * m + 1) / 2 ≡ m = omega arith in
-    let digit : min ((2 * m + 1) % 2) ((2 ^ suc j - (2 * m + 1)) % 2) ≡ 1 = omega (arith, pow-suc 2 j) in
-    and-step (2 * m + 1) (2 ^ suc j - (2 * m + 1)) ∙ rw (half, half', digit, comp-and j m (omega (arith, pow-suc 2 j)))
-
-sub-mul : (a b c : ℕ) → (a - b) * c ≡ a * c - b * c
-sub-mul a b c = mul-comm (a - b) c ∙ mul-sub c a b ∙ ap₂ (λ (x y : ℕ). x - y) (mul-comm c a) (mul-comm c b)
-
-pub and-neg : (j t m : ℕ) → (2 * m + 1) * 2 ^ t < 2 ^ (suc j + t)
-    → bitAnd ((2 * m + 1) * 2 ^ t) (2 ^ (suc j + t) - (2 * m + 1) * 2 ^ t) ≡ 2 ^ t
-and-neg j t m h =
-    let e : 2 ^ (suc j + t) - (2 * m + 1) * 2 ^ t ≡ (2 ^ suc j - (2 * m + 1)) * 2 ^ t = rw (sub-mul, pow-add 2 (suc j) t) in
-    let b : 2 * m + 1 < 2 ^ suc j = lt-of-mul-lt-mul-right (2 ^ t) (rw (← pow-add 2 (suc j) t) h) in
-    rw (e, ← add-zero ((2 * m + 1) * 2 ^ t), ← add-zero ((2 ^ suc j - (2 * m + 1)) * 2 ^ t), and-block t (2 * m + 1) (2 ^ suc j - (2 * m + 1)) 0 0 (pow-pos t) (pow-pos t), and-neg-odd j m b)
-    (add-zero (1 * 2 ^ t) ∙ one-mul (2 ^ t))
+-- ---- the lowest set bit
 
 -- x & -x at 64 bits
 pub low-and : (x : ℕ) → 0 < x → x < 2 ^ 64 → bitAnd x (2 ^ 64 - x) ≡ lowBit x
@@ -96,34 +51,7 @@ low-room x p h =
     let b : 2 * o .0 + 1 < 2 ^ (64 - o .1) = lt-of-mul-lt-mul-right (2 ^ o .1) (rw (w, ← o .3) h) in
     rw z (omega (arith, o .3, mul-le-mul-right (2 ^ o .1) b, w, add-mul (2 * o .0 + 1) 1 (2 ^ o .1), one-mul (2 ^ o .1), add-one (2 * o .0 + 1), ap (λ (n : ℕ). n * 2 ^ o .1) (add-one (2 * o .0 + 1))))
 
--- 1 << t at 64 bits
-pub one-shl : (t : ℕ) → t < 64 → (1 * 2 ^ t) % 2 ^ 64 ≡ 2 ^ t
-one-shl t h = rw (one-mul (2 ^ t)) (mod-eq-of-lt (pow-lt h))
-
--- (x & -2^t) | 2^t clears the digits below t and sets t
-or-one : (a : ℕ) → bitOr a 1 ≡ a / 2 * 2 + 1
-or-one a =
-    let m : max (a % 2) 1 ≡ 1 = omega arith in
-    or-step a 1 ∙ rw (or-zero-r (a / 2), m)
-
-pub or-bit : (a t : ℕ) → bitOr (a * 2 ^ t) (2 ^ t) ≡ (a / 2 * 2 + 1) * 2 ^ t
-or-bit a t =
-    ap₂ bitOr (sym (add-zero (a * 2 ^ t))) (sym (add-zero (1 * 2 ^ t) ∙ one-mul (2 ^ t)))
-    ∙ or-block t a 1 0 0 (pow-pos t) (pow-pos t) ∙ rw (or-one a, add-zero ((a / 2 * 2 + 1) * 2 ^ t))
-
-pub parent-bits : (j t x : ℕ) → x < 2 ^ (j + t)
-    → bitOr (bitAnd x (2 ^ (j + t) - 2 ^ t)) (2 ^ t) ≡ (x / (2 * 2 ^ t)) * (2 * 2 ^ t) + 2 ^ t
-parent-bits j t x h =
-    let q : x / 2 ^ t / 2 ≡ x / (2 * 2 ^ t) = div-div-eq-div-mul x (2 ^ t) 2 ∙ ap (λ (n : ℕ). x / n) (mul-comm (2 ^ t) 2) in
-    rw (and-high x j t, shr-mod j t h, or-bit (x / 2 ^ t) t, q, add-mul, mul-assoc, one-mul)
-
-pub parent-is : (x L : ℕ) → L ≤ 30 → x < 2 ^ 64 → bitOr (bitAnd x (2 ^ 64 - bitAt L)) (bitAt L) ≡ parentAt x L
-unfolding parentAt
-parent-is x L l h =
-    let w : (64 - placeAt L) + placeAt L ≡ 64 = omega arith in
-    ap (λ (n : ℕ). bitOr (bitAnd x (2 ^ n - bitAt L)) (bitAt L)) (sym w) ∙ parent-bits (64 - placeAt L) (placeAt L) x (rw w h)
-
--- ---- the normal form
+-- ---- the p-th cell of the level L
 
 pub zeros-id : (L p : ℕ) → trailingZeros 64 (idOf L p) ≡ placeAt L
 unfolding idOf
@@ -137,10 +65,6 @@ pub level-id : (L p : ℕ) → L ≤ 30 → levelOf (idOf L p) ≡ L
 unfolding levelOf
 level-id L p h = rw (zeros-id L p) (omega arith)
 
--- products of two variables, laid out for `omega`
-pub odd-mul : (p C : ℕ) → (2 * p + 1) * C ≡ 2 * (p * C) + C
-odd-mul p C = add-mul (2 * p) 1 C ∙ ap₂ (λ (x y : ℕ). x + y) (mul-assoc 2 p C) (one-mul C)
-
 pub place-id : (L p : ℕ) → placeOf (idOf L p) ≡ p
 unfolding placeOf idOf
 place-id L p =
@@ -152,10 +76,6 @@ pub bit-up : (L k : ℕ) → L + k ≤ 30 → bitAt L ≡ 2 ^ (2 * k) * bitAt (L
 bit-up L k h =
     let e : 2 * (30 - L) ≡ 2 * k + 2 * (30 - (L + k)) = omega arith in
     rw (← pow-add 2 (2 * k) (2 * (30 - (L + k)))) (ap (λ (n : ℕ). 2 ^ n) e)
-
--- one level more, four times as many
-pub pow-pair : (n m : ℕ) → m ≡ n + 1 → 2 ^ (2 * m) ≡ 4 * 2 ^ (2 * n)
-pow-pair n m h = let e : 2 * m ≡ 2 + 2 * n = omega arith in ap (λ (k : ℕ). 2 ^ k) e ∙ pow-add 2 2 (2 * n)
 
 child-core : (p k C : ℕ) → ((2 * p + 1) * (4 * C) - 4 * C) + (2 * k + 1) * (4 * C / 4) ≡ (2 * (4 * p + k) + 1) * C
 child-core p k C =
@@ -177,6 +97,13 @@ pub parent-id : (L k q : ℕ) → L + k ≤ 30 → parentAt (idOf (L + k) q) L �
 unfolding parentAt idOf
 parent-id L k q h = rw (bit-up L k h) (parent-core q (2 ^ (2 * k)) (bitAt (L + k)) (pow-pos (2 * k)) (pow-pos (placeAt (L + k))))
 
+-- (x & -low) | low, at 64 bits
+pub parent-is : (x L : ℕ) → L ≤ 30 → x < 2 ^ 64 → bitOr (bitAnd x (2 ^ 64 - bitAt L)) (bitAt L) ≡ parentAt x L
+unfolding parentAt
+parent-is x L l h =
+    let w : (64 - placeAt L) + placeAt L ≡ 64 = omega arith in
+    ap (λ (n : ℕ). bitOr (bitAnd x (2 ^ n - bitAt L)) (bitAt L)) (sym w) ∙ parent-bits (64 - placeAt L) (placeAt L) x (rw w h)
+
 -- the leaves of a cell, as places
 pub first-id : (L p : ℕ) → firstLeaf (idOf L p) ≡ 2 * (p * bitAt L) + 1
 unfolding firstLeaf idOf
@@ -186,17 +113,83 @@ pub last-id : (L p : ℕ) → lastLeaf (idOf L p) + 1 ≡ 2 * (p * bitAt L) + 2 
 unfolding lastLeaf idOf
 last-id L p = rw (low-id L p) (omega (arith, odd-mul p (bitAt L), pow-pos (placeAt L)))
 
--- ---- what holds what
+-- ---- a cell
 
-pub bool-iff : (a b : Bool) → (a ≡ true → b ≡ true) → (b ≡ true → a ≡ true) → a ≡ b
-bool-iff true true f g = refl
-bool-iff true false f g = sym (f refl)
-bool-iff false true f g = g refl
-bool-iff false false f g = refl
+pub level-le : (id : ℕ) → levelOf id ≤ 30
+unfolding levelOf
+level-le id = omega arith
 
-pub and-true : (a b : Bool) → (a && b) ≡ true → (a ≡ true) × (b ≡ true)
-and-true true b e = (refl, e)
-and-true false b e = let z : false ≡ true = e in (z, cc)
+pub level-cell : (id L p : ℕ) → IsCell id L p → levelOf id ≡ L
+level-cell id L p c = ap levelOf (c .is) ∙ level-id L p (c .level)
+
+pub low-cell : (id L p : ℕ) → IsCell id L p → lowBit id ≡ bitAt L
+low-cell id L p c = ap lowBit (c .is) ∙ low-id L p
+
+pub cell-pos : (id L p : ℕ) → IsCell id L p → 0 < id
+unfolding idOf
+cell-pos id L p c = rw (c .is) (omega (arith, odd-mul p (bitAt L), pow-pos (placeAt L)))
+
+pub cell-lt : (id L p : ℕ) → IsCell id L p → id < 12 * 2 ^ 60
+unfolding idOf
+cell-lt id L p c =
+    let u : 2 * L + placeAt L ≡ 60 = omega (arith, c .level) in
+    let w : 2 ^ (2 * L) * bitAt L ≡ 2 ^ 60 = sym (pow-add 2 (2 * L) (placeAt L)) ∙ ap (λ (n : ℕ). 2 ^ n) u in
+    let s : 12 * 2 ^ (2 * L) * bitAt L ≡ 12 * 2 ^ 60 = mul-assoc 12 (2 ^ (2 * L)) (bitAt L) ∙ ap (λ (n : ℕ). 12 * n) w in
+    rw (c .is, ← s) (mul-lt-mul-of-pos-right (omega (arith, c .place)) (pow-pos (placeAt L)))
+
+pub low-small : (id : ℕ) → Cell id → lowBit id ≤ 2 ^ 60
+low-small id c = rw (low-cell id (c .0) (c .1) (c .2)) (pow-mono {i = placeAt (c .0)} {j = 60} (omega arith))
+
+-- the weight one level up, by a shift
+pub shl-two : (L : ℕ) → L < 30 → (bitAt (L + 1) * 2 ^ 2) % 2 ^ 64 ≡ bitAt L
+shl-two L h =
+    let e : bitAt (L + 1) * 2 ^ 2 ≡ bitAt L = mul-comm (bitAt (L + 1)) 4 ∙ sym (bit-up L 1 (omega arith)) in
+    rw e (mod-eq-of-lt (pow-lt {i = placeAt L} {j = 64} (omega arith)))
+
+-- ---- the cells are the valid ids, and each is one place of one level
+
+cell-core : (id m t : ℕ) → id ≡ (2 * m + 1) * 2 ^ t → id / 2 ^ 61 ≤ 5 → t ≤ 60 → t % 2 ≡ 0 → IsCell id (30 - t / 2) m
+unfolding idOf
+cell-core id m t e face top even =
+    let place : 2 * (30 - (30 - t / 2)) ≡ t = omega arith in
+    let u : 2 * (30 - t / 2) + t ≡ 60 = omega arith in
+    let w : 2 ^ (2 * (30 - t / 2)) * 2 ^ t ≡ 2 ^ 60 = sym (pow-add 2 (2 * (30 - t / 2)) t) ∙ ap (λ (n : ℕ). 2 ^ n) u in
+    let b : 2 * m + 1 < 12 * 2 ^ (2 * (30 - t / 2)) = lt-of-mul-lt-mul-right (2 ^ t) (rw (← e, mul-assoc, w) (omega arith)) in
+    record { level = omega arith; place = omega arith; is = rw place e }
+
+place-core : (id m t : ℕ) → id ≡ (2 * m + 1) * 2 ^ t → id / 2 ^ (t + 1) ≡ m
+place-core id m t e =
+    let half : (2 * m + 1) / 2 ≡ m = omega arith in
+    rw (e, pow-add 2 t 1, ← div-div-eq-div-mul ((2 * m + 1) * 2 ^ t) (2 ^ t) 2, shl-shr (2 * m + 1) t, half)
+
+pub valid-cell : (id : ℕ) → id < 2 ^ 64 → validId id ≡ true → IsCell id (levelOf id) (placeOf id)
+unfolding validId levelOf placeOf
+valid-cell id h v =
+    let r = and-true (leb (id / 2 ^ 61) 5) (leb (trailingZeros 64 id) 60 && eqb (trailingZeros 64 id % 2) 0) v in
+    let s = and-true (leb (trailingZeros 64 id) 60) (eqb (trailingZeros 64 id % 2) 0) (r .1) in
+    let top : trailingZeros 64 id ≤ 60 = leb-true _ _ (s .0) in
+    let pos : 0 < id = pos-of-ne-zero (λ e. let z : trailingZeros 64 id ≡ 64 = ap (trailingZeros 64) e ∙ trailing-of-zero 64 in omega arith) in
+    let o = odd-part 64 id pos h in
+    let z : trailingZeros 64 id ≡ o .1 = ap (trailingZeros 64) (o .3) ∙ zeros-of 64 (o .1) (o .0) (o .2) in
+    let e : id ≡ (2 * o .0 + 1) * 2 ^ trailingZeros 64 id = o .3 ∙ ap (λ (n : ℕ). (2 * o .0 + 1) * 2 ^ n) (sym z) in
+    let g = cell-core id (o .0) (trailingZeros 64 id) e (leb-true _ _ (r .0)) top (eqb-true _ _ (s .1)) in
+    subst (λ (m : ℕ). IsCell id (30 - trailingZeros 64 id / 2) m) (sym (place-core id (o .0) (trailingZeros 64 id) e)) g
+
+pub cell-valid : (id L p : ℕ) → IsCell id L p → validId id ≡ true
+unfolding validId
+cell-valid id L p c =
+    let z : trailingZeros 64 id ≡ placeAt L = ap (trailingZeros 64) (c .is) ∙ zeros-id L p in
+    let f : id / 2 ^ 61 ≤ 5 = omega (arith, cell-lt id L p c) in
+    let e : placeAt L % 2 ≡ 0 = omega arith in
+    rw (z, le-leb (id / 2 ^ 61) 5 f, le-leb (placeAt L) 60 (omega arith), eq-eqb (placeAt L % 2) 0 e)
+
+pub cell-unique : (id L p M q : ℕ) → IsCell id L p → IsCell id M q → (L ≡ M) × (p ≡ q)
+cell-unique id L p M q c d = (
+  sym (level-id L p (c .level)) ∙ ap levelOf (sym (c .is) ∙ d .is) ∙ level-id M q (d .level),
+  sym (place-id L p) ∙ ap placeOf (sym (c .is) ∙ d .is) ∙ place-id M q,
+)
+
+-- ---- which cell contains another
 
 -- 2pDC < (2q + 1)C < (2p + 2)DC says that q / D is p
 module _ (p q D C : ℕ) (c : 0 < C) (d : 0 < D) where
@@ -237,81 +230,6 @@ holds-id L k p q h =
     (λ t. let r = under← p q D C c d (eqb-true _ _ t) in
     rw (le-leb (firstLeaf (idOf L p)) (idOf (L + k) q) (omega (arith, f, e, r .0)), le-leb (idOf (L + k) q) (lastLeaf (idOf L p)) (omega (arith, g, e, r .1))))
 
--- ---- valid ids are the cells
-
-cell-core : (id m t : ℕ) → id ≡ (2 * m + 1) * 2 ^ t → id / 2 ^ 61 ≤ 5 → t ≤ 60 → t % 2 ≡ 0 → IsCell id (30 - t / 2) m
-unfolding idOf
-cell-core id m t e face top even =
-    let place : 2 * (30 - (30 - t / 2)) ≡ t = omega arith in
-    let u : 2 * (30 - t / 2) + t ≡ 60 = omega arith in
-    let w : 2 ^ (2 * (30 - t / 2)) * 2 ^ t ≡ 2 ^ 60 = sym (pow-add 2 (2 * (30 - t / 2)) t) ∙ ap (λ (n : ℕ). 2 ^ n) u in
-    let b : 2 * m + 1 < 12 * 2 ^ (2 * (30 - t / 2)) = lt-of-mul-lt-mul-right (2 ^ t) (rw (← e, mul-assoc, w) (omega arith)) in
-    record { level = omega arith; place = omega arith; is = rw place e }
-
-place-core : (id m t : ℕ) → id ≡ (2 * m + 1) * 2 ^ t → id / 2 ^ (t + 1) ≡ m
-place-core id m t e =
-    let half : (2 * m + 1) / 2 ≡ m = omega arith in
-    rw (e, pow-add 2 t 1, ← div-div-eq-div-mul ((2 * m + 1) * 2 ^ t) (2 ^ t) 2, shl-shr (2 * m + 1) t, half)
-
-pub valid-cell : (id : ℕ) → id < 2 ^ 64 → validId id ≡ true → IsCell id (levelOf id) (placeOf id)
-unfolding validId levelOf placeOf
-valid-cell id h v =
-    let r = and-true (leb (id / 2 ^ 61) 5) (leb (trailingZeros 64 id) 60 && eqb (trailingZeros 64 id % 2) 0) v in
-    let s = and-true (leb (trailingZeros 64 id) 60) (eqb (trailingZeros 64 id % 2) 0) (r .1) in
-    let top : trailingZeros 64 id ≤ 60 = leb-true _ _ (s .0) in
-    let pos : 0 < id = pos-of-ne-zero (λ e. let z : trailingZeros 64 id ≡ 64 = ap (trailingZeros 64) e ∙ trailing-of-zero 64 in omega arith) in
-    let o = odd-part 64 id pos h in
-    let z : trailingZeros 64 id ≡ o .1 = ap (trailingZeros 64) (o .3) ∙ zeros-of 64 (o .1) (o .0) (o .2) in
-    let e : id ≡ (2 * o .0 + 1) * 2 ^ trailingZeros 64 id = o .3 ∙ ap (λ (n : ℕ). (2 * o .0 + 1) * 2 ^ n) (sym z) in
-    let g = cell-core id (o .0) (trailingZeros 64 id) e (leb-true _ _ (r .0)) top (eqb-true _ _ (s .1)) in
-    subst (λ (m : ℕ). IsCell id (30 - trailingZeros 64 id / 2) m) (sym (place-core id (o .0) (trailingZeros 64 id) e)) g
-
--- ---- where two numbers differ
-
-differ-zero : (x y : ℕ) → differ x y ≡ 0 → x ≡ y
-differ-zero zero y e = sym e
-differ-zero (suc x) zero e = e
-differ-zero (suc x) (suc y) e = ap suc (differ-zero x y e)
-
-xor-zero : (a b : ℕ) → bitXor a b ≡ 0 → a ≡ b
-xor-zero = bin-ind (λ (n : ℕ). (b : ℕ) → bitXor n b ≡ 0 → n ≡ b) (λ b e. sym e)
-    (λ n ih b e. let s : bitXor (n / 2) (b / 2) * 2 + differ (n % 2) (b % 2) ≡ 0 = sym (xor-step n b) ∙ e in
-    let d : n % 2 ≡ b % 2 = differ-zero (n % 2) (b % 2) (omega arith) in
-    let h : n / 2 ≡ b / 2 = ih (b / 2) (omega arith) in
-    omega arith)
-
--- the digits from k on agree exactly where the exclusive or is below 2 ^ k
-pub same-above : (a b k : ℕ) → bitXor a b < 2 ^ k → a / 2 ^ k ≡ b / 2 ^ k
-same-above a b k h = xor-zero (a / 2 ^ k) (b / 2 ^ k) (sym (xor-shr a b k) ∙ div-eq-of-lt h)
-
--- ---- the cells are the valid ids, and each is one cell only
-
-pub cell-lt : (id L p : ℕ) → IsCell id L p → id < 12 * 2 ^ 60
-unfolding idOf
-cell-lt id L p c =
-    let u : 2 * L + placeAt L ≡ 60 = omega (arith, c .level) in
-    let w : 2 ^ (2 * L) * bitAt L ≡ 2 ^ 60 = sym (pow-add 2 (2 * L) (placeAt L)) ∙ ap (λ (n : ℕ). 2 ^ n) u in
-    let s : 12 * 2 ^ (2 * L) * bitAt L ≡ 12 * 2 ^ 60 = mul-assoc 12 (2 ^ (2 * L)) (bitAt L) ∙ ap (λ (n : ℕ). 12 * n) w in
-    rw (c .is, ← s) (mul-lt-mul-of-pos-right (omega (arith, c .place)) (pow-pos (placeAt L)))
-
-pub cell-valid : (id L p : ℕ) → IsCell id L p → validId id ≡ true
-unfolding validId
-cell-valid id L p c =
-    let z : trailingZeros 64 id ≡ placeAt L = ap (trailingZeros 64) (c .is) ∙ zeros-id L p in
-    let f : id / 2 ^ 61 ≤ 5 = omega (arith, cell-lt id L p c) in
-    let e : placeAt L % 2 ≡ 0 = omega arith in
-    rw (z, le-leb (id / 2 ^ 61) 5 f, le-leb (placeAt L) 60 (omega arith), eq-eqb (placeAt L % 2) 0 e)
-
-pub cell-unique : (id L p M q : ℕ) → IsCell id L p → IsCell id M q → (L ≡ M) × (p ≡ q)
-cell-unique id L p M q c d = (
-  sym (level-id L p (c .level)) ∙ ap levelOf (sym (c .is) ∙ d .is) ∙ level-id M q (d .level),
-  sym (place-id L p) ∙ ap placeOf (sym (c .is) ∙ d .is) ∙ place-id M q,
-)
-
-pub no-true : (b : Bool) → (b ≡ true → ⊥) → b ≡ false
-no-true true f = absurd (f refl)
-no-true false f = refl
-
 omega-four : (x : ℕ) → x * 4 ≡ 2 * (2 * x)
 omega-four x = omega arith
 
@@ -344,32 +262,7 @@ holds-not L k p q h =
     (omega (arith, lo, e, first-id (L + suc k) q))
     (omega (arith, hi, e, last-id (L + suc k) q)))
 
--- ---- a mask that picks places
-
--- one bit of a mask
-pub and-power : (m t : ℕ) → bitAnd (2 ^ t) m ≡ (m / 2 ^ t % 2) * 2 ^ t
-and-power m t =
-    let e : 2 ^ t ≡ 2 ^ (1 + t) - 2 ^ t = omega (arith, pow-add 2 1 t) in
-    and-comm (2 ^ t) m ∙ ap (bitAnd m) e ∙ and-high m 1 t
-
-unfoldable pub every : ℕ → (ℕ → Bool) → Bool
-every zero f = true
-every (suc n) f = f n && every n f
-
-pub every-at : (n : ℕ) (f : ℕ → Bool) → every n f ≡ true → (k : ℕ) → k < n → f k ≡ true
-unfolding every
-every-at zero f e k h = absurd (not-suc-le-zero h)
-every-at (suc n) f e k h =
-    let r = and-true (f n) (every n f) e in
-    ⊎-elim (λ (q : k ≡ n). rw q (r .0)) (λ (q : k < n). every-at n f (r .1) k q) (eq-or-lt-of-le (le-of-suc-le-suc h))
-
-pub same-bool : (a b : Bool) → Bool·beq a b ≡ true → a ≡ b
-same-bool true true e = refl
-same-bool true false e = sym e
-same-bool false true e = e
-same-bool false false e = refl
-
--- ---- two cells share a leaf exactly where one holds the other
+-- ---- which cell intersects another: the same as contains, from the higher of the two
 
 module _ (p q D C : ℕ) (c : 0 < C) (d : 0 < D) where
   share→ : q * C < p * (D * C) + D * C → p * (D * C) < q * C + C → q / D ≡ p
@@ -398,26 +291,3 @@ meets-id L k p q h =
     (λ t. let r = under← p q D C c d (eqb-true _ _ t) in
     let o = odd-mul q C in
     rw (le-leb (firstLeaf (idOf (L + k) q)) (lastLeaf (idOf L p)) (omega (arith, fb, la, r .1, o)), le-leb (firstLeaf (idOf L p)) (lastLeaf (idOf (L + k) q)) (omega (arith, fa, lb, r .0, o))))
-
--- the weight one level up, by a shift
-pub shl-two : (L : ℕ) → L < 30 → (bitAt (L + 1) * 2 ^ 2) % 2 ^ 64 ≡ bitAt L
-shl-two L h =
-    let e : bitAt (L + 1) * 2 ^ 2 ≡ bitAt L = mul-comm (bitAt (L + 1)) 4 ∙ sym (bit-up L 1 (omega arith)) in
-    rw e (mod-eq-of-lt (pow-lt {i = placeAt L} {j = 64} (omega arith)))
-
-pub cell-pos : (id L p : ℕ) → IsCell id L p → 0 < id
-unfolding idOf
-cell-pos id L p c = rw (c .is) (omega (arith, odd-mul p (bitAt L), pow-pos (placeAt L)))
-
-pub low-cell : (id L p : ℕ) → IsCell id L p → lowBit id ≡ bitAt L
-low-cell id L p c = ap lowBit (c .is) ∙ low-id L p
-
-pub level-cell : (id L p : ℕ) → IsCell id L p → levelOf id ≡ L
-level-cell id L p c = ap levelOf (c .is) ∙ level-id L p (c .level)
-
-pub low-small : (id : ℕ) → Cell id → lowBit id ≤ 2 ^ 60
-low-small id c = rw (low-cell id (c .0) (c .1) (c .2)) (pow-mono {i = placeAt (c .0)} {j = 60} (omega arith))
-
-pub level-le : (id : ℕ) → levelOf id ≤ 30
-unfolding levelOf
-level-le id = omega arith

@@ -3,21 +3,15 @@
 use mathlib.Core.Path.{_≡_, refl, sym, ap, ap₂, _∙_, subst}
 use mathlib.Core.Logic.{_⊎_, inl, inr, ⊎-elim, _↔_}
 use mathlib.Core.Bool.{Bool, true, false, _&&_}
-use Prim.Native.Nat.{ℕ, suc, _+_, _-_, _*_, _/_, _%_, _^_, _≤_, _<_}
-use native.Mathlib.Nat.{mul-comm, mul-one, mul-div-cancel, div-mul-le-self, lt-div-mul-add, div-eq-of-lt-le, div-div-eq-div-mul, add-mul, one-mul, mul-lt-mul-of-pos-right}
+use Prim.Native.Nat.{ℕ, suc, _+_, _-_, _*_, _/_, _%_, _^_, _≤_, _<_, zero}
+use native.Mathlib.Nat.{zero-add, mul-comm, mul-one, mul-div-cancel, div-mul-le-self, lt-div-mul-add, div-eq-of-lt-le, div-div-eq-div-mul, add-mul, one-mul, mul-lt-mul-of-pos-right}
 use native.Mathlib.Omega.{arith}
 use lib.Dec.{leb, eqb}
 use lib.Pow.{pow-pos, pow-lt}
-use borrow.Author.Tests.{leb-true, leb-false, eqb-true, eq-eqb}
+use borrow.Author.Tests.{eqb-true, eq-eqb}
 use Rattle.cellid.specs.CellId.{Cell, IsCell, idOf, bitAt, placeAt, lowBit, childOf, firstLeaf, lastLeaf, leavesOf, holds, under, meets}
 use Rattle.cellid.proofs.Laws.{bit-up, low-cell, level-cell, first-id, last-id, holds-id, holds-not, meets-id, child-id, pow-pair}
-
-pub which : (t : Bool) → (t ≡ true) ⊎ (t ≡ false)
-which true = inl refl
-which false = inr refl
-
-pub no : {A : Type 0} → true ≡ false → A
-no e = let z : _≡_ {A = ℕ} 0 1 = cc in absurd (omega arith)
+use Rattle.cellid.proofs.Bits.{never}
 
 -- ---- where they run
 
@@ -143,8 +137,13 @@ pub data Depth (L M : ℕ) : Type 0 where
   higher : (k : ℕ) → L ≡ M + suc k → Depth L M
 
 pub depth : (L M : ℕ) → Depth L M
-depth L M = ⊎-elim (λ (t : leb L M ≡ true). let h : L ≤ M = leb-true _ _ t in deeper (M - L) (omega arith))
-    (λ (t : leb L M ≡ false). let h : M < L = leb-false _ _ t in higher (L - M - 1) (omega arith)) (which (leb L M))
+depth zero M = deeper M (sym (zero-add M))
+depth (suc L) zero = higher L (sym (zero-add (suc L)))
+depth (suc L) (suc M) = down (depth L M)
+  where
+    down : Depth L M → Depth (suc L) (suc M)
+    down (deeper k e) = deeper k (omega arith)
+    down (higher k e) = higher k (omega arith)
 
 at : {b M q N : ℕ} → IsCell b M q → M ≡ N → IsCell b N q
 at {b} {M} {q} d e = subst (λ (n : ℕ). IsCell b n q) e d
@@ -156,7 +155,7 @@ contains-at {a} {b} {L} {M} {p} {q} c d (deeper k e) =
     (λ t n u. pass-up k c d' n t u, λ f. join k c d' (q * bitAt M) (f _ (under-first d)) (under-first d))
 contains-at {a} {b} {L} {M} {p} {q} c d (higher k e) =
     let f : holds a b ≡ false = ap₂ holds (c .is ∙ ap (λ (n : ℕ). idOf n p) e) (d .is) ∙ holds-not M k q p (omega (arith, c .level)) in
-    (λ t n u. no (sym t ∙ f), λ g. absurd (not-all k (at c e) d g))
+    (λ t n u. never (sym t ∙ f), λ g. absurd (not-all k (at c e) d g))
 
 pub contains-leaves : (a b : ℕ) → Cell a → Cell b → (holds a b ≡ true) ↔ ((n : ℕ) → under b n ≡ true → under a n ≡ true)
 contains-leaves a b (L, p, c) (M, q, d) = contains-at c d (depth L M)
@@ -190,7 +189,11 @@ intersects-leaves a b (L, p, c) (M, q, d) = intersects-at c d (depth L M)
 
 -- two cells are nested or share no leaf
 nested-at : {a b L M p q : ℕ} (k : ℕ) → IsCell a L p → IsCell b M q → M ≡ L + k → (holds a b ≡ true) ⊎ ((n : ℕ) → under a n ≡ true → under b n ≡ true → ⊥)
-nested-at {a} {b} {L} k c d e = ⊎-elim inl (λ (f : holds a b ≡ false). inr (λ n t u. no (sym (join k c (at d e) n t u) ∙ f))) (which (holds a b))
+nested-at {a} {b} k c d e = by (holds a b) refl
+  where
+    by : (t : Bool) → holds a b ≡ t → (holds a b ≡ true) ⊎ ((n : ℕ) → under a n ≡ true → under b n ≡ true → ⊥)
+    by true h = inl h
+    by false h = inr (λ n t u. never (sym (join k c (at d e) n t u) ∙ h))
 
 nested-in : {a b L M p q : ℕ} → IsCell a L p → IsCell b M q → Depth L M → (holds a b ≡ true) ⊎ ((holds b a ≡ true) ⊎ ((n : ℕ) → under a n ≡ true → under b n ≡ true → ⊥))
 nested-in c d (deeper k e) = ⊎-elim inl (λ f. inr (inr f)) (nested-at k c d e)

@@ -5,10 +5,11 @@ use Prim.Native.Nat.{ℕ, zero, suc, _+_, _-_, _≤_, _<_}
 use native.Mathlib.Nat.{add-zero}
 use native.Mathlib.Omega.{arith}
 use native.Mathlib.Numerals.{add-one}
-use lib.ListN.{length, getD, take, drop, set, length-set, take-append-drop, drop-of-length-le}
+use lib.ListN.{length, getD, take, drop, set, replicate, length-set, take-append-drop, drop-of-length-le}
 use lib.Seq.{take-suc-set, drop-set-lt, drop-cons, drop-drop, getD-take, length-take-le}
 use borrow.Author.Tests.{le-leb, lt-leb}
 use Rattle.order.specs.Order.{All}
+use Rattle.order.proofs.WordLaws.{same-word}
 use Rattle.cellunion.specs.declared.Laid.{Laid}
 use Rattle.cellunion.specs.Memory.{zeros, laid, roomFor, laidOver}
 
@@ -18,6 +19,10 @@ pub next-word : (m : List ℕ) (n i : ℕ) → n ≤ length m → i < n → drop
 next-word m n i r h =
     let l : length (take n m) ≡ n = length-take-le n m r in
     drop-cons (take n m) i 0 (omega arith) ∙ ap₂ (λ (x : ℕ) (w : ℕ). x ∷ drop w (take n m)) (getD-take n m i 0 h) (sym (add-one i))
+
+-- what a pass that writes behind itself reads next was not yet written
+pub next-read : (m₀ m : List ℕ) (n i : ℕ) → n ≤ length m₀ → i < n → drop i m ≡ drop i m₀ → drop i (take n m₀) ≡ getD m i 0 ∷ drop (i + 1) (take n m₀)
+next-read m₀ m n i r h e = next-word m₀ n i r h ∙ ap (λ (x : ℕ). x ∷ drop (i + 1) (take n m₀)) (sym (same-word m m₀ i e))
 
 pub no-more : (m : List ℕ) (n i : ℕ) → n ≤ length m → n ≤ i → drop i (take n m) ≡ []
 no-more m n i r h = let l : length (take n m) ≡ n = length-take-le n m r in drop-of-length-le (take n m) {i = i} (omega arith)
@@ -105,6 +110,16 @@ pub length-zeros : (n : ℕ) → length (zeros n) ≡ n
 unfolding zeros
 length-zeros zero = refl
 length-zeros (suc n) = ap suc (length-zeros n)
+
+pub zeros-add : (a b : ℕ) (t : List ℕ) → zeros a ++ (zeros b ++ t) ≡ zeros (a + b) ++ t
+unfolding zeros
+zeros-add zero b t = let e : 0 + b ≡ b = omega arith in rw e
+zeros-add (suc a) b t = let e : suc a + b ≡ suc (a + b) = omega arith in rw e (ap (λ (l : List ℕ). 0 ∷ l) (zeros-add a b t))
+
+pub zeros-replicate : (n : ℕ) → replicate n 0 ≡ zeros n
+unfolding zeros
+zeros-replicate zero = refl
+zeros-replicate (suc n) = ap (λ (l : List ℕ). 0 ∷ l) (zeros-replicate n)
 
 zeros-pop : (n : ℕ) → 0 < n → zeros n ≡ 0 ∷ zeros (n - 1)
 unfolding zeros

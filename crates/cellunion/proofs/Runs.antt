@@ -7,7 +7,7 @@ use Prim.Native.Nat.{ℕ, zero, suc, _+_, _-_, _*_, _≤_, _<_}
 use native.Mathlib.Omega.{arith}
 use native.Mathlib.Numerals.{add-one}
 use lib.ListN.{length, getD, take, drop, set, length-append}
-use lib.Seq.{getD-drop, length-take-le, take-suc, take-at, drop-at, drop-set-lt, getD-set-same, getD-set-other}
+use lib.Seq.{length-take-le, take-suc, take-at, drop-at, drop-set-lt, getD-set-same, getD-set-other}
 use lib.Dec.{ltb}
 use Rattle.cellid.specs.CellId.{Cell, IsCell, holds}
 use Rattle.cellid.proofs.Laws.{cell-pos}
@@ -21,7 +21,7 @@ use Rattle.cellunion.proofs.Spans.{span, kid, In, holds-no}
 use Rattle.cellunion.proofs.Unique.{all-at, at-all}
 use Rattle.cellunion.proofs.Stack.{clear-laws, not-next, keep-laws, stack-nil, tail, four→, rise, collapse-go, collapse-end}
 use Rattle.cellunion.proofs.Norm.{Ready, ready-on, all-ready, member-sort→, normalise-sorted}
-use Rattle.cellunion.proofs.Memory.{next-word, no-more, drop-more, length-zeros}
+use Rattle.cellunion.proofs.Memory.{next-read, no-more, drop-more, length-zeros}
 
 pub down-pop : (k : ℕ) (m : List ℕ) → 0 < k → down k m ≡ getD m (k - 1) 0 ∷ down (k - 1) m
 unfolding down
@@ -120,6 +120,15 @@ collapse-low m (suc zero) c h = refl
 collapse-low m (suc (suc zero)) c h = refl
 collapse-low m (suc (suc (suc k))) c h = absurd (omega arith)
 
+length-down : (k : ℕ) (m : List ℕ) → length (down k m) ≡ k
+unfolding down
+length-down zero m = refl
+length-down (suc k) m = ap suc (length-down k m)
+
+-- the words left are the cells left, and so many
+pub clear-left : (r k : ℕ) (m s : List ℕ) → r ≤ k → down r m ≡ s → (r ≤ k) × (down r m ≡ s) × (r ≡ length s)
+clear-left r k m s h e = (h, e, sym (length-down r m) ∙ ap length e)
+
 pub down-set : (k i v : ℕ) (m : List ℕ) → k ≤ i → i < length m → down k (set m i v) ≡ down k m
 unfolding down
 down-set zero i v m h g = refl
@@ -205,17 +214,10 @@ pub pass-start : (m₀ : List ℕ) (n : ℕ) → n ≤ length m₀ → All Cell 
 unfolding down
 pass-start m₀ n h C S = record { few = omega arith; within = omega arith; room = h; len = refl; rest = refl; stack = stack-nil; ready = all-ready (take n m₀); cells = C; sorted = S; same = refl }
 
--- the pass has not yet written what it reads next
-next-read : (m₀ : List ℕ) (n : ℕ) (m : List ℕ) (k i : ℕ) → Passing m₀ n m k i → i < n → drop i (take n m₀) ≡ getD m i 0 ∷ drop (i + 1) (take n m₀)
-next-read m₀ n m k i P h =
-    let z : i + 0 ≡ i = omega arith in
-    let b : getD m i 0 ≡ getD m₀ i 0 = ap (λ (w : ℕ). getD m w 0) (sym z) ∙ sym (getD-drop i m 0 0) ∙ ap (λ (s : List ℕ). getD s 0 0) (P .rest) ∙ getD-drop i m₀ 0 0 ∙ ap (λ (w : ℕ). getD m₀ w 0) z in
-    next-word m₀ n i (P .room) h ∙ ap (λ (x : ℕ). x ∷ drop (i + 1) (take n m₀)) (sym b)
-
 pub pass-next : (m₀ : List ℕ) (n : ℕ) (m : List ℕ) (k i : ℕ) → Passing m₀ n m k i → i < n → (k < length m) × Next (down k m) (getD m i 0)
 unfolding All
 pass-next m₀ n m k i P h =
-    let e = next-read m₀ n m k i P h in (
+    let e = next-read m₀ m n i (P .room) h (P .rest) in (
       omega (arith, P .few, P .room, P .len),
       record {
         stack = P .stack;
@@ -227,7 +229,7 @@ pass-next m₀ n m k i P h =
 pub pass-turn : (m₀ : List ℕ) (n : ℕ) (m : List ℕ) (k i : ℕ) (m' : List ℕ) (r : ℕ) → Passing m₀ n m k i → i < n → length m' ≡ length m → Gives (keep (down k m) (getD m i 0)) k m m' r → Passing m₀ n m' r (i + 1)
 unfolding All Sorted pass
 pass-turn m₀ n m k i m' r P h q G =
-    let e = next-read m₀ n m k i P h in
+    let e = next-read m₀ m n i (P .room) h (P .rest) in
     let c = getD m i 0 in
     let l = drop (i + 1) (take n m₀) in
     let N = pass-next m₀ n m k i P h .1 in
@@ -246,7 +248,7 @@ pass-turn m₀ n m k i m' r P h q G =
       same = ap (λ (s : List ℕ). pass s l) (G .is) ∙ sym (ap (pass (down k m)) e) ∙ P .same;
     }
 
-rev-down : (k : ℕ) (m : List ℕ) → k ≤ length m → take k m ≡ rev (down k m)
+pub rev-down : (k : ℕ) (m : List ℕ) → k ≤ length m → take k m ≡ rev (down k m)
 unfolding rev down
 rev-down zero m h = refl
 rev-down (suc k) m h = take-suc m k 0 h ∙ ap (λ (s : List ℕ). s ++ (getD m k 0 ∷ [])) (rev-down k m (omega arith))

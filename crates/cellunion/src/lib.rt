@@ -47,9 +47,9 @@ fn are_siblings(x: u64, y: u64, z: u64, c: u64) -> bool
 }
 
 // How many of the first k are left without those inside c.
-fn clear_of(mem: &[u64], k: usize, c: u64) -> usize
+pub fn clear_of(mem: &[u64], k: usize, c: u64) -> usize
     requires { ⌜ (k ≤ length (now mem)) × (0 < c) ⌝ }
-    ensures { λ r. ⌜ (r ≤ k) × (down r (now (mem .entry)) ≡ clearOf c (down k (now (mem .entry)))) ⌝ }
+    ensures { λ r. ⌜ (r ≤ k) × (down r (now (mem .entry)) ≡ clearOf c (down k (now (mem .entry)))) × (r ≡ length (clearOf c (down k (now (mem .entry))))) ⌝ }
 {
     let mut left = k;
     while 0 < left {
@@ -109,7 +109,7 @@ fn pass(mem: &mut [u64], n: usize) -> usize
 }
 
 // Zeros the words from `from` to before `to`.
-fn clear(mem: &mut [u64], from: usize, to: usize)
+pub fn clear(mem: &mut [u64], from: usize, to: usize)
     requires { ⌜ (from ≤ to) × (to ≤ length (now mem)) ⌝ }
     ensures { λ _. ⌜ now (mem .exit) ≡ laid from (zeros (to - from)) (now (mem .entry)) ⌝ }
 {

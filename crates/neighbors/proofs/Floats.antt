@@ -1,12 +1,12 @@
 -- What the tests before a cast say of the whole number in a float: `toUnsigned 64`, which is 0 below 1 and for a NaN.
 use mathlib.Core.Path.{_≡_, refl, sym, _∙_, subst}
 use mathlib.Core.Bool.{Bool, true, false, _&&_, _||_}
-use Prim.Native.Nat.{ℕ, zero, suc, _+_, _-_, _*_, _/_, _^_, _≤_, _<_, min}
+use Prim.Native.Nat.{ℕ, _+_, _*_, _/_, _^_, _≤_, _<_}
 use native.Mathlib.Nat.{mul-one, div-lt-iff-lt-mul, le-div-iff-mul-le, div-eq-of-lt}
 use native.Mathlib.Omega.{arith}
-use lib.IntN.{ℤ, pos, negsuc}
+use lib.IntN.{ℤ, pos}
 use lib.Dec.{T, ltb, eqb}
-use lib.Ieee.{Float, nan, inf, fin, binary64, lt, le, eq, neg, toUnsigned, ofBits, up, down}
+use lib.Ieee.{Float, nan, inf, fin, lt, le, eq, neg, toUnsigned, ofBits, up, down}
 use lib.Ieee.Fits.{down-pos}
 use borrow.Author.Tests.{lt-ltb, ltb-true, ltb-false, ne-eqb, eqb-false}
 use Rattle.point.specs.Floats.{oneF}

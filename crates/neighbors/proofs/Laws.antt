@@ -2,24 +2,23 @@
 use mathlib.Core.Path.{_≡_, refl, sym, ap, _∙_}
 use mathlib.Core.Logic.{_⊎_, inl, inr}
 use mathlib.Core.Bool.{Bool, true, false, cond, _&&_, _||_}
-use mathlib.Core.List.{List, [], _∷_}
-use Prim.Native.Nat.{ℕ, zero, suc, _+_, _-_, _*_, _/_, _%_, _^_, _≤_, _<_, min}
+use mathlib.Core.List.{[], _∷_}
+use Prim.Native.Nat.{ℕ, suc, _+_, _-_, _*_, _/_, _%_, _^_, _≤_, _<_, min}
 use native.Mathlib.Nat.{zero-mul}
 use native.Mathlib.Omega.{arith}
 use lib.Bits.{bitAnd, and-comm}
 use lib.Pow.{pow-pos, pow-mono}
 use lib.ListN.{length}
 use lib.Dec.{eqb, ltb, leb}
-use lib.Ieee.{Float}
 use borrow.Author.Tests.{eq-eqb, ne-eqb, ltb-true, leb-true}
 use Rattle.cellid.specs.CellId.{IsCell, parentAt}
 use Rattle.cellid.proofs.Laws.{and-power, one-shl}
 use Rattle.cellid.proofs.Ancestors.{parent-cell}
-use Rattle.hilbert.specs.Curve.{faceIj, leafOf, digits}
+use Rattle.hilbert.specs.Curve.{faceIj}
 use Rattle.hilbert.proofs.Laws.{leaf-cell, face-ij-in}
 use Rattle.order.specs.Order.{All}
 use Rattle.point.specs.declared.Point.{Point}
-use Rattle.stuv.specs.Projection.{xyzToFaceUv, faceUvToXyz, faceOf}
+use Rattle.stuv.specs.Projection.{xyzToFaceUv, faceUvToXyz}
 use Rattle.stuv.proofs.Laws.{face-lt}
 use Rattle.neighbors.specs.declared.Toward.{Toward}
 use Rattle.neighbors.specs.Neighbors.{AtLevel, leafOfPoint, leafWrapped, leafBeside, middleOf, towardOf, vertexNeighbors}

@@ -2,7 +2,7 @@
 -- A leaf of a face has the coordinates i and j, 0 to 2 ^ 30 - 1. Where a coordinate may lie one past the face, -1 to 2 ^ 30, it is
 -- written one up: k stands for k - 1.
 use Prim.Native.Nat.{ℕ, _+_, _-_, _*_, _/_, _%_, _^_, min}
-use mathlib.Core.Bool.{Bool, true, false, cond, _&&_, _||_}
+use mathlib.Core.Bool.{Bool, cond, _&&_, _||_}
 use mathlib.Core.List.{List, [], _∷_, _++_}
 use lib.ListN.{length, take}
 use lib.Dec.{eqb, ltb, leb}
@@ -19,7 +19,7 @@ use Rattle.neighbors.specs.declared.Neighbors.{Neighbors}
 abbrev pub maxSize : Float
 maxSize = bits 0x41d0_0000_0000_0000
 
--- the whole part of 2 ^ 30 * s, held to 0 .. 2 ^ 30 - 1; 0 where s is no number
+-- clamp (floor (2 ^ 30 * s) as i32, 0, 2 ^ 30 - 1): the whole part, held to the face; 0 below it and where s is no number
 unfoldable pub stToIj : Float → ℕ
 stToIj s = min (toUnsigned 64 (maxSize ⊗ s)) (2 ^ 30 - 1)
 

@@ -3,7 +3,7 @@
 // face are 0 to 2^30 - 1; one that may lie one past the face is written one up, 0 to 2^30 + 1.
 ghost use mathlib.Core.Path.{_≡_};
 ghost use mathlib.Core.Bool.{true};
-ghost use Prim.Native.Nat.{ℕ, _+_, _-_, _*_, _^_, _≤_, _<_};
+ghost use Prim.Native.Nat.{_+_, _^_, _≤_, _<_};
 ghost use lib.Ieee.{binary64, minus, ofInt};
 ghost use Rattle.cellid.specs.CellId.{Cell};
 ghost use Rattle.neighbors.specs.Neighbors.{stToIj, leafOfPoint, clampOf, middleOf, leafWrapped, leafBeside, towardOf, vertexNeighbors, listed, AtLevel};

@@ -1,18 +1,18 @@
 -- The heap of records refines the sorted list with insertion, and its two moves leave the words past the records as they are.
-use mathlib.Core.Path.{_≡_, refl, sym, ap, _∙_}
+use mathlib.Core.Path.{_≡_, _∙_}
 use mathlib.Core.List.{List}
-use Prim.Native.Nat.{ℕ, _+_, _*_, _/_, _≤_, _<_}
+use Prim.Native.Nat.{ℕ, _+_, _*_, _<_}
 use native.Mathlib.Omega.{arith}
-use lib.ListN.{length, getD, set, drop}
+use lib.ListN.{set, drop}
 use lib.Seq.{drop-set-lt, getD-set-other}
-use Rattle.order.specs.Heap.{Heap, pushed, popped}
+use Rattle.order.specs.Heap.{Heap}
 use Rattle.order.specs.Queue.{Queue}
 use Rattle.order.proofs.HeapSteps.{pushed-out, popped-out}
 use Rattle.order.proofs.Queues.{heap-queue}
 use Rattle.queue.specs.declared.Rec.{Rec}
 use Rattle.queue.specs.declared.Rule.{Rule}
 use Rattle.queue.specs.Queue.{getR, putR, capR, before, pushR, popR}
-use Rattle.queue.proofs.Mem.{length-putR, store, order}
+use Rattle.queue.proofs.Mem.{store, order}
 
 -- the heap of records is a queue: the sorted list of its records by the rule's order, least first
 pub heap : (w : Rule) → Queue (before w) getR capR (Heap getR (before w)) (pushR w) (λ m n. getR m 0) (popR w)
@@ -29,12 +29,6 @@ push-out w bound = pushed-out getR putR (before w) (drop (3 * bound)) bound (put
 
 pub pop-out : (w : Rule) (bound : ℕ) (m : List ℕ) (n : ℕ) → n < bound → drop (3 * bound) (popR w m n) ≡ drop (3 * bound) m
 pop-out w bound = popped-out getR putR (before w) (drop (3 * bound)) bound (putR-out bound)
-
-pub length-push : (w : Rule) (m : List ℕ) (n : ℕ) (r : Rec) → length (pushR w m n r) ≡ length m
-length-push w m n r = pushed-out getR putR (before w) length (n + 1) (λ m i a h. length-putR m i a) m n r (omega arith)
-
-pub length-pop : (w : Rule) (m : List ℕ) (n : ℕ) → length (popR w m n) ≡ length m
-length-pop w m n = popped-out getR putR (before w) length (n + 1) (λ m i a h. length-putR m i a) m n (omega arith)
 
 -- a word written past the records changes none of them
 pub getR-out : (m : List ℕ) (w v i : ℕ) → 3 * i + 2 < w → getR (set m w v) i ≡ getR m i

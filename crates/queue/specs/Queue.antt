@@ -1,23 +1,24 @@
 -- The queue's records of three words in lent memory, their cost and their order. A record is a queued candidate: its cell, and its children as two
 -- 64-bit sets by Hilbert place. The records are kept as a binary heap (order's specs/Heap); proofs/Laws shows that this heap is the sorted list.
-use mathlib.Core.Bool.{Bool, true, false}
+use mathlib.Core.Bool.{Bool}
 use mathlib.Core.List.{List, [], _∷_}
-use Prim.Native.Nat.{ℕ, _+_, _*_, _-_, _/_}
+use Prim.Native.Nat.{ℕ, _+_, _*_, _/_}
 use lib.ListN.{length, getD, set}
 use lib.Count.{ones}
 use Rattle.cellid.specs.CellId.{levelOf}
 use Rattle.order.specs.Heap.{pushed, popped, lesser}
 use Rattle.order.specs.Lex.{lexb}
+use Rattle.run.specs.Run.{costOf}
 use Rattle.queue.specs.declared.Rec.{Rec}
 use Rattle.queue.specs.declared.Rule.{Rule}
 
--- "cost ((level·4^level_mod + children)·4^level_mod) + terminals", with full = 4^level_mod
-unfoldable pub costOf : ℕ → Rec → ℕ
-costOf full r = (levelOf (r .id) * full + ones (r .present)) * full + ones (r .terminal)
+-- the cost of a record, with full = 4^level_mod
+abbrev pub costR : ℕ → Rec → ℕ
+costR full r = costOf full (levelOf (r .id)) (ones (r .present)) (ones (r .terminal))
 
 -- "A step takes the least cost; equal costs, the smaller id." The sets follow, so that the order decides every pair of records.
 unfoldable pub key : Rule → Rec → List ℕ
-key w r = costOf (w .full) r ∷ r .id ∷ r .present ∷ r .terminal ∷ []
+key w r = costR (w .full) r ∷ r .id ∷ r .present ∷ r .terminal ∷ []
 
 -- whether x goes before y by the rule w
 unfoldable pub before : Rule → Rec → Rec → Bool

@@ -2,10 +2,9 @@
 // cost stands first; of equal costs, the one of the smaller id.
 ghost use mathlib.Core.Path.{_≡_};
 ghost use Prim.Native.Nat.{_+_, _*_, _/_, _<_, _≤_};
-ghost use lib.ListN.{length};
 ghost use lib.Count.{ones};
 ghost use Rattle.order.specs.Lex.{first};
-ghost use Rattle.queue.specs.Queue.{costOf, before, getR, putR, capR, pushR, popR, lesserR};
+ghost use Rattle.queue.specs.Queue.{costR, before, getR, putR, capR, pushR, popR, lesserR};
 
 // A candidate: its cell, the Hilbert places of its children, and of those that are terminal.
 pub struct Rec {
@@ -20,7 +19,7 @@ pub struct Rule {
 }
 
 // How many places a set has.
-fn count(x: u64) -> u64
+pub fn count(x: u64) -> u64
     ensures { λ r. ⌜ r ≡ ones x ⌝ }
     ensures { λ r. ⌜ r ≤ 64 ⌝ }
 {
@@ -30,7 +29,7 @@ fn count(x: u64) -> u64
 // Smaller cells, more children and more terminals cost more.
 fn cost(r: Rec, full: u64) -> u64
     requires { ⌜ full ≤ 64 ⌝ }
-    ensures { λ c. ⌜ c ≡ costOf full r ⌝ }
+    ensures { λ c. ⌜ c ≡ costR full r ⌝ }
 {
     (cellid::level(r.id) * full + count(r.present)) * full + count(r.terminal)
 }

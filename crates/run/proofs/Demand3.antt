@@ -14,7 +14,7 @@ use Rattle.cellid.proofs.Leaves.{contains-leaves}
 use Rattle.order.specs.Order.{All}
 use Rattle.run.specs.Run.{Grown, Request, State, after, going, placed, rawIds, run, sumOf}
 use Rattle.run.specs.Ground.{Aside, Beneath, Step, Disjoint, Domain, Fit, Level, Passes, Tiles, cellsOf, grownFrom, holding, one}
-use Rattle.run.proofs.Lists.{all-get, sum-append, sum-map, all-append, all-map, all-weak, all-drop, all-with, term-le, rel-le, rel-eq, Holds, Rel}
+use Rattle.run.proofs.Lists.{Fares, all-get, sum-append, sum-map, all-append, all-map, all-weak, all-drop, all-with, term-le, rel-le, rel-eq, Holds, Rel}
 use Rattle.run.proofs.Steps.{run-ends}
 use Rattle.run.proofs.Ground.{Additive, Failed, Kept, Inv, after-ok}
 use Rattle.run.proofs.Leaves.{leaves-add, leaves-pos, under-add, one-le, one-true, parent-under, disjoint-of, disjoint-holding}
@@ -24,7 +24,7 @@ use Rattle.run.proofs.Starts.{sel, sel-add, sel-none, sel-zero, at-star
 
 module _ (q : Request) (D : Domain q) (hits within : ℕ → Bool) (lt : Grown → Grown → Bool) (starts : List ℕ) (ok : All (Fit q) starts) where
   pub sums : (n : ℕ) (s : State) → after q hits within lt starts n ≡ going s → (F : ℕ → ℕ → ℕ) (A : Additive F) → Inv q D hits within lt F A (sumOf (λ (c : Grown). F (c .from) (c .id)) (placed 0 starts)) 0 s
-  unfolding Holds
+  unfolding Fares
   sums n s e F A = subst (Holds (Inv q D hits within lt F A (sumOf (λ (c : Grown). F (c .from) (c .id)) (placed 0 starts)) 0)) e (after-ok q D hits within lt F A starts ok n)
 
   measure : (n : ℕ) (s : State) → after q hits within lt starts n ≡ going s → (f : ℕ → ℕ)

@@ -14,7 +14,7 @@ use Rattle.cellid.proofs.Leaves.{child-cell}
 use Rattle.order.specs.Order.{All}
 use Rattle.run.specs.Run.{Child, Expansion, Grown, Look, Request, State, add, addAll, after, depth, divide, ending, enqueue, expand, fails, fourOf, full, handsOn, isEmpty, isFull, join, keep, lifts, look, none, nothing, placed, reached, setAside, startAll, startAs, step, stepOn, stepWith, sumOf, terminal, under}
 use Rattle.run.specs.Ground.{Domain, Fit}
-use Rattle.run.proofs.Lists.{sum-append, sum-map, sum-insert, all-append, all-map, all-insert, Holds, then-ok, if-ok, empty-nil, or-false, not-true, Rel, rel-refl, rel-trans, rel-add, rel-less, rel-same}
+use Rattle.run.proofs.Lists.{Fares, sum-append, sum-map, sum-insert, all-append, all-map, all-insert, Holds, then-ok, if-ok, empty-nil, or-false, not-true, Rel, rel-refl, rel-trans, rel-add, rel-less, rel-same}
 use Rattle.run.proofs.Looks.{MeansBy, Means, look-means, canon}
 
 -- a measure of cells, with the place of the start cell, that is the sum of its four children's
@@ -153,7 +153,7 @@ module _ (q : Request) (D : Domain q) (hits within : ℕ → Bool) (lt : Grown �
   }
 
   keep-ok : (N w : ℕ) (c : Grown) (s : State) → Kept q hits within (c .id) → Inv N (weight c + w) s → Holds (Inv N w) (keep c s)
-  unfolding keep Holds All sumOf
+  unfolding keep Fares All sumOf
   keep-ok N w c s k I = if-ok (Holds (Inv N w)) (ltb (length (s .raw)) 1024) _ _
       (λ t. record {
         sum = rel-same (q .inner) _ _ N (omega (arith, sum-append weight (s .raw) (c ∷ []))) (I .sum);
@@ -164,7 +164,7 @@ module _ (q : Request) (D : Domain q) (hits within : ℕ → Bool) (lt : Grown �
       (λ t. tt)
 
   enqueue-ok : (N w : ℕ) (c : Grown) (s : State) → Queued q hits within (c .id) → Inv N (weight c + w) s → Holds (Inv N w) (enqueue lt c s)
-  unfolding enqueue Holds
+  unfolding enqueue Fares
   enqueue-ok N w c s k I = if-ok (Holds (Inv N w)) (ltb (length (s .queue)) 1024) _ _
       (λ t. record {
         sum = rel-same (q .inner) _ _ N (omega (arith, sum-insert lt weight c (s .queue))) (I .sum);
@@ -200,7 +200,7 @@ module _ (q : Request) (D : Domain q) (hits within : ℕ → Bool) (lt : Grown �
       record { fit = Q .fit; low = l; yes = m .0; inside = λ t. absurd (true≢false (sym t ∙ o)) }
 
   add-open : (N w : ℕ) (c : Grown) (s : State) → Queued q hits within (c .id) → Inv N (weight c + w) s → Holds (Inv N w) (add q hits within lt c false s)
-  unfolding add Holds sumOf lifts
+  unfolding add Fares sumOf lifts
   add-open N w c s Q I =
       let e = under q hits within (c .id) in
       let x = under-ok (c .from) (c .id) Q in
@@ -228,7 +228,7 @@ module _ (q : Request) (D : Domain q) (hits within : ℕ → Bool) (lt : Grown �
 
   addAll-ok : (N w i : ℕ) (l : List Child) (s : State) → All (ChildOk q hits within) l → Inv N (sumOf (λ (k : Child). F i (k .id)) l + w) s
       → Holds (Inv N w) (addAll q hits within lt i l s)
-  unfolding addAll Holds All sumOf
+  unfolding addAll Fares All sumOf
   addAll-ok N w i [] s a I = less-ok N (0 + w) w s (rel-same (q .inner) w (0 + w) (0 + w) (omega arith) (rel-refl (q .inner) (0 + w))) I
   addAll-ok N w i (k ∷ l) s a I =
       let r = sumOf (λ (k : Child). F i (k .id)) l in
@@ -239,7 +239,7 @@ module _ (q : Request) (D : Domain q) (hits within : ℕ → Bool) (lt : Grown �
       (λ s′ J. addAll-ok N w i l s′ (a .1) J))
 
   step-with : (N : ℕ) (c : Grown) (s : State) → Queued q hits within (c .id) → Inv N (weight c + 0) s → Holds (Inv N 0) (stepWith q hits within lt c s)
-  unfolding stepWith Holds All sumOf handsOn
+  unfolding stepWith Fares All sumOf handsOn
   step-with N c s Q I =
       let e = under q hits within (c .id) in
       let x = under-ok (c .from) (c .id) Q in
@@ -260,7 +260,7 @@ module _ (q : Request) (D : Domain q) (hits within : ℕ → Bool) (lt : Grown �
       keep-ok N 0 c s (kept-parent (c .id) Q (a .0) (ltb-false _ _ (b .0))) I))
 
   step-on : (N : ℕ) (l : List Grown) (s : State) → s .queue ≡ l → Inv N 0 s → Holds (Inv N 0) (stepOn q hits within lt l s)
-  unfolding stepOn Holds All sumOf
+  unfolding stepOn Fares All sumOf
   step-on N [] s e I = I
   step-on N (c ∷ l) s e I =
       let a : All (λ (c : Grown). Queued q hits within (c .id)) (c ∷ l) = subst (All (λ (c : Grown). Queued q hits within (c .id))) e (I .queue) in
@@ -276,7 +276,7 @@ module _ (q : Request) (D : Domain q) (hits within : ℕ → Bool) (lt : Grown �
   step-ok N s I = step-on N (s .queue) s refl I
 
   start-as : (N w : ℕ) (v : Look) (c : Grown) (s : State) → Fit q (c .id) → look q hits within (c .id) ≡ v → Inv N (weight c + w) s → Holds (Inv N w) (startAs q hits within lt v c s)
-  unfolding startAs Holds All sumOf MeansBy
+  unfolding startAs Fares All sumOf MeansBy
   start-as N w fails c s f e I =
       aside-ok N w (c .from) (c .id ∷ []) s (record { cell = f .cell; high = f .high; no = look-means q hits within (c .id) fails e }, tt)
       (less-ok N _ _ s (rel-same (q .inner) _ (weight c + w) _ (omega arith) (rel-refl (q .inner) _)) I)
@@ -285,7 +285,7 @@ module _ (q : Request) (D : Domain q) (hits within : ℕ → Bool) (lt : Grown �
   start-as N w divide c s f e I = add-ok N w c false s f e I
 
   start-all : (N : ℕ) (l : List Grown) (s : State) → All (λ (c : Grown). Fit q (c .id)) l → Inv N (sumOf weight l) s → Holds (Inv N 0) (startAll q hits within lt l s)
-  unfolding startAll Holds All sumOf
+  unfolding startAll Fares All sumOf
   start-all N [] s a I = I
   start-all N (c ∷ l) s a I = then-ok (Inv N (sumOf weight l)) (Inv N 0) (startAs q hits within lt (look q hits within (c .id)) c s) (startAll q hits within lt l)
       (start-as N (sumOf weight l) (look q hits within (c .id)) c s (a .0) refl I)

@@ -10,3 +10,4 @@ pub mod Leaves
 pub mod Starts
 pub mod Demand3
 pub mod Totals
+pub mod Rows

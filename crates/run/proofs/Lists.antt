@@ -46,15 +46,22 @@ all-insert lt P x (y ∷ q) p a = ⊎-elim
     (λ (e : lt y x ≡ false). rw (insert-front lt x y q e) (p, a))
     (which (lt y x))
 
+-- P of the state, or R of the number
+unfoldable pub Fares : (State → Type 0) → (ℕ → Type 0) → Outcome → Type 0
+Fares P R (refused n) = R n
+Fares P R (going s) = P s
+
+pub then-fares : (P Q : State → Type 0) (R : ℕ → Type 0) (o : Outcome) (f : State → Outcome) → Fares P R o → ((s : State) → P s → Fares Q R (f s)) → Fares Q R (then o f)
+unfolding Fares then
+then-fares P Q R (refused n) f h g = h
+then-fares P Q R (going s) f h g = g s h
+
 -- P in the state, if there is one
-unfoldable pub Holds : (State → Type 0) → Outcome → Type 0
-Holds P (refused n) = Unit
-Holds P (going s) = P s
+abbrev pub Holds : (State → Type 0) → Outcome → Type 0
+Holds P = Fares P (λ n. Unit)
 
 pub then-ok : (P Q : State → Type 0) (o : Outcome) (f : State → Outcome) → Holds P o → ((s : State) → P s → Holds Q (f s)) → Holds Q (then o f)
-unfolding Holds then
-then-ok P Q (refused n) f h g = tt
-then-ok P Q (going s) f h g = g s h
+then-ok P Q = then-fares P Q (λ n. Unit)
 
 -- both ways of a test
 pub if-ok : {X : Type 0} (P : X → Type 0) (b : Bool) (x y : X) → (b ≡ true → P x) → (b ≡ false → P y) → P (elim b [ true ↦ x | false ↦ y ])

@@ -1,67 +1,86 @@
--- The run's states are those after each step, and its step number is their count.
+-- The run's states are those after each step, and its step number is their count; an inner run sets nothing aside; the run
+-- gives the refusals 7, 8 and 9 and no other.
 use mathlib.Core.Path.{_≡_, refl, sym, ap, _∙_, subst}
 use mathlib.Core.Bool.{Bool, true, false, true≢false}
 use mathlib.Core.Logic.{_⊎_, ⊎-elim}
-use mathlib.Core.List.{List, [], _∷_}
+use mathlib.Core.List.{List, [], _∷_, _++_}
 use Prim.Native.Nat.{ℕ, zero, suc, _+_, _-_, _≤_, _<_}
 use native.Mathlib.Nat.{eq-or-lt-of-le}
 use native.Mathlib.Omega.{arith}
 use lib.Dec.{ltb}
 use lib.ListN.{length}
+use Rattle.order.specs.Order.{insert}
 use Rattle.run.specs.Run.{Child, Grown, Look, Outcome, Request, State, add, addAll, after, divide, enqueue, fails, going, handsOn, isEmpty, isFull, keep, lifts, look, loop, none, nothing, placed, refused, run, setAside, startAll, startAs, step, stepOn, stepWith, terminal, then, under}
-use Rattle.run.proofs.Lists.{Holds, then-ok, if-ok, empty-nil}
+use Rattle.run.proofs.Lists.{Fares, then-fares, Holds, then-ok, if-ok, empty-nil}
+
+-- ---- what every part of the run keeps: a fact P of states that a change of the raw list, a change of the queue and setting aside leave true, and a fact R
+-- of the numbers of refusals
+
+module _ (q : Request) (hits within : ℕ → Bool) (lt : Grown → Grown → Bool) (P : State → Type 0) (R : ℕ → Type 0) (seven : R 7) (eight : R 8)
+    (on-raw : (s : State) (l : List Grown) → P s → P (record { raw = l; queue = s .queue; aside = s .aside; steps = s .steps }))
+    (on-queue : (s : State) (l : List Grown) → P s → P (record { raw = s .raw; queue = l; aside = s .aside; steps = s .steps }))
+    (on-aside : (s : State) (i : ℕ) (l : List ℕ) → P s → P (setAside q i l s)) where
+  keep-walk : (c : Grown) (s : State) → P s → Fares P R (keep c s)
+  unfolding keep Fares
+  keep-walk c s p = if-ok (Fares P R) (ltb (length (s .raw)) 1024) _ _ (λ t. on-raw s (s .raw ++ (c ∷ [])) p) (λ t. eight)
+
+  enqueue-walk : (c : Grown) (s : State) → P s → Fares P R (enqueue lt c s)
+  unfolding enqueue Fares
+  enqueue-walk c s p = if-ok (Fares P R) (ltb (length (s .queue)) 1024) _ _ (λ t. on-queue s (insert lt c (s .queue)) p) (λ t. seven)
+
+  add-walk : (c : Grown) (b : Bool) (s : State) → P s → Fares P R (add q hits within lt c b s)
+  unfolding add Fares
+  add-walk c true s p = keep-walk c s p
+  add-walk c false s p = if-ok (Fares P R) (isEmpty (under q hits within (c .id) .children)) _ _
+      (λ t. on-aside s (c .from) (under q hits within (c .id) .failed) p)
+      (λ t. if-ok (Fares P R) (lifts q hits within (c .id)) _ _ (λ u. keep-walk c s p) (λ u. enqueue-walk c s p))
+
+  addAll-walk : (i : ℕ) (l : List Child) (s : State) → P s → Fares P R (addAll q hits within lt i l s)
+  unfolding addAll Fares
+  addAll-walk i [] s p = p
+  addAll-walk i (k ∷ l) s p = if-ok (Fares P R) (isFull q s) _ _
+      (λ t. addAll-walk i l s p)
+      (λ t. then-fares P P R _ _ (add-walk _ (k .ends) s p) (λ s′ r. addAll-walk i l s′ r))
+
+  pub with-walk : (c : Grown) (s : State) → P s → Fares P R (stepWith q hits within lt c s)
+  unfolding stepWith Fares
+  with-walk c s p = if-ok (Fares P R) (isFull q s) _ _
+      (λ t. on-queue s [] p)
+      (λ t. if-ok (Fares P R) (handsOn q hits within c s) _ _
+      (λ u. addAll-walk (c .from) (under q hits within (c .id) .children) _ (on-aside s (c .from) (under q hits within (c .id) .failed) p))
+      (λ u. keep-walk c s p))
+
+  start-walk : (v : Look) (c : Grown) (s : State) → P s → Fares P R (startAs q hits within lt v c s)
+  unfolding startAs Fares
+  start-walk fails c s p = on-aside s (c .from) (c .id ∷ []) p
+  start-walk none c s p = p
+  start-walk terminal c s p = add-walk c true s p
+  start-walk divide c s p = add-walk c false s p
+
+  pub startAll-walk : (l : List Grown) (s : State) → P s → Fares P R (startAll q hits within lt l s)
+  unfolding startAll Fares
+  startAll-walk [] s p = p
+  startAll-walk (c ∷ l) s p = then-fares P P R _ _ (start-walk (look q hits within (c .id)) c s p) (λ s′ r. startAll-walk l s′ r)
+
+-- ---- the number of steps
 
 module _ (q : Request) (hits within : ℕ → Bool) (lt : Grown → Grown → Bool) where
   abbrev Took : ℕ → State → Type 0
   Took n s = s .steps ≡ n
 
-  keep-steps : (c : Grown) (s : State) (n : ℕ) → Took n s → Holds (Took n) (keep c s)
-  unfolding keep Holds
-  keep-steps c s n e = if-ok (Holds (Took n)) (ltb (length (s .raw)) 1024) _ _ (λ t. e) (λ t. tt)
-
-  enqueue-steps : (c : Grown) (s : State) (n : ℕ) → Took n s → Holds (Took n) (enqueue lt c s)
-  unfolding enqueue Holds
-  enqueue-steps c s n e = if-ok (Holds (Took n)) (ltb (length (s .queue)) 1024) _ _ (λ t. e) (λ t. tt)
-
-  aside-steps : (i : ℕ) (l : List ℕ) (s : State) (n : ℕ) → Took n s → Took n (setAside q i l s)
+  aside-steps : (n : ℕ) (s : State) (i : ℕ) (l : List ℕ) → Took n s → Took n (setAside q i l s)
   unfolding setAside
-  aside-steps i l s n e = if-ok (Took n) (q .inner) _ _ (λ t. e) (λ t. e)
-
-  add-steps : (c : Grown) (b : Bool) (s : State) (n : ℕ) → Took n s → Holds (Took n) (add q hits within lt c b s)
-  unfolding add Holds
-  add-steps c true s n e = keep-steps c s n e
-  add-steps c false s n e = if-ok (Holds (Took n)) (isEmpty (under q hits within (c .id) .children)) _ _
-      (λ t. aside-steps _ _ s n e)
-      (λ t. if-ok (Holds (Took n)) (lifts q hits within (c .id)) _ _ (λ u. keep-steps c s n e) (λ u. enqueue-steps c s n e))
-
-  addAll-steps : (i : ℕ) (l : List Child) (s : State) (n : ℕ) → Took n s → Holds (Took n) (addAll q hits within lt i l s)
-  unfolding addAll Holds
-  addAll-steps i [] s n e = e
-  addAll-steps i (k ∷ l) s n e = if-ok (Holds (Took n)) (isFull q s) _ _
-      (λ t. addAll-steps i l s n e)
-      (λ t. then-ok (Took n) (Took n) _ _ (add-steps _ (k .ends) s n e) (λ s′ d. addAll-steps i l s′ n d))
+  aside-steps n s i l e = if-ok (Took n) (q .inner) _ _ (λ t. e) (λ t. e)
 
   -- a step that takes one counts one
   step-steps : (c : Grown) (l : List Grown) (s : State) → s .queue ≡ c ∷ l → Holds (Took (suc (s .steps))) (step q hits within lt s)
-  unfolding step stepOn stepWith Holds
+  unfolding step stepOn
   step-steps c l s e =
       let n = suc (s .steps) in
-      let r : State = record { raw = s .raw; queue = l; aside = s .aside; steps = n } in
-      rw (e, stepOn) (if-ok (Holds (Took n)) (isFull q r) _ _
-      (λ t. refl)
-      (λ t. if-ok (Holds (Took n)) (handsOn q hits within c r) _ _ (λ u. addAll-steps _ _ _ n (aside-steps _ _ _ n refl)) (λ u. keep-steps c _ n refl)))
+      rw (e, stepOn) (with-walk q hits within lt (Took n) (λ k. Unit) tt tt (λ t x h. h) (λ t x h. h) (aside-steps n) c (record { raw = s .raw; queue = l; aside = s .aside; steps = n }) refl)
 
-  start-steps : (v : Look) (c : Grown) (s : State) (n : ℕ) → Took n s → Holds (Took n) (startAs q hits within lt v c s)
-  unfolding startAs Holds
-  start-steps fails c s n e = aside-steps _ _ s n e
-  start-steps none c s n e = e
-  start-steps terminal c s n e = add-steps c true s n e
-  start-steps divide c s n e = add-steps c false s n e
-
-  startAll-steps : (l : List Grown) (s : State) (n : ℕ) → Took n s → Holds (Took n) (startAll q hits within lt l s)
-  unfolding startAll Holds
-  startAll-steps [] s n e = e
-  startAll-steps (c ∷ l) s n e = then-ok (Took n) (Took n) _ _ (start-steps (look q hits within (c .id)) c s n e) (λ s′ d. startAll-steps l s′ n d)
+  start-steps : (l : List Grown) → Holds (Took 0) (startAll q hits within lt l nothing)
+  start-steps l = startAll-walk q hits within lt (Took 0) (λ k. Unit) tt tt (λ t x h. h) (λ t x h. h) (aside-steps 0) l nothing refl
 
   then-at : (o : Outcome) (f : State → Outcome) (s : State) → then o f ≡ going s → (t : State) × (o ≡ going t) × (f t ≡ going s)
   unfolding then
@@ -75,6 +94,14 @@ module _ (q : Request) (hits within : ℕ → Bool) (lt : Grown → Grown → Bo
 
   stepped : (s : State) → isEmpty (s .queue) ≡ false → Holds (Took (suc (s .steps))) (step q hits within lt s)
   stepped s t = taken (s .queue) s refl t
+
+  pub steps-one : (s t : State) → isEmpty (s .queue) ≡ false → step q hits within lt s ≡ going t → t .steps ≡ suc (s .steps)
+  unfolding Fares
+  steps-one s t e d = subst (Holds (Took (suc (s .steps)))) d (stepped s e)
+
+  pub steps-none : (starts : List ℕ) (s : State) → after q hits within lt starts 0 ≡ going s → s .steps ≡ 0
+  unfolding after Fares
+  steps-none starts s e = subst (Holds (Took 0)) e (start-steps (placed 0 starts))
 
   module _ (starts : List ℕ) where
     -- a run that ends in s: n steps were done before
@@ -97,7 +124,7 @@ module _ (q : Request) (hits within : ℕ → Bool) (lt : Grown → Grown → Bo
         })
 
     loop-ends : (a n : ℕ) (s₀ s : State) → after q hits within lt starts n ≡ going s₀ → s₀ .steps ≡ n → loop q hits within lt a s₀ ≡ going s → Ends n a s
-    unfolding loop after Holds then
+    unfolding loop after Fares then
     loop-ends zero n s₀ s e d f = if-ok (λ o. o ≡ going s → Ends n 0 s) (isEmpty (s₀ .queue)) _ _
         (λ t g. ends-now n 0 s₀ s e d t g)
         (λ t g. let z : _≡_ {A = ℕ} 0 1 = cc in absurd (omega arith)) f
@@ -120,7 +147,60 @@ module _ (q : Request) (hits within : ℕ → Bool) (lt : Grown → Grown → Bo
         }) f
 
     pub run-ends : (a : ℕ) (s : State) → run q hits within lt starts a ≡ going s → Ends 0 a s
-    unfolding run after Holds
+    unfolding run after Fares
     run-ends a s f =
         let r = then-at (startAll q hits within lt (placed 0 starts) nothing) (loop q hits within lt a) s f in
-        loop-ends a 0 (r .0) s (r .1) (subst (Holds (Took 0)) (r .1) (startAll-steps (placed 0 starts) nothing 0 refl)) (r .2)
+        loop-ends a 0 (r .0) s (r .1) (subst (Holds (Took 0)) (r .1) (start-steps (placed 0 starts))) (r .2)
+
+-- ---- an inner run sets nothing aside
+
+module _ (q : Request) (hits within : ℕ → Bool) (lt : Grown → Grown → Bool) (inner : q .inner ≡ true) where
+  abbrev NoneAside : State → Type 0
+  NoneAside s = s .aside ≡ []
+
+  aside-inner : (s : State) (i : ℕ) (l : List ℕ) → NoneAside s → NoneAside (setAside q i l s)
+  unfolding setAside
+  aside-inner s i l e = if-ok NoneAside (q .inner) _ _ (λ t. e) (λ t. absurd (true≢false (sym inner ∙ t)))
+
+  step-none : (l : List Grown) (s : State) → NoneAside s → Holds NoneAside (stepOn q hits within lt l s)
+  unfolding stepOn Fares
+  step-none [] s e = e
+  step-none (c ∷ l) s e = with-walk q hits within lt NoneAside (λ k. Unit) tt tt (λ t x h. h) (λ t x h. h) aside-inner c (record { raw = s .raw; queue = l; aside = s .aside; steps = suc (s .steps) }) e
+
+  none-after : (starts : List ℕ) (n : ℕ) → Holds NoneAside (after q hits within lt starts n)
+  unfolding after step
+  none-after starts zero = startAll-walk q hits within lt NoneAside (λ k. Unit) tt tt (λ t x h. h) (λ t x h. h) aside-inner (placed 0 starts) nothing refl
+  none-after starts (suc n) = then-ok NoneAside NoneAside (after q hits within lt starts n) (step q hits within lt) (none-after starts n) (λ s e. step-none (s .queue) s e)
+
+  pub inner-aside : (starts : List ℕ) (n : ℕ) (s : State) → after q hits within lt starts n ≡ going s → s .aside ≡ []
+  unfolding Fares
+  inner-aside starts n s e = subst (Holds NoneAside) e (none-after starts n)
+
+-- ---- the run gives the refusals 7, 8 and 9 and no other
+
+module _ (q : Request) (hits within : ℕ → Bool) (lt : Grown → Grown → Bool) where
+  abbrev Late : ℕ → Type 0
+  Late n = (7 ≤ n) × (n ≤ 9)
+
+  abbrev Going : State → Type 0
+  Going s = Unit
+
+  step-late : (l : List Grown) (s : State) → Fares Going Late (stepOn q hits within lt l s)
+  unfolding stepOn Fares
+  step-late [] s = tt
+  step-late (c ∷ l) s = with-walk q hits within lt Going Late (omega arith, omega arith) (omega arith, omega arith) (λ t x h. tt) (λ t x h. tt) (λ t i x h. tt) c (record { raw = s .raw; queue = l; aside = s .aside; steps = suc (s .steps) }) tt
+
+  loop-late : (a : ℕ) (s : State) → Fares Going Late (loop q hits within lt a s)
+  unfolding loop step Fares
+  loop-late zero s = if-ok (Fares Going Late) (isEmpty (s .queue)) _ _ (λ t. tt) (λ t. (omega arith, omega arith))
+  loop-late (suc a) s = if-ok (Fares Going Late) (isEmpty (s .queue)) _ _ (λ t. tt) (λ t. then-fares Going Going Late _ _ (step-late (s .queue) s) (λ s′ u. loop-late a s′))
+
+  run-fares : (starts : List ℕ) (a : ℕ) → Fares Going Late (run q hits within lt starts a)
+  unfolding run after
+  run-fares starts a = then-fares Going Going Late _ _
+      (startAll-walk q hits within lt Going Late (omega arith, omega arith) (omega arith, omega arith) (λ t x h. tt) (λ t x h. tt) (λ t i x h. tt) (placed 0 starts) nothing tt)
+      (λ s u. loop-late a s)
+
+  pub run-refuses : (starts : List ℕ) (a n : ℕ) → run q hits within lt starts a ≡ refused n → (7 ≤ n) × (n ≤ 9)
+  unfolding Fares
+  run-refuses starts a n e = subst (Fares Going Late) e (run-fares starts a)

@@ -27,11 +27,11 @@ aside-more q i l s o = if-ok (λ (x : State). sumOf (λ (c : Grown). leavesOf (c
     (λ t. let z : _≡_ {A = ℕ} 0 1 = cc in absurd (omega arith))
     (λ t. let tag : ℕ → Grown = λ x. record { from = i; id = x } in sum-append (λ (c : Grown). leavesOf (c .id)) (s .aside) (map tag l) ∙ ap (λ (n : ℕ). sumOf (λ (c : Grown). leavesOf (c .id)) (s .aside) + n) (sum-map tag (λ (c : Grown). leavesOf (c .id)) l))
 
-leaves-le : (id : ℕ) → leavesOf id ≤ 2 ^ 60
+pub leaves-le : (id : ℕ) → leavesOf id ≤ 2 ^ 60
 unfolding leavesOf
 leaves-le id = pow-mono {i = 2 * (30 - levelOf id)} {j = 60} (omega arith)
 
-sum-le : (l : List ℕ) → sumOf leavesOf l ≤ length l * 2 ^ 60
+pub sum-le : (l : List ℕ) → sumOf leavesOf l ≤ length l * 2 ^ 60
 unfolding sumOf
 sum-le [] = omega arith
 sum-le (x ∷ l) = omega (arith, leaves-le x, sum-le l)

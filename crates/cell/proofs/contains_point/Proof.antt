@@ -1,6 +1,6 @@
 -- `cell::contains_point` meets its contract.
 use Rattle.cell.specs.Cell.{onSide, holdsPoint}
-use mathlib.Core.Path.{_≡_, refl, sym, ap, _∙_}
+use mathlib.Core.Path.{sym, _∙_}
 use borrow.Author.Needs.{needs}
 use Rattle.cell.proofs.contains_point.Statement.{statement}
 use Rattle.cell.proofs.contains_point.Tie as tie

@@ -1,6 +1,5 @@
 -- `cell::from_id` meets its contract.
 use Rattle.cell.specs.Cell.{cellOf}
-use mathlib.Core.Path.{_≡_, refl, sym, ap, _∙_}
 use Rattle.hilbert.proofs.Laws.{face-ij-in}
 use Rattle.cell.proofs.Laws.{level-le}
 use borrow.Author.Needs.{needs}

@@ -1,6 +1,6 @@
 -- `cell::ij_to_stmin` meets its contract.
 use Rattle.cell.specs.Cell.{ijToStMin}
-use mathlib.Core.Path.{_≡_, refl, sym, ap, _∙_}
+use mathlib.Core.Path.{refl}
 use borrow.Author.Needs.{needs}
 use Rattle.cell.proofs.ij_to_stmin.Statement.{statement}
 use Rattle.cell.proofs.ij_to_stmin.Tie as tie

@@ -1,7 +1,6 @@
 -- `cell::span_at` meets its contract.
 use Rattle.cell.specs.Cell.{spanAt}
-use mathlib.Core.Path.{_≡_, refl, sym, ap, _∙_}
-use Prim.Native.Nat.{ℕ, _+_, _-_, _*_, _/_, _%_, _^_, _≤_, _<_}
+use Prim.Native.Nat.{_-_}
 use native.Mathlib.Omega.{arith}
 use Rattle.cellid.proofs.Laws.{one-shl}
 use Rattle.cell.proofs.Laws.{first-is, last-le}

@@ -1,3 +1,4 @@
+-- `neighbors::cellid_from_point` meets its contract.
 use borrow.Author.Needs.{needs}
 use mathlib.Core.Path.{_≡_}
 use Rattle.neighbors.specs.Neighbors.{leafOfPoint}

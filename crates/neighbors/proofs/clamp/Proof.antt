@@ -1,3 +1,4 @@
+-- `neighbors::clamp` meets its contract.
 use Rattle.neighbors.specs.Neighbors.{clampOf}
 use Rattle.neighbors.proofs.clamp.Statement.{statement}
 use Rattle.neighbors.proofs.clamp.Tie as tie

@@ -1,8 +1,8 @@
+-- `neighbors::coordinate` meets its contract.
 use borrow.Author.Needs.{needs}
 use borrow.Author.Tests.{le-leb}
 use native.Mathlib.Omega.{arith}
-use mathlib.Core.Path.{refl}
-use lib.Ieee.{minus, ofInt, neg, ofBits}
+use lib.Ieee.{ofInt, neg, ofBits}
 use Rattle.neighbors.proofs.coordinate.Statement.{statement}
 use Rattle.neighbors.proofs.coordinate.Tie as tie
 

@@ -1,3 +1,4 @@
+-- `neighbors::from_face_ij_same` meets its contract.
 use borrow.Author.Needs.{needs}
 use native.Mathlib.Omega.{arith}
 use Rattle.neighbors.specs.Neighbors.{leafBeside}

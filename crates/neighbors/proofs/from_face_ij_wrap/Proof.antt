@@ -1,3 +1,4 @@
+-- `neighbors::from_face_ij_wrap` meets its contract.
 use borrow.Author.Needs.{needs}
 use Rattle.neighbors.specs.Neighbors.{leafWrapped}
 use Rattle.neighbors.proofs.Floats.{ij-lt}

@@ -1,3 +1,4 @@
+-- `neighbors::middle` meets its contract.
 use borrow.Author.Needs.{needs}
 use Rattle.neighbors.specs.Neighbors.{middleOf}
 use Rattle.neighbors.proofs.middle.Statement.{statement}

@@ -1,7 +1,8 @@
+-- `neighbors::nearer` meets its contract.
 use borrow.Author.Needs.{needs}
 use borrow.Author.Tests.{lt-ltb, le-ltb, le-leb, lt-leb}
 use mathlib.Core.Path.{_≡_}
-use Prim.Native.Nat.{ℕ, _+_, _-_, _*_, _%_, _^_, _≤_, _<_, min}
+use Prim.Native.Nat.{_+_, _-_, _*_, _%_, _^_, _≤_, _<_, min}
 use native.Mathlib.Omega.{arith}
 use Rattle.neighbors.specs.Neighbors.{towardOf}
 use Rattle.neighbors.proofs.Laws.{Sizes, sizes, bit-set, bit-clear}

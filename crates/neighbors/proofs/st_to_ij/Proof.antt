@@ -1,3 +1,4 @@
+-- `neighbors::st_to_ij` meets its contract.
 use native.Mathlib.Omega.{arith}
 use lib.Ieee.{ofBits, neg}
 use Rattle.neighbors.specs.Neighbors.{stToIj}

@@ -1,10 +1,10 @@
+-- `neighbors::vertex_neighbors` meets its contract.
 use borrow.Author.Needs.{needs}
 use Prim.Native.Nat.{_^_, _<_}
 use native.Mathlib.Omega.{arith}
 use Rattle.cellid.proofs.Laws.{and-true}
 use Rattle.hilbert.specs.declared.FaceIj.{FaceIj}
 use Rattle.hilbert.proofs.Laws.{face-ij-in}
-use Rattle.neighbors.specs.declared.Toward.{Toward}
 use Rattle.neighbors.specs.Neighbors.{vertexNeighbors}
 use Rattle.neighbors.proofs.Laws.{Within, toward-within}
 use Rattle.neighbors.proofs.vertex_neighbors.Statement.{statement}

@@ -1,3 +1,4 @@
+-- `point::abs` meets its contract.
 use Rattle.point.proofs.Laws.{abs-below, abs-zero, abs-above}
 use Rattle.point.proofs.abs.Statement.{statement}
 use Rattle.point.proofs.abs.Tie as tie

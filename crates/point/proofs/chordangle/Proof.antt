@@ -1,6 +1,5 @@
+-- `point::chordangle` meets its contract.
 use borrow.Author.Needs.{needs}
-use mathlib.Core.Path.{_≡_, _∙_, ap}
-use Rattle.point.specs.Vector.{norm2Of, subOf}
 use Rattle.point.specs.ChordAngle.{chordAngle, atMost4}
 use Rattle.point.proofs.chordangle.Statement.{statement}
 use Rattle.point.proofs.chordangle.Tie as tie

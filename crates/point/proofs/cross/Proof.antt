@@ -1,3 +1,4 @@
+-- `point::cross` meets its contract.
 use mathlib.Core.Path.{refl}
 use Rattle.point.specs.Vector.{crossOf}
 use Rattle.point.proofs.cross.Statement.{statement}

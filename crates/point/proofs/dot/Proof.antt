@@ -1,3 +1,4 @@
+-- `point::dot` meets its contract.
 use mathlib.Core.Path.{refl}
 use Rattle.point.specs.Vector.{dotOf}
 use Rattle.point.proofs.dot.Statement.{statement}

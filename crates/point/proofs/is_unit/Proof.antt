@@ -1,3 +1,4 @@
+-- `point::is_unit` meets its contract.
 use borrow.Author.Needs.{needs}
 use Rattle.point.specs.Vector.{isUnit}
 use Rattle.point.proofs.is_unit.Statement.{statement}

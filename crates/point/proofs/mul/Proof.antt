@@ -1,3 +1,4 @@
+-- `point::mul` meets its contract.
 use mathlib.Core.Path.{refl}
 use Rattle.point.specs.Vector.{mulOf}
 use Rattle.point.proofs.mul.Statement.{statement}

@@ -1,3 +1,4 @@
+-- `point::norm` meets its contract.
 use borrow.Author.Needs.{needs}
 use Rattle.point.specs.Vector.{normOf}
 use Rattle.point.proofs.norm.Statement.{statement}

@@ -1,3 +1,4 @@
+-- `point::norm2` meets its contract.
 use borrow.Author.Needs.{needs}
 use Rattle.point.specs.Vector.{norm2Of}
 use Rattle.point.proofs.norm2.Statement.{statement}

@@ -1,3 +1,4 @@
+-- `point::sin2` meets its contract.
 use mathlib.Core.Path.{refl}
 use Rattle.point.specs.ChordAngle.{sin2Of}
 use Rattle.point.proofs.sin2.Statement.{statement}

@@ -1,3 +1,4 @@
+-- `point::sub` meets its contract.
 use mathlib.Core.Path.{refl}
 use Rattle.point.specs.Vector.{subOf}
 use Rattle.point.proofs.sub.Statement.{statement}

@@ -1,17 +1,12 @@
 -- `queue::cost` meets its contract.
-use mathlib.Core.Path.{_≡_, sym}
 use Prim.Native.Nat.{ℕ, _+_, _*_, _≤_}
 use native.Mathlib.Omega.{arith}
 use native.Mathlib.Nat.{mul-le-mul}
-use Rattle.cellid.specs.CellId.{levelOf}
-use Rattle.queue.specs.Queue.{costOf}
+use Rattle.cellid.proofs.Laws.{level-le}
+use Rattle.run.specs.Run.{costOf}
 use borrow.Author.Needs.{needs}
 use Rattle.queue.proofs.cost.Statement.{statement}
 use Rattle.queue.proofs.cost.Tie as tie
-
-deep : (id : ℕ) → levelOf id ≤ 30
-unfolding levelOf
-deep id = omega arith
 
 level-requires : tie.Need-level-requires
 level-requires c κs = search needs
@@ -23,22 +18,22 @@ outer : (l f p : ℕ) → l ≤ 30 → f ≤ 64 → p ≤ 64 → (l * f + p) * f
 outer l f p h k j = mul-le-mul {n₂ = 1984} (omega (arith, inner l f h k)) k
 
 mul-result : tie.Need-mul-result
-mul-result c = omega (arith, inner (c .level .result) (c .before .args .full) (omega (arith, deep (c .before .args .r .id))) (omega arith))
+mul-result c = omega (arith, inner (c .level .result) (c .before .args .full) (omega (arith, level-le (c .before .args .r .id))) (omega arith))
 
 count-requires : tie.Need-count-requires
 count-requires c κs = search needs
 
 add-result : tie.Need-add-result
-add-result c = omega (arith, inner (c .before .level .result) (c .before .before .args .full) (omega (arith, deep (c .before .before .args .r .id))) (omega arith))
+add-result c = omega (arith, inner (c .before .level .result) (c .before .before .args .full) (omega (arith, level-le (c .before .before .args .r .id))) (omega arith))
 
 mul-result-2 : tie.Need-mul-result-2
-mul-result-2 c = omega (arith, outer (c .before .level .result) (c .before .before .args .full) (c .count .result) (omega (arith, deep (c .before .before .args .r .id))) (omega arith) (omega arith))
+mul-result-2 c = omega (arith, outer (c .before .level .result) (c .before .before .args .full) (c .count .result) (omega (arith, level-le (c .before .before .args .r .id))) (omega arith) (omega arith))
 
 count-requires-2 : tie.Need-count-requires-2
 count-requires-2 c κs = search needs
 
 add-result-2 : tie.Need-add-result-2
-add-result-2 c = omega (arith, outer (c .before .before .level .result) (c .before .before .before .args .full) (c .before .count .result) (omega (arith, deep (c .before .before .before .args .r .id))) (omega arith) (omega arith))
+add-result-2 c = omega (arith, outer (c .before .before .level .result) (c .before .before .before .args .full) (c .before .count .result) (omega (arith, level-le (c .before .before .before .args .r .id))) (omega arith) (omega arith))
 
 returns : tie.Need-returns
 unfolding costOf

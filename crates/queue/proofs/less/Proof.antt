@@ -1,11 +1,11 @@
 -- `queue::less` meets its contract.
-use mathlib.Core.Path.{_≡_, refl, ap, _∙_}
+use mathlib.Core.Path.{_≡_}
 use mathlib.Core.Bool.{Bool, false}
 use Prim.Native.Nat.{ℕ}
 use Rattle.queue.specs.declared.Rec.{Rec}
 use Rattle.queue.specs.declared.Rule.{Rule}
 use Rattle.order.specs.Lex.{lexb, first}
-use Rattle.queue.specs.Queue.{before, key, costOf}
+use Rattle.queue.specs.Queue.{before, key, costR}
 use borrow.Author.Needs.{needs}
 use Rattle.queue.proofs.less.Statement.{statement}
 use Rattle.queue.proofs.less.Tie as tie
@@ -29,7 +29,7 @@ ahead-requires-4 : tie.Need-ahead-requires-4
 ahead-requires-4 c κs = search needs
 
 chain : (full : Rule) (x y : Rec) (t p i r : Bool) (cx cy : ℕ) → t ≡ first (x .terminal) (y .terminal) false → p ≡ first (x .present) (y .present) t
-    → cx ≡ costOf (full .full) x → cy ≡ costOf (full .full) y → i ≡ first (x .id) (y .id) p → r ≡ first cx cy i → r ≡ before full x y
+    → cx ≡ costR (full .full) x → cy ≡ costR (full .full) y → i ≡ first (x .id) (y .id) p → r ≡ first cx cy i → r ≡ before full x y
 unfolding before key lexb
 chain full x y t p i r cx cy et ep ex ey ei er = rw (er, ei, ep, et, ex, ey)
 

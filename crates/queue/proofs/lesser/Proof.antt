@@ -1,8 +1,8 @@
 -- `queue::lesser` meets its contract.
-use mathlib.Core.Path.{_≡_, sym, ap, _∙_}
-use mathlib.Core.Bool.{Bool, true, false}
+use mathlib.Core.Path.{_≡_, sym}
+use mathlib.Core.Bool.{Bool}
 use mathlib.Core.List.{List}
-use Prim.Native.Nat.{ℕ, _+_, _*_, _<_}
+use Prim.Native.Nat.{ℕ}
 use native.Mathlib.Omega.{arith}
 use Rattle.order.proofs.HeapSteps.{lesser-left, lesser-left-2, lesser-right}
 use Rattle.queue.specs.declared.Rec.{Rec}

@@ -1,12 +1,11 @@
 -- `queue::push` meets its contract. The invariant: the rest of the defined move ends in what the contract says.
 use mathlib.Core.Path.{_≡_, refl, sym, ap, _∙_}
-use mathlib.Core.Bool.{Bool, true, false}
+use mathlib.Core.Bool.{Bool, true}
 use mathlib.Core.Logic.{⊎-elim}
 use mathlib.Core.List.{List}
 use Prim.Native.Nat.{ℕ, _≤_, _<_}
 use native.Mathlib.Omega.{arith}
 use lib.ListN.{length}
-use borrow.Author.Needs.{needs}
 use Rattle.order.specs.Heap.{above}
 use Rattle.order.proofs.HeapRun.{Up, Up-start, Up-turn, Up-top, Up-stop}
 use Rattle.queue.specs.declared.Rec.{Rec}

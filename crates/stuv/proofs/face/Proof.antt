@@ -1,3 +1,4 @@
+-- `stuv::face` meets its contract.
 use borrow.Author.Needs.{needs}
 use Rattle.stuv.specs.Projection.{axisOf, alongAxis, faceOf}
 use Rattle.stuv.proofs.face.Statement.{statement}

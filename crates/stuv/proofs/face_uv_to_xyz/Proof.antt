@@ -1,3 +1,4 @@
+-- `stuv::face_uv_to_xyz` meets its contract.
 use Rattle.stuv.specs.Projection.{faceUvToXyz}
 use Rattle.stuv.proofs.Laws.{face-five}
 use Rattle.stuv.proofs.face_uv_to_xyz.Statement.{statement}

@@ -1,3 +1,4 @@
+-- `stuv::face_xyz_to_uv` meets its contract.
 use borrow.Author.Needs.{needs}
 use Rattle.stuv.specs.Projection.{faceXyzToUv}
 use Rattle.stuv.proofs.face_xyz_to_uv.Statement.{statement}

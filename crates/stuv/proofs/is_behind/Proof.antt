@@ -1,3 +1,4 @@
+-- `stuv::is_behind` meets its contract.
 use Rattle.stuv.specs.Projection.{behind}
 use Rattle.stuv.proofs.Laws.{face-five}
 use Rattle.stuv.proofs.is_behind.Statement.{statement}

@@ -1,3 +1,4 @@
+-- `stuv::signed` meets its contract.
 use borrow.Author.Needs.{needs}
 use Rattle.stuv.proofs.signed.Statement.{statement}
 use Rattle.stuv.proofs.signed.Tie as tie

@@ -1,3 +1,4 @@
+-- `stuv::st_to_uv` meets its contract.
 use Rattle.stuv.specs.Projection.{stToUv}
 use Rattle.stuv.proofs.st_to_uv.Statement.{statement}
 use Rattle.stuv.proofs.st_to_uv.Tie as tie

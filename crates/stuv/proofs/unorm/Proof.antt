@@ -1,3 +1,4 @@
+-- `stuv::unorm` meets its contract.
 use Rattle.stuv.specs.Projection.{uNorm}
 use Rattle.stuv.proofs.Laws.{face-five}
 use Rattle.stuv.proofs.unorm.Statement.{statement}

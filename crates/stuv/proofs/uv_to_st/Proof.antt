@@ -1,3 +1,4 @@
+-- `stuv::uv_to_st` meets its contract.
 use borrow.Author.Needs.{needs}
 use Rattle.stuv.specs.Projection.{uvToSt}
 use Rattle.stuv.proofs.uv_to_st.Statement.{statement}

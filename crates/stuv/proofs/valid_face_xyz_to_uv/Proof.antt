@@ -1,3 +1,4 @@
+-- `stuv::valid_face_xyz_to_uv` meets its contract.
 use Rattle.stuv.specs.Projection.{uvAt}
 use Rattle.stuv.proofs.Laws.{face-five}
 use Rattle.stuv.proofs.valid_face_xyz_to_uv.Statement.{statement}

@@ -1,3 +1,4 @@
+-- `stuv::vnorm` meets its contract.
 use Rattle.stuv.specs.Projection.{vNorm}
 use Rattle.stuv.proofs.Laws.{face-five}
 use Rattle.stuv.proofs.vnorm.Statement.{statement}

@@ -1,3 +1,4 @@
+-- `stuv::xyz_to_face_uv` meets its contract.
 use borrow.Author.Needs.{needs}
 use Rattle.stuv.specs.Projection.{xyzToFaceUv}
 use Rattle.stuv.proofs.Laws.{face-lt}

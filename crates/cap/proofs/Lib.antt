@@ -1,0 +1,4 @@
+pub mod Signs
+pub mod Laws
+pub mod Table
+pub mod BoundLaws

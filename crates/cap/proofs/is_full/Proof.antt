@@ -1,0 +1,12 @@
+-- `cap::is_full` meets its contract.
+use Rattle.cap.specs.Cap.{isFull}
+use mathlib.Core.Path.{refl}
+use Rattle.cap.proofs.is_full.Statement.{statement}
+use Rattle.cap.proofs.is_full.Tie as tie
+
+returns : tie.Need-returns
+unfolding isFull
+returns c = refl
+
+pub is-full-spec : {M : Type 1} → statement M
+is-full-spec = tie.close (tie.spec returns)

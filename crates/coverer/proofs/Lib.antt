@@ -1,0 +1,6 @@
+pub mod Memory
+pub mod Stands
+pub mod Adds
+pub mod Steps
+pub mod Runs
+pub mod Answers

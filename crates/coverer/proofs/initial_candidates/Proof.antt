@@ -1,0 +1,119 @@
+-- `coverer::initial_candidates` meets its contract. The invariant: the start cells from i on are what is left of the definition's start.
+use Prim.Native.Nat.{ℕ, _-_, _≤_, _<_}
+use Rattle.candidate.specs.Candidate.{requestOf}
+use Rattle.candidate.specs.declared.Asked.{Asked}
+use Rattle.coverer.proofs.Runs.{all-get, Starting, starting, starting-turn, starting-stop, starting-end}
+use Rattle.coverer.specs.declared.Counts.{Counts}
+use Rattle.order.specs.Order.{All}
+use Rattle.region.specs.Region.{intersectsCell, containsCell}
+use Rattle.region.specs.declared.Region.{Region}
+use Rattle.run.proofs.Totals.{leaves-le}
+use Rattle.run.specs.Ground.{Fit}
+use borrow.Author.Needs.{needs}
+use lib.ListN.{length, getD, take}
+use lib.Seq.{getD-take, length-take-le}
+use mathlib.Core.List.{List}
+use mathlib.Core.Path.{_≡_, refl, sym, _∙_, subst}
+use native.Mathlib.Omega.{arith}
+use Rattle.coverer.proofs.initial_candidates.Statement.{statement}
+use Rattle.coverer.proofs.initial_candidates.Tie as tie
+
+record Inv (q : Asked) (g : Region) (count : ℕ) (ids m₀ m : List ℕ) (t : Counts) (i : ℕ) : Type 0 where
+  within : i ≤ count
+  six : count ≤ 6
+  wide : length ids ≡ 6
+  long : length m ≡ length m₀
+  starting : Starting (requestOf q) (intersectsCell g) (containsCell g) (take count ids) m₀ m t i
+
+-- the i-th of the start cells
+inside : (count i : ℕ) (ids : List ℕ) → i < count → count ≤ 6 → length ids ≡ 6 → i < length (take count ids)
+inside count i ids h six wide = rw (length-take-le count ids (omega arith)) h
+
+cell : (q : Asked) (count i : ℕ) (ids : List ℕ) → i < count → count ≤ 6 → length ids ≡ 6 → All (Fit (requestOf q)) (take count ids) → Fit (requestOf q) (getD ids i 0)
+cell q count i ids h six wide a = subst (Fit (requestOf q)) (getD-take count ids i 0 h) (all-get (Fit (requestOf q)) (take count ids) i (inside count i ids h six wide) a)
+
+abbrev Inv-loop : tie.InvT-loop
+Inv-loop m₀ q g w count ids t₀ i₀ m t i = Inv q g count ids m₀ m t i
+
+abbrev μ-loop : tie.MeasureT-loop
+μ-loop m₀ q g w count ids t₀ i₀ m t i = count - i
+
+loop-holds : tie.Need-loop-holds Inv-loop μ-loop
+loop-holds c = record { within = omega arith; six = c .before .pre .1 .1 .0; wide = omega arith; long = refl; starting = starting _ _ _ _ _ }
+
+mul-start : tie.Need-mul-start Inv-loop μ-loop
+mul-start c = omega arith
+
+array-read-start : tie.Need-array-read-start Inv-loop μ-loop
+array-read-start c = let I = c .before .before .loop .inv in
+    omega (arith, I .six, I .wide)
+
+start-requires : tie.Need-start-requires Inv-loop μ-loop
+start-requires c κs =
+    let z = c .before .before .before .before in
+    let I = c .before .before .loop .inv in
+    let F = cell _ _ _ _ (c .before .loop-test .taken) (I .six) (I .wide) (z .pre .1 .1 .1) in
+    (omega (arith, z .pre .0, I .long), (z .pre .1 .0, (F, omega (arith, I .starting .room, I .six, c .before .loop-test .taken, leaves-le (getD (z .args .t5) (c .before .before .loop .i) 0)))))
+
+enum-known-r : tie.Need-enum-known-r Inv-loop μ-loop
+enum-known-r c = search needs
+
+same-length : tie.Need-same-length Inv-loop μ-loop
+same-length c = c .before .before .before .before .before .start .kept .0 ∙ c .before .before .before .before .before .before .before .before .loop .inv .long
+
+returns : tie.Need-returns Inv-loop μ-loop
+returns c =
+    let I = c .before .before .before .before .before .before .before .before .loop .inv in
+    let h = c .before .before .before .before .before .before .before .loop-test .taken in
+    starting-stop _ _ _ _ _ _ _ _ _ _ _ _ (inside _ _ _ h (I .six) (I .wide)) (sym (getD-take _ _ _ 0 h)) (c .before .r .given .1) (c .before .before .before .before .before .start .ensures .0) (I .starting)
+
+enum-known-r-2 : tie.Need-enum-known-r-2 Inv-loop μ-loop
+enum-known-r-2 c = search needs
+
+add-i : tie.Need-add-i Inv-loop μ-loop
+add-i c = omega arith
+
+loop-less : tie.Need-loop-less Inv-loop μ-loop
+loop-less c = omega arith
+
+loop-again : tie.Need-loop-again Inv-loop μ-loop
+loop-again c =
+    let I = c .before .before .before .before .before .before .before .before .loop .inv in
+    let h = c .before .before .before .before .before .before .before .loop-test .taken in
+    let d = c .before .before .before .before .before .start in
+    record {
+      within = omega arith;
+      six = I .six;
+      wide = I .wide;
+      long = d .kept .0 ∙ I .long;
+      starting = starting-turn _ _ _ _ _ _ _ _ _ _ _ _ (inside _ _ _ h (I .six) (I .wide)) (sym (getD-take _ _ _ 0 h)) (c .before .r2 .given .1) (leaves-le _) (d .ensures .0) (d .ensures .1) (I .starting);
+    }
+
+same-length-2 : tie.Need-same-length-2 Inv-loop μ-loop
+same-length-2 c = c .before .loop .inv .long
+
+returns-2 : tie.Need-returns-2 Inv-loop μ-loop
+returns-2 c =
+    let I = c .before .loop .inv in
+    let n : c .before .loop .i ≡ c .before .before .before .args .count = omega (arith, I .within, c .loop-test .left) in
+    starting-end _ _ _ _ _ _ _ _ (n ∙ sym (length-take-le _ _ (omega (arith, I .six, I .wide)))) (I .starting)
+
+pub initial-candidates-spec : {M : Type 1} → statement M
+initial-candidates-spec =
+    tie.close
+    (tie.spec
+    Inv-loop
+    μ-loop
+    loop-holds
+    mul-start
+    array-read-start
+    start-requires
+    enum-known-r
+    same-length
+    returns
+    enum-known-r-2
+    add-i
+    loop-less
+    loop-again
+    same-length-2
+    returns-2)

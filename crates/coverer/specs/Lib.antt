@@ -1,0 +1,2 @@
+pub mod Coverer
+pub mod Engine

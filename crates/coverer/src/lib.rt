@@ -1,0 +1,474 @@
+// The engine: region.rs's add_candidate, initial_candidates and covering_internal over lent memory. It follows the defined run of the crate run: each function's
+// contract says which part of the definition it does (specs/Engine).
+ghost use mathlib.Core.Path.{_≡_};
+ghost use mathlib.Core.Bool.{Bool, _&&_, _||_, not};
+ghost use Prim.Native.Nat.{ℕ, _+_, _-_, _^_, _<_, _≤_};
+ghost use lib.Dec.{leb, ltb, eqb};
+ghost use lib.Count.{ones};
+ghost use lib.ListN.{length, take};
+ghost use Rattle.cellid.specs.CellId.{levelOf, leavesOf};
+ghost use Rattle.order.specs.Order.{All};
+ghost use Rattle.run.specs.Run.{Request, keep, enqueue, depth, byId};
+ghost use Rattle.run.specs.Ground.{Fit};
+ghost use Rattle.candidate.specs.Candidate.{requestOf, Asks};
+ghost use Rattle.coverer.specs.Coverer.{outcomeOf, answerOf, memoryOf};
+ghost use Rattle.coverer.specs.Engine.{isIn, childIf, childrenFrom, leavesIn, broodOf, asideOf, grown, recOf, ruleOf, AsideUpTo, Does, Ready, addFor, addAllFor, handOnFor, stepWithFor, stepFor, loopFor, startFor, startsFor, ChildFor, QueuedFor, recFor, DoesFor, ComesFor, Live};
+use candidate::Asked;
+use candidate::Candidate;
+use queue::Rec;
+use queue::Rule;
+use region::Region;
+
+// How far a run is: ids kept, records queued, leaves set aside, steps taken.
+pub struct Counts {
+    pub kept: usize,
+    pub queued: usize,
+    pub aside: u64,
+    pub steps: u32,
+}
+
+// What a part of the run comes to: refused with its number, or going on.
+pub enum Turn {
+    Refused(u64),
+    Going(Counts),
+}
+
+// The cells under a taken candidate: place j of the sets is the cell base + (2j + 1) unit.
+pub struct Brood {
+    pub base: u64,
+    pub unit: u64,
+    pub places: u64,
+    pub present: u64,
+    pub terminal: u64,
+}
+
+// The engine's answer. The kept ids stand in the memory.
+pub enum Ran {
+    Refused(u64),
+    Done {
+        count: usize,
+        steps: u32,
+        aside: u64,
+    },
+}
+
+// Keeps a cell: refused with 8 where 1,024 are kept.
+fn keep(m: &mut [u64], t: Counts, id: u64) -> Turn
+    requires { ⌜ 4096 ≤ length (now m) ⌝ }
+    ensures { λ r. ⌜ ((q : Request) (hits within : ℕ → Bool) → Does q hits within (λ i. keep (grown i id)) (now (m .entry)) t (now (m .exit)) r) ⌝ }
+    ensures { λ r. ⌜ AsideUpTo (t .aside) r ⌝ }
+{
+    if t.kept < 1024 {
+        let at = 3072 + t.kept;
+        m[at] = id;
+        Turn::Going(Counts {
+            kept: t.kept + 1,
+            queued: t.queued,
+            aside: t.aside,
+            steps: t.steps,
+        })
+    } else {
+        Turn::Refused(8)
+    }
+}
+
+// Queues a record: refused with 7 where 1,024 are queued.
+fn enqueue(m: &mut [u64], t: Counts, w: Rule, r: Rec) -> Turn
+    requires { ⌜ 4096 ≤ length (now m) ⌝ }
+    requires { ⌜ w .full ≤ 64 ⌝ }
+    ensures { λ a. ⌜ ((q : Request) (hits within : ℕ → Bool) → w ≡ ruleOf q hits within → r ≡ recOf q hits within (grown 0 (r .id)) → Does q hits within (λ i. enqueue (byId q hits within) (grown i (r .id))) (now (m .entry)) t (now (m .exit)) a) ⌝ }
+    ensures { λ a. ⌜ AsideUpTo (t .aside) a ⌝ }
+{
+    if t.queued < 1024 {
+        let n = t.queued;
+        queue::push(m, n, r, w);
+        Turn::Going(Counts {
+            kept: t.kept,
+            queued: n + 1,
+            aside: t.aside,
+            steps: t.steps,
+        })
+    } else {
+        Turn::Refused(7)
+    }
+}
+
+// Leaves are set aside in outer runs only.
+fn set_aside(q: Asked, t: Counts, leaves: u64) -> Counts
+    requires { ⌜ t .aside + leaves < 2 ^ 64 ⌝ }
+    ensures { λ r. ⌜ r ≡ asideOf (requestOf q .inner) t leaves ⌝ }
+{
+    if q.inner {
+        return t;
+    }
+    Counts {
+        kept: t.kept,
+        queued: t.queued,
+        aside: t.aside + leaves,
+        steps: t.steps,
+    }
+}
+
+// Whether the parent is kept in the place of its children: outer, at min or deeper, all of 4^level_mod terminal.
+fn lifts(q: Asked, w: Rule, id: u64, terminal: u64) -> bool
+    ensures { λ r. ⌜ r ≡ (not (requestOf q .inner) && (leb (requestOf q .minLevel) (levelOf id) && eqb (ones terminal) (w .full))) ⌝ }
+{
+    if cellid::level(id) < q.min_level {
+        return false;
+    }
+    if queue::count(terminal) != w.full {
+        return false;
+    }
+    !q.inner
+}
+
+// Adds a candidate: a terminal is kept; any other is expanded, and then set aside, kept in the place of its children, or queued.
+fn add_candidate(
+    m: &mut [u64],
+    t: Counts,
+    q: Asked,
+    g: Region,
+    w: Rule,
+    id: u64,
+    terminal: bool,
+) -> Turn
+    requires { ⌜ 4096 ≤ length (now m) ⌝ }
+    requires { ⌜ Ready q g w ⌝ }
+    requires { ⌜ ChildFor q g (record { id = id; ends = terminal }) ⌝ }
+    requires { ⌜ t .aside + leavesOf id < 2 ^ 64 ⌝ }
+    ensures { λ r. ⌜ DoesFor q g (λ i. addFor q g (grown i id) terminal) (now (m .entry)) t (now (m .exit)) r ⌝ }
+    ensures { λ r. ⌜ AsideUpTo (t .aside + leavesOf id) r ⌝ }
+{
+    if terminal {
+        return keep(m, t, id);
+    }
+    let f = candidate::expand(q, g, id);
+    if f.present == 0 {
+        return Turn::Going(set_aside(q, t, cellid::lsb(id)));
+    }
+    if lifts(q, w, id, f.terminal) {
+        return keep(m, t, id);
+    }
+    enqueue(
+        m,
+        t,
+        w,
+        Rec {
+            id,
+            present: f.present,
+            terminal: f.terminal,
+        },
+    )
+}
+
+// Whether an inner run has as many results as are asked for.
+fn is_full(q: Asked, kept: usize) -> bool
+    ensures { λ r. ⌜ r ≡ (requestOf q .inner && leb (requestOf q .maxCells) kept) ⌝ }
+{
+    if q.inner {
+        q.max_cells <= kept as u64
+    } else {
+        false
+    }
+}
+
+// Whether the place j is in a set.
+fn is_in(set: u64, j: u64) -> bool
+    requires { ⌜ j < 64 ⌝ }
+    ensures { λ r. ⌜ r ≡ isIn set j ⌝ }
+{
+    (set >> j) & 1 == 1
+}
+
+// Adds the child at the place j, if there is one; in an inner run only while the results are below max_cells.
+fn add_child(m: &mut [u64], t: Counts, q: Asked, g: Region, w: Rule, b: Brood, j: u64) -> Turn
+    requires { ⌜ 4096 ≤ length (now m) ⌝ }
+    requires { ⌜ Ready q g w ⌝ }
+    requires { ⌜ j < 64 ⌝ }
+    requires { ⌜ All (ChildFor q g) (childIf b j) ⌝ }
+    requires { ⌜ t .aside + leavesIn (childIf b j) < 2 ^ 64 ⌝ }
+    ensures { λ r. ⌜ DoesFor q g (λ i. addAllFor q g i (childIf b j)) (now (m .entry)) t (now (m .exit)) r ⌝ }
+    ensures { λ r. ⌜ AsideUpTo (t .aside + leavesIn (childIf b j)) r ⌝ }
+{
+    if is_in(b.present, j) {
+        if is_full(q, t.kept) {
+            Turn::Going(t)
+        } else {
+            let ends = is_in(b.terminal, j);
+            add_candidate(m, t, q, g, w, b.base + (2 * j + 1) * b.unit, ends)
+        }
+    } else {
+        Turn::Going(t)
+    }
+}
+
+// Adds the children of a brood, in order.
+fn add_children(m: &mut [u64], s: Counts, q: Asked, g: Region, w: Rule, b: Brood) -> Turn
+    requires { ⌜ 4096 ≤ length (now m) ⌝ }
+    requires { ⌜ Ready q g w ⌝ }
+    requires { ⌜ b .places ≤ 64 ⌝ }
+    requires { ⌜ All (ChildFor q g) (childrenFrom b 0) ⌝ }
+    requires { ⌜ s .aside + leavesIn (childrenFrom b 0) < 2 ^ 64 ⌝ }
+    ensures { λ r. ⌜ DoesFor q g (λ i. addAllFor q g i (childrenFrom b 0)) (now (m .entry)) s (now (m .exit)) r ⌝ }
+{
+    let places = b.places;
+    let mut t = s;
+    let mut j: u64 = 0;
+    while j < places {
+        let r = add_child(m, t, q, g, w, b, j);
+        match r {
+            Turn::Refused(n) => {
+                return Turn::Refused(n);
+            }
+            Turn::Going(u) => {
+                t = u;
+                j += 1;
+            }
+        }
+    }
+    Turn::Going(t)
+}
+
+// The cells under a record, n levels down.
+fn cells_under(r: Rec, n: u64) -> Brood
+    requires { ⌜ 0 < r .id ⌝ }
+    requires { ⌜ n ≤ 3 ⌝ }
+    ensures { λ b. ⌜ b ≡ broodOf n r ⌝ }
+{
+    let low = cellid::lsb(r.id);
+    let width = 2 * n;
+    Brood {
+        base: r.id - low,
+        unit: low >> width,
+        places: 1 << width,
+        present: r.present,
+        terminal: r.terminal,
+    }
+}
+
+// How far down a candidate is expanded: one level below min, else level_mod.
+fn levels_under(q: Asked, id: u64) -> u64
+    ensures { λ r. ⌜ r ≡ depth (requestOf q) id ⌝ }
+{
+    if cellid::level(id) < q.min_level {
+        1
+    } else {
+        q.level_mod
+    }
+}
+
+// Hands a taken candidate on to its children. What failed in its expansion is set aside: the places without a child, each as many leaves as a child has.
+fn hand_on(m: &mut [u64], t: Counts, q: Asked, g: Region, w: Rule, r: Rec, children: u64) -> Turn
+    requires { ⌜ 4096 ≤ length (now m) ⌝ }
+    requires { ⌜ Ready q g w ⌝ }
+    requires { ⌜ QueuedFor q g (r .id) × (r ≡ recFor q g (r .id)) ⌝ }
+    requires { ⌜ children ≡ ones (r .present) ⌝ }
+    requires { ⌜ t .aside + leavesOf (r .id) < 2 ^ 64 ⌝ }
+    ensures { λ a. ⌜ DoesFor q g (λ i. handOnFor q g (grown i (r .id))) (now (m .entry)) t (now (m .exit)) a ⌝ }
+{
+    let b = cells_under(r, levels_under(q, r.id));
+    let failed = (b.places - children) * b.unit;
+    add_children(m, set_aside(q, t, failed), q, g, w, b)
+}
+
+// Whether a taken candidate is handed on: inner, or below min, or one child, or few enough in all.
+fn hands_on(q: Asked, t: Counts, id: u64, children: u64) -> bool
+    requires { ⌜ (t .kept ≤ 1024) × (t .queued ≤ 1024) × (children ≤ 64) ⌝ }
+    ensures { λ r. ⌜ r ≡ (requestOf q .inner || (ltb (levelOf id) (requestOf q .minLevel) || (eqb children 1 || leb (t .kept + t .queued + children) (requestOf q .maxCells)))) ⌝ }
+{
+    if q.inner {
+        return true;
+    }
+    if cellid::level(id) < q.min_level {
+        return true;
+    }
+    if children == 1 {
+        return true;
+    }
+    t.kept as u64 + t.queued as u64 + children <= q.max_cells
+}
+
+// What is done with a taken record.
+fn use_taken(m: &mut [u64], t: Counts, q: Asked, g: Region, w: Rule, r: Rec) -> Turn
+    requires { ⌜ 4096 ≤ length (now m) ⌝ }
+    requires { ⌜ Ready q g w ⌝ }
+    requires { ⌜ (t .kept ≤ 1024) × (t .queued ≤ 1024) ⌝ }
+    requires { ⌜ QueuedFor q g (r .id) × (r ≡ recFor q g (r .id)) ⌝ }
+    requires { ⌜ t .aside + leavesOf (r .id) < 2 ^ 64 ⌝ }
+    ensures { λ a. ⌜ DoesFor q g (λ i. stepWithFor q g (grown i (r .id))) (now (m .entry)) t (now (m .exit)) a ⌝ }
+{
+    if is_full(q, t.kept) {
+        return Turn::Going(Counts {
+            kept: t.kept,
+            queued: 0,
+            aside: t.aside,
+            steps: t.steps,
+        });
+    }
+    let children = queue::count(r.present);
+    if hands_on(q, t, r.id, children) {
+        hand_on(m, t, q, g, w, r, children)
+    } else {
+        keep(m, t, r.id)
+    }
+}
+
+// One step: takes the least of the queue.
+fn step(m: &mut [u64], t: Counts, q: Asked, g: Region, w: Rule) -> Turn
+    requires { ⌜ 4096 ≤ length (now m) ⌝ }
+    requires { ⌜ Ready q g w ⌝ }
+    requires { ⌜ Live q g (now m) t ⌝ }
+    requires { ⌜ (0 < t .queued) × (t .steps + 1 < 2 ^ 32) ⌝ }
+    ensures { λ a. ⌜ DoesFor q g (λ i. stepFor q g) (now (m .entry)) t (now (m .exit)) a ⌝ }
+{
+    let n = t.queued - 1;
+    let r = queue::pop(m, n, w);
+    use_taken(
+        m,
+        Counts {
+            kept: t.kept,
+            queued: n,
+            aside: t.aside,
+            steps: t.steps + 1,
+        },
+        q,
+        g,
+        w,
+        r,
+    )
+}
+
+// A start cell: added if it is a candidate. One that fails is set aside.
+fn start(m: &mut [u64], t: Counts, q: Asked, g: Region, w: Rule, id: u64) -> Turn
+    requires { ⌜ 4096 ≤ length (now m) ⌝ }
+    requires { ⌜ Ready q g w ⌝ }
+    requires { ⌜ Fit (requestOf q) id ⌝ }
+    requires { ⌜ t .aside + leavesOf id < 2 ^ 64 ⌝ }
+    ensures { λ r. ⌜ DoesFor q g (λ i. startFor q g (grown i id)) (now (m .entry)) t (now (m .exit)) r ⌝ }
+    ensures { λ r. ⌜ AsideUpTo (t .aside + leavesOf id) r ⌝ }
+{
+    let c = candidate::new_candidate(q, g, id);
+    match c {
+        Candidate::Kept => add_candidate(m, t, q, g, w, id, true),
+        Candidate::Queued => add_candidate(m, t, q, g, w, id, false),
+        Candidate::None => Turn::Going(set_aside(q, t, cellid::lsb(id))),
+    }
+}
+
+// The start cells, in order.
+fn initial_candidates(
+    m: &mut [u64],
+    q: Asked,
+    g: Region,
+    w: Rule,
+    ids: [u64; 6],
+    count: usize,
+) -> Turn
+    requires { ⌜ 4096 ≤ length (now m) ⌝ }
+    requires { ⌜ Ready q g w ⌝ }
+    requires { ⌜ count ≤ 6 ⌝ }
+    requires { ⌜ All (Fit (requestOf q)) (take count ids) ⌝ }
+    ensures { λ r. ⌜ ComesFor q g (startsFor q g (take count ids)) (now (m .entry)) (now (m .exit)) r ⌝ }
+{
+    let mut t = Counts {
+        kept: 0,
+        queued: 0,
+        aside: 0,
+        steps: 0,
+    };
+    let mut i: usize = 0;
+    while i < count {
+        let r = start(m, t, q, g, w, ids[i]);
+        match r {
+            Turn::Refused(n) => {
+                return Turn::Refused(n);
+            }
+            Turn::Going(u) => {
+                t = u;
+                i += 1;
+            }
+        }
+    }
+    Turn::Going(t)
+}
+
+// Step after step until the queue is empty: refused with 9 where the allowance is used up before.
+fn proceed(m: &mut [u64], s: Counts, q: Asked, g: Region, w: Rule, allowance: u32) -> Turn
+    requires { ⌜ 4096 ≤ length (now m) ⌝ }
+    requires { ⌜ Ready q g w ⌝ }
+    requires { ⌜ Live q g (now m) s ⌝ }
+    requires { ⌜ s .steps ≤ allowance ⌝ }
+    ensures { λ r. ⌜ DoesFor q g (λ i. loopFor q g (allowance - s .steps)) (now (m .entry)) s (now (m .exit)) r ⌝ }
+{
+    let mut t = s;
+    while 0 < t.queued {
+        if t.steps == allowance {
+            return Turn::Refused(9);
+        }
+        let r = step(m, t, q, g, w);
+        match r {
+            Turn::Refused(n) => {
+                return Turn::Refused(n);
+            }
+            Turn::Going(u) => {
+                t = u;
+            }
+        }
+    }
+    Turn::Going(t)
+}
+
+// The start cells, then the steps.
+fn covering_internal(
+    m: &mut [u64],
+    q: Asked,
+    g: Region,
+    w: Rule,
+    ids: [u64; 6],
+    count: usize,
+    allowance: u32,
+) -> Turn
+    requires { ⌜ 4096 ≤ length (now m) ⌝ }
+    requires { ⌜ Ready q g w ⌝ }
+    requires { ⌜ count ≤ 6 ⌝ }
+    requires { ⌜ All (Fit (requestOf q)) (take count ids) ⌝ }
+    ensures { λ r. ⌜ ComesFor q g (outcomeOf q g (take count ids) allowance) (now (m .entry)) (now (m .exit)) r ⌝ }
+{
+    let r = initial_candidates(m, q, g, w, ids, count);
+    match r {
+        Turn::Refused(n) => Turn::Refused(n),
+        Turn::Going(t) => proceed(m, t, q, g, w, allowance),
+    }
+}
+
+// The whole run, region.rs's covering_internal. Refused with 7, 8 or 9 as the run meets them; else the count, the steps and the set-aside total, and the kept
+// ids in the memory from the word 3,072 on, in the order kept. A step costs what its children's expansions cost, and a queue move for each.
+pub fn run(mem: &mut [u64], q: Asked, g: Region, ids: [u64; 6], count: usize, allowance: u32) -> Ran
+    requires { ⌜ 4096 ≤ length (now mem) ⌝ }
+    requires { ⌜ Asks q g ⌝ }
+    requires { ⌜ count ≤ 6 ⌝ }
+    requires { ⌜ All (Fit (requestOf q)) (take count ids) ⌝ }
+    ensures { λ r. ⌜ r ≡ answerOf (outcomeOf q g (take count ids) allowance) ⌝ }
+    ensures { λ _. ⌜ now (mem .exit) ≡ memoryOf (outcomeOf q g (take count ids) allowance) (now (mem .entry)) ⌝ }
+{
+    let w = Rule {
+        full: 1 << (2 * q.level_mod),
+    };
+    let r = covering_internal(mem, q, g, w, ids, count, allowance);
+    match r {
+        Turn::Refused(n) => {
+            cellunion::clear(mem, 0, 4096);
+            Ran::Refused(n)
+        }
+        Turn::Going(t) => {
+            let end = 3072 + t.kept;
+            cellunion::clear(mem, 0, 3072);
+            cellunion::clear(mem, end, 4096);
+            Ran::Done {
+                count: t.kept,
+                steps: t.steps,
+                aside: t.aside,
+            }
+        }
+    }
+}

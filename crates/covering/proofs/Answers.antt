@@ -1,0 +1,225 @@
+-- The ways an answer comes about, each with the working memory and the output that it leaves.
+use mathlib.Core.Path.{_≡_, refl, sym, ap, _∙_, subst}
+use mathlib.Core.Bool.{Bool, true, false}
+use mathlib.Core.List.{List, _++_, append-nil}
+use Prim.Native.Nat.{ℕ, _+_, _-_, _≤_, _<_}
+use native.Mathlib.Omega.{arith}
+use lib.Dec.{leb, eqb}
+use lib.ListN.{length, take, drop, length-drop, length-map, drop-of-length-le}
+use lib.Seq.{take-all, take-at, drop-drop, drop-append-add, length-take-le}
+use borrow.Author.Tests.{le-leb, lt-leb, ne-eqb}
+use Rattle.cellid.specs.CellId.{Cell}
+use Rattle.order.specs.Order.{All}
+use Rattle.region.specs.declared.Region.{Region}
+use Rattle.region.specs.Region.{boundOf}
+use Rattle.cellunion.specs.declared.Laid.{Laid}
+use Rattle.cellunion.specs.CellUnion.{normalise, denormalise}
+use Rattle.cellunion.specs.Memory.{laid, normalised, roomFor, laidOver}
+use Rattle.cellunion.proofs.Memory.{laid-start, drop-more}
+use Rattle.cellunion.proofs.Norm.{normalise-normal}
+use Rattle.cellunion.proofs.Results.{take-normalised, drop-normalised, length-normal}
+use Rattle.fast.specs.declared.RegionCoverer.{RegionCoverer}
+use Rattle.fast.specs.Memory.{fastCoveringFor}
+use Rattle.run.specs.Run.{Outcome, State, Grown, rawIds, asideTotal}
+use Rattle.run.specs.Run as Run
+use Rattle.run.proofs.Steps.{run-refuses}
+use Rattle.coverer.specs.declared.Ran.{Ran}
+use Rattle.coverer.specs.Coverer.{cleared, holding, outcomeOf, memoryOf}
+use Rattle.coverer.specs.Coverer as Coverer
+use Rattle.coverer.specs.Engine.{wordsAt, past}
+use Rattle.coverer.proofs.Memory.{cleared-front, holding-words, holding-room, holding-past}
+use Rattle.covering.specs.declared.Answer.{Answer}
+use Rattle.covering.specs.declared.Ending.{Ending}
+use Rattle.covering.specs.Covering.{earlyOf, Result, refused, done, fitted, checked, listOf, leftBy, endedAs, ranOf, resultOf, fastResultOf, answerOf, outputAfter, memoryAfter, Answered, laidAs}
+use Rattle.covering.proofs.Early.{Valid, early-none, early-low}
+use Rattle.covering.proofs.Starts.{raw-cells}
+
+-- what is answered is answered whatever it is called
+pub answered-as : {R R′ : Result} {r r′ : Answer} {m n n′ o p p′ : List ℕ} → R ≡ R′ → Answered R′ r′ m n′ o p′ → r ≡ r′ → n ≡ n′ → p ≡ p′ → Answered R r m n o p
+answered-as {m = m} {o = o} e a x y z = record {
+  answer = x ∙ a .answer ∙ ap answerOf (sym e);
+  memory = y ∙ a .memory ∙ ap (λ (w : Result). memoryAfter w m) (sym e);
+  output = z ∙ a .output ∙ ap (λ (w : Result). outputAfter w o) (sym e);
+}
+
+-- 1 to 6 leave everything as it was
+pub answered-early : (n : ℕ) (m o : List ℕ) → n ≤ 6 → Answered (refused n) (Answer.Refused n) m m o o
+unfolding answerOf memoryAfter outputAfter
+answered-early n m o h = record { answer = refl; memory = rw (memoryAfter, le-leb n 6 h); output = refl }
+
+-- 7 to 10 leave the first 4,096 words zero
+pub answered-late : (n : ℕ) (m o : List ℕ) → 6 < n → Answered (refused n) (Answer.Refused n) m (cleared 0 4096 m) o o
+unfolding answerOf memoryAfter outputAfter
+answered-late n m o h = record { answer = refl; memory = rw (memoryAfter, lt-leb n 6 h); output = refl }
+
+-- a finished list, laid over the output or with no room there
+pub answered-laid : (l m o : List ℕ) (steps aside : ℕ) → Answered (fitted (length o) l steps aside) (laidAs (roomFor l o) steps aside) m (cleared 0 4096 m) o (laidOver l o)
+unfolding fitted laidAs roomFor laidOver answerOf memoryAfter outputAfter
+answered-laid l m o steps aside = by (leb (length l) (length o))
+  where
+    by : (b : Bool) → Answered (elim b [ true ↦ done l steps aside | false ↦ refused 10 ]) (laidAs (elim b [ true ↦ Laid.Done (length l) | false ↦ Laid.NoRoom ]) steps aside) m (cleared 0 4096 m) o (elim b [ true ↦ laid 0 l o | false ↦ o ])
+    by true = record { answer = refl; memory = refl; output = laid-start l o }
+    by false = record { answer = refl; memory = refl; output = refl }
+
+-- the memory's first 4,096 words make no difference to what is left
+pub fitted-front : (room : ℕ) (l : List ℕ) (steps aside : ℕ) (r : Answer) (m m₁ m₂ o o₂ : List ℕ) → past 4096 m₁ ≡ past 4096 m → Answered (fitted room l steps aside) r m₁ m₂ o o₂ → Answered (fitted room l steps aside) r m m₂ o o₂
+unfolding fitted memoryAfter
+fitted-front room l steps aside r m m₁ m₂ o o₂ e A = record { answer = A .answer; memory = A .memory ∙ by (leb (length l) room); output = A .output }
+  where
+    by : (b : Bool) → memoryAfter (elim b [ true ↦ done l steps aside | false ↦ refused 10 ]) m₁ ≡ memoryAfter (elim b [ true ↦ done l steps aside | false ↦ refused 10 ]) m
+    by true = cleared-front 4096 m m₁ e
+    by false = cleared-front 4096 m m₁ e
+
+-- ---- the list that is asked for
+
+module _ (n : ℕ) (m : List ℕ) (k : ℕ) (m′ : List ℕ) (K : (k ≡ length (normalise (take n m))) × (m′ ≡ normalised n m)) where
+  front : take k m′ ≡ normalise (take n m)
+  front = rw (K .0, K .1) (take-normalised n m)
+
+  -- what is left in front may be laid or denormalised
+  pub front-asks : n ≤ length m → All Cell (take n m) → length m′ ≡ length m → (k ≤ length m′) × All Cell (take k m′)
+  front-asks h C l = (omega (arith, K .0, length-normal n m h C), rw front (normalise-normal (take n m) C .cells))
+
+unfoldable pub LayDone : Ending → RegionCoverer → ℕ → List ℕ → List ℕ → Laid → List ℕ → List ℕ → Type 0
+LayDone e c n m o r o′ m′ = (r ≡ roomFor (listOf e c (take n m)) o) × (o′ ≡ laidOver (listOf e c (take n m)) o) × (m′ ≡ leftBy e n m)
+
+module _ (e : Ending) (c : RegionCoverer) (n : ℕ) (m o : List ℕ) (r : Laid) (o′ : List ℕ) where
+  pub lay-raw : e ≡ Ending.Raw → (r ≡ roomFor (take n m) o) × (o′ ≡ laidOver (take n m) o) → LayDone e c n m o r o′ m
+  unfolding LayDone listOf leftBy
+  lay-raw E h = rw E (h .0, h .1, refl)
+
+  module _ (k : ℕ) (m′ : List ℕ) (K : (k ≡ length (normalise (take n m))) × (m′ ≡ normalised n m)) where
+    pub lay-union : e ≡ Ending.CellUnion → (r ≡ roomFor (take k m′) o) × (o′ ≡ laidOver (take k m′) o) → LayDone e c n m o r o′ m′
+    unfolding LayDone listOf leftBy
+    lay-union E h = rw E (h .0 ∙ ap (λ (l : List ℕ). roomFor l o) (front n m k m′ K), h .1 ∙ ap (λ (l : List ℕ). laidOver l o) (front n m k m′ K), K .1)
+
+    pub lay-covering : e ≡ Ending.Covering → (r ≡ roomFor (denormalise (c .«min_level») (c .«level_mod») (take k m′)) o) × (o′ ≡ laidOver (denormalise (c .«min_level») (c .«level_mod») (take k m′)) o) → LayDone e c n m o r o′ m′
+    unfolding LayDone listOf leftBy
+    lay-covering E h =
+        rw E (h .0 ∙ ap (λ (l : List ℕ). roomFor (denormalise (c .«min_level») (c .«level_mod») l) o) (front n m k m′ K), h .1 ∙ ap (λ (l : List ℕ). laidOver (denormalise (c .«min_level») (c .«level_mod») l) o) (front n m k m′ K), K .1)
+
+-- ---- the refusals 1 to 6 come first
+
+pub checked-refused : (c : RegionCoverer) (g : Region) (m o : List ℕ) (R : Result) (n : ℕ) → n ≡ earlyOf c g (length m) → (n ≡ 0 → ⊥) → Answered (checked c g (length m) R) (Answer.Refused n) m m o o
+checked-refused c g m o R n e h =
+    let t : eqb (earlyOf c g (length m)) 0 ≡ false = ne-eqb _ _ (λ z. h (e ∙ z)) in
+    let r : checked c g (length m) R ≡ refused n = rw (checked, t) (ap refused (sym e)) in
+    answered-as r (answered-early n m o (rw e (early-low c g (length m)))) refl refl refl
+
+pub checked-none : (c : RegionCoverer) (g : Region) (memory : ℕ) (R : Result) → earlyOf c g memory ≡ 0 → checked c g memory R ≡ R
+checked-none c g memory R e = rw (checked, e)
+
+pub fast-answered : (c : RegionCoverer) (g : Region) (m o : List ℕ) → earlyOf c g (length m) ≡ 0
+    → Answered (fastResultOf c g (length m) (length o)) (laidAs (roomFor (fastCoveringFor c (boundOf g)) o) 0 0) m (cleared 0 4096 m) o (laidOver (fastCoveringFor c (boundOf g)) o)
+unfolding fastResultOf
+fast-answered c g m o e = answered-as (checked-none c g (length m) _ e) (answered-laid (fastCoveringFor c (boundOf g)) m o 0 0) refl refl refl
+
+-- ---- the end of a run
+
+-- what is left of the raw list's words from the place j on
+pub left-past : (e : Ending) (n j : ℕ) (l : List ℕ) → n ≤ j → n ≤ length l → All Cell (take n l) → drop j (leftBy e n l) ≡ drop j l
+unfolding leftBy
+left-past Ending.Raw n j l h r C = refl
+left-past Ending.CellUnion n j l h r C = drop-more n j (normalised n l) l h (drop-normalised n l r C)
+left-past Ending.Covering n j l h r C = drop-more n j (normalised n l) l h (drop-normalised n l r C)
+
+-- the words from a on, taken out as a part
+module _ (a k : ℕ) (m : List ℕ) (K : k ≡ length m - a) where
+  part : take k (drop a m) ≡ drop a m
+  part = take-all k (drop a m) (omega (arith, length-drop a m))
+
+  pub part-words : (n : ℕ) → take n (take k (drop a m)) ≡ wordsAt a n m
+  unfolding wordsAt
+  part-words n = ap (take n) part
+
+  -- and put back, changed in words before b alone
+  pub put-past : (b : ℕ) (l : List ℕ) → a ≤ b → b ≤ length m → drop (b - a) l ≡ drop (b - a) (take k (drop a m)) → past b (take a m ++ (l ++ drop k (drop a m))) ≡ past b m
+  unfolding past
+  put-past b l h g e =
+      let z : a + (b - a) ≡ b = omega arith in
+      let t : length (take a m) ≡ a = length-take-le a m (omega arith) in
+      let s : l ++ drop k (drop a m) ≡ l = ap (λ (x : List ℕ). l ++ x) (drop-of-length-le (drop a m) {i = k} (omega (arith, length-drop a m))) ∙ append-nil l in
+      ap (λ (x : List ℕ). drop b (take a m ++ x)) s
+      ∙ ap (λ (j : ℕ). drop j (take a m ++ l)) (sym z ∙ ap (λ (j : ℕ). j + (b - a)) (sym t))
+      ∙ drop-append-add (take a m) l (b - a) ∙ e ∙ ap (drop (b - a)) part ∙ drop-drop (b - a) a m ∙ ap (λ (j : ℕ). drop j m) z
+
+-- the raw list in the memory from the word 3,072 on
+module _ (e : Ending) (c : RegionCoverer) (n : ℕ) (m : List ℕ) (P : (4096 ≤ length m) × (n ≤ 1024) × All Cell (wordsAt 3072 n m) × (c .«min_level» ≤ 30) × (0 < c .«level_mod»)) where
+  abbrev ids : List ℕ
+  ids = take (length m - 3072) (drop 3072 m)
+
+  words : take n ids ≡ wordsAt 3072 n m
+  words = part-words 3072 (length m - 3072) m refl n
+
+  pub lay-asks : (n ≤ length ids) × All Cell (take n ids) × (c .«min_level» ≤ 30) × (0 < c .«level_mod»)
+  lay-asks = (omega (arith, P .0, P .1, ap length (part 3072 (length m - 3072) m refl), length-drop 3072 m), subst (All Cell) (sym words) (P .2), P .3, P .4)
+
+  pub finish-gives : (steps aside : ℕ) (o : List ℕ) (w : Laid) (r : Answer) (l m₂ o₂ : List ℕ)
+      → (w ≡ roomFor (listOf e c (take n ids)) o) × (o₂ ≡ laidOver (listOf e c (take n ids)) o) × (l ≡ leftBy e n ids) → r ≡ laidAs w steps aside
+      → m₂ ≡ cleared 0 4096 (take 3072 m ++ (l ++ drop (length m - 3072) (drop 3072 m))) → Answered (fitted (length o) (listOf e c (wordsAt 3072 n m)) steps aside) r m m₂ o o₂
+  finish-gives steps aside o w r l m₂ o₂ L R M =
+      answered-as refl (answered-laid (listOf e c (wordsAt 3072 n m)) m o steps aside)
+      (R ∙ ap (λ (v : Laid). laidAs v steps aside) (L .0 ∙ ap (λ (x : List ℕ). roomFor (listOf e c x) o) words))
+      (M ∙ cleared-front 4096 m _ (put-past 3072 (length m - 3072) m refl 4096 l (omega arith) (P .0) (ap (drop 1024) (L .2) ∙ left-past e n 1024 ids (P .1) (lay-asks .0) (lay-asks .1))))
+      (L .1 ∙ ap (λ (x : List ℕ). laidOver (listOf e c x) o) words)
+
+-- the run's answer tells its outcome
+pub ran-refused : (o : Outcome) (n : ℕ) → Ran.Refused n ≡ Coverer.answerOf o → o ≡ Run.refused n
+unfolding Coverer.answerOf
+ran-refused (Run.refused k) n e = let z : k ≡ n = cc in ap Run.refused z
+ran-refused (Run.going s) n e = let z : _≡_ {A = ℕ} 0 1 = cc in absurd (omega arith)
+
+pub record RanDone (o : Outcome) (count steps aside : ℕ) : Type 0 where
+  pub state : State
+  pub is : o ≡ Run.going state
+  pub counted : count ≡ length (rawIds state)
+  pub taken : steps ≡ state .steps
+  pub total : aside ≡ asideTotal state
+
+pub ran-done : (o : Outcome) (count steps aside : ℕ) → Ran.Done count steps aside ≡ Coverer.answerOf o → RanDone o count steps aside
+unfolding Coverer.answerOf rawIds
+ran-done (Run.refused n) count steps aside e = let z : _≡_ {A = ℕ} 0 1 = cc in absurd (omega arith)
+ran-done (Run.going s) count steps aside e =
+    let x : count ≡ length (s .raw) = cc in
+    record { state = s; is = refl; counted = x ∙ sym (length-map (s .raw) (λ (w : Grown). w .id)); taken = cc; total = cc }
+
+module _ (e : Ending) (inner : Bool) (c : RegionCoverer) (g : Region) (allowance : ℕ) (m o : List ℕ) (none : earlyOf c g (length m) ≡ 0) (m₁ : List ℕ) (M : m₁ ≡ memoryOf (ranOf inner c g allowance) m) where
+  -- 7, 8 or 9
+  pub respond-late : (n : ℕ) → Ran.Refused n ≡ Coverer.answerOf (ranOf inner c g allowance) → Answered (resultOf e inner c g allowance (length m) (length o)) (Answer.Refused n) m m₁ o o
+  unfolding resultOf endedAs memoryOf ranOf outcomeOf
+  respond-late n r =
+      let f : ranOf inner c g allowance ≡ Run.refused n = ran-refused _ n r in
+      let late = run-refuses _ _ _ _ _ allowance n f in
+      answered-as (checked-none c g (length m) _ none ∙ ap (endedAs e c (length o)) f) (answered-late n m o (late .0)) refl (M ∙ ap (λ (w : Outcome). memoryOf w m) f) refl
+
+  module _ (count steps aside : ℕ) (D : RanDone (ranOf inner c g allowance) count steps aside) (same : length m₁ ≡ length m) where
+    ended : m₁ ≡ holding 3072 4096 (rawIds (D .state)) m
+    unfolding memoryOf
+    ended = M ∙ ap (λ (w : Outcome). memoryOf w m) (D .is)
+
+    kept-words : wordsAt 3072 count m₁ ≡ rawIds (D .state)
+    unfolding wordsAt
+    kept-words = ap (λ (x : List ℕ). take count (drop 3072 x)) ended ∙ ap (take count) (holding-words 3072 4096 (rawIds (D .state)) m) ∙ take-at (rawIds (D .state)) _ count (sym (D .counted))
+
+    valid : Valid c g (length m)
+    valid = early-none c g (length m) none
+
+    few : 3072 + length (rawIds (D .state)) ≤ 4096
+    few = holding-room 3072 4096 (rawIds (D .state)) m (omega arith) (valid .long) (ap length (sym ended) ∙ same)
+
+    pub finish-asks : (4096 ≤ length m₁) × (count ≤ 1024) × All Cell (wordsAt 3072 count m₁) × (c .«min_level» ≤ 30) × (0 < c .«level_mod»)
+    finish-asks = (
+      omega (arith, same, valid .long),
+      omega (arith, D .counted, few),
+      subst (All Cell) (sym kept-words) (raw-cells c g (length m) valid inner allowance (D .state) (D .is)),
+      omega (arith, valid .order, valid .deep),
+      valid .«mod» .0,
+    )
+
+    -- a success, or 10
+    pub respond-done : (r : Answer) (m₂ o₂ : List ℕ) → Answered (fitted (length o) (listOf e c (wordsAt 3072 count m₁)) steps aside) r m₁ m₂ o o₂ → Answered (resultOf e inner c g allowance (length m) (length o)) r m m₂ o o₂
+    unfolding resultOf endedAs past
+    respond-done r m₂ o₂ A =
+        let x : resultOf e inner c g allowance (length m) (length o) ≡ fitted (length o) (listOf e c (wordsAt 3072 count m₁)) steps aside =
+        checked-none c g (length m) _ none ∙ ap (endedAs e c (length o)) (D .is) ∙ sym (rw (kept-words, D .taken, D .total)) in
+        answered-as x (fitted-front (length o) (listOf e c (wordsAt 3072 count m₁)) steps aside r m m₁ m₂ o o₂ (ap (drop 4096) ended ∙ holding-past 3072 4096 (rawIds (D .state)) m few) A) refl refl refl

@@ -1,0 +1,94 @@
+-- What fast covering makes of a list of cells: a normal list, then cells on step, that cover every leaf of it.
+use mathlib.Core.Path.{_≡_, refl, sym, ap, _∙_, subst}
+use mathlib.Core.Bool.{true}
+use mathlib.Core.Logic.{_⊎_, inl, inr, ⊎-elim}
+use mathlib.Core.List.{List, [], _∷_, map}
+use Prim.Native.Nat.{ℕ, _-_, _%_, _≤_}
+use native.Mathlib.Omega.{arith}
+use lib.ListN.{length, length-map}
+use Rattle.cellid.specs.CellId.{Cell, levelOf}
+use Rattle.order.specs.Order.{All}
+use Rattle.cellunion.specs.CellUnion.{lo, hi, covers, Member, Apart, Normal, OnStep, normalise, denormalise}
+use Rattle.cellunion.proofs.Unique.{all-at, at-all, covers→, covers←}
+use Rattle.cellunion.proofs.Stack.{Cov}
+use Rattle.cellunion.proofs.Norm.{normalise-normal, normalise-short}
+use Rattle.cellunion.proofs.Denorm.{denormalise-laws, denormalise-leaves, denormalise-apart, goal-on}
+use Rattle.fast.specs.Fast.{lifted, mergedCovering, fastCovering}
+use Rattle.fast.proofs.Levels.{lifted-is, lifted-under, Under}
+use Rattle.fast.proofs.Merging.{AllUnder, merged-laws, normal-cov, normal-under}
+
+-- ---- lifting
+
+pub lifted-cells : (low top step : ℕ) (l : List ℕ) → All Cell l → All Cell (map (lifted low top step) l)
+unfolding All
+lifted-cells low top step [] C = tt
+lifted-cells low top step (x ∷ l) C = (lifted-is low top step x (C .0) .cell, lifted-cells low top step l (C .1))
+
+lifted-all-under : (low top step : ℕ) (l : List ℕ) → low ≤ top → All Cell l → AllUnder low top step (map (lifted low top step) l)
+unfolding All
+lifted-all-under low top step [] o C = tt
+lifted-all-under low top step (x ∷ l) o C = (lifted-under low top step x o (C .0), lifted-all-under low top step l o (C .1))
+
+lifted-cover : (low top step : ℕ) (l : List ℕ) → All Cell l → Cov l (map (lifted low top step) l)
+unfolding All Member
+lifted-cover low top step [] C n w = w
+lifted-cover low top step (x ∷ l) C n w = ⊎-elim
+    (λ (e : w .0 ≡ x).
+    let i = lifted-is low top step x (C .0) .within in
+    (lifted low top step x, inl refl, omega (arith, w .2, ap lo e, i .0), omega (arith, w .3, ap hi e, i .1)))
+    (λ (m : Member (w .0) l). let v = lifted-cover low top step l (C .1) n (w .0, m, w .2, w .3) in (v .0, inr (v .1), v .2, v .3))
+    (w .1)
+
+-- ---- the normal list
+
+pub record Covering (low top step : ℕ) (l r : List ℕ) : Type 0 where
+  pub normal : Normal r
+  pub cover : Cov l r
+  pub short : length r ≤ length l
+  pub under : AllUnder low top step r
+
+pub merged-covering : (low top step cells : ℕ) (l : List ℕ) → low ≤ top → All Cell l → Covering low top step l (mergedCovering low top step cells l)
+unfolding mergedCovering
+merged-covering low top step cells l o C =
+    let f = map (lifted low top step) l in
+    let F = lifted-cells low top step l C in
+    let N = normalise-normal f F in
+    let M = merged-laws low step cells (length (normalise f)) (normalise f) (N .cells) in
+    record {
+      normal = M .normal N;
+      cover = λ n w. M .cover n (normal-cov f F n (lifted-cover low top step l C n w));
+      short = omega (arith, M .short, normalise-short f F, length-map l (lifted low top step));
+      under = M .keeps low top step (normal-under low top step f F (lifted-all-under low top step l o C));
+    }
+
+-- ---- fast covering
+
+module _ (low top step cells : ℕ) (l : List ℕ) (o : low ≤ top) (C : All Cell l) where
+  M : Covering low top step l (mergedCovering low top step cells l)
+  M = merged-covering low top step cells l o C
+
+  pub fast-cells : All Cell (fastCovering low top step cells l)
+  unfolding fastCovering
+  fast-cells = denormalise-laws low step (mergedCovering low top step cells l) (M .normal .cells) .cells
+
+  pub fast-apart : Apart (fastCovering low top step cells l)
+  unfolding fastCovering
+  fast-apart = denormalise-apart low step (mergedCovering low top step cells l) (M .normal .cells) (M .normal .apart)
+
+  -- every leaf of the list is under the answer
+  pub fast-leaves : (n : ℕ) → covers l n ≡ true → covers (fastCovering low top step cells l) n ≡ true
+  unfolding fastCovering
+  fast-leaves n t =
+      denormalise-leaves low step (mergedCovering low top step cells l) (M .normal .cells) n
+      ∙ covers← (mergedCovering low top step cells l) n (M .normal .cells) (M .cover n (covers→ l n C t))
+
+  -- each level runs from min to max in whole steps of mod from min
+  pub fast-levels : 30 % step ≡ 0 → top ≤ 30 → All (λ id. OnStep low top step (levelOf id)) (fastCovering low top step cells l)
+  unfolding fastCovering
+  fast-levels w t =
+      let m = mergedCovering low top step cells l in
+      let R = denormalise-laws low step m (M .normal .cells) in
+      at-all (λ id. OnStep low top step (levelOf id)) (denormalise low step m) (λ y i.
+      let k = R .each y i in
+      let u = all-at (λ x. Under low top step (levelOf x)) m (M .under) (k .0) (k .1) in
+      subst (OnStep low top step) (sym (k .3)) (goal-on low top step (levelOf (k .0)) (u .to) w t (u .le) (u .on)))

@@ -1,0 +1,183 @@
+-- The adjustment of start cells in memory: one more cell, and the loop over them.
+use mathlib.Core.Path.{_≡_, refl, sym, ap, ap₂, _∙_, subst}
+use mathlib.Core.Bool.{Bool, true}
+use mathlib.Core.Logic.{inl, inr}
+use mathlib.Core.List.{List, [], _∷_, _++_, append-nil}
+use Prim.Native.Nat.{ℕ, _+_, _-_, _≤_, _<_, min}
+use native.Mathlib.Omega.{arith}
+use lib.ListN.{length, getD, set, take, drop, replicate}
+use lib.Seq.{length-take-le, drop-set-lt, drop-at}
+use Rattle.cellid.specs.CellId.{Cell, holds}
+use Rattle.cellid.proofs.Laws.{cell-pos}
+use Rattle.order.specs.Order.{All}
+use Rattle.cellunion.specs.CellUnion.{lo, Apart, clearOf, rev}
+use Rattle.cellunion.specs.Stack.{Down, down, Gives}
+use Rattle.cellunion.specs.Memory.{zeros, laid}
+use Rattle.cellunion.proofs.Memory.{next-read, no-more, drop-more, length-zeros, zeros-add, zeros-replicate}
+use Rattle.cellunion.proofs.Runs.{HeadFree, down-pop, down-push, rev-down}
+use Rattle.fast.specs.Fast.{mergedCovering, keepStart, keepStarts, adjustedCells, startsOf}
+use Rattle.fast.specs.Memory.{NextStart, over}
+use Rattle.fast.proofs.StartLaws.{clear-without, not-around, keep-in, keep-out, KeptStart, keep-start-laws, Begun, begun-none, begun-on, raised, next-start, adjusted-cells, rough-laws, starts-rough, starts-adjusted}
+use Rattle.fast.proofs.Laws.{Covering}
+use Rattle.fast.proofs.Turns.{over-again, take-over, length-over, bound-front}
+
+-- ---- one more cell
+
+pub head-pos : (m : List ℕ) (k c : ℕ) → NextStart (down k m) c → 0 < k → 0 < getD m (k - 1) 0
+unfolding All
+head-pos m k c N h =
+    let C = subst (λ (s : List ℕ). All Cell s) (down-pop k m h) (N .cells) .0 in
+    cell-pos _ _ _ (C .2)
+
+pub start-skip : (m : List ℕ) (k c : ℕ) (b : Bool) → 0 < k → b ≡ holds (getD m (k - 1) 0) c → b ≡ true → Gives (keepStart (down k m) c) k m m k
+start-skip m k c b h e t = record {
+  is = down-pop k m h ∙ sym (ap (λ (s : List ℕ). keepStart s c) (down-pop k m h) ∙ keep-in (getD m (k - 1) 0) (down (k - 1) m) c (sym e ∙ t));
+  within = omega arith;
+  rest = refl;
+}
+
+-- none is skipped: what is kept is c and what it does not hold
+start-go : (m : List ℕ) (k c : ℕ) → NextStart (down k m) c → HeadFree m k c → keepStart (down k m) c ≡ c ∷ clearOf c (down k m)
+unfolding keepStart clearOf down
+start-go m k c N (inl h) = let e : k ≡ 0 = omega arith in rw e
+start-go m k c N (inr h) =
+    let e = down-pop k m (h .0) in
+    let N′ : NextStart (getD m (k - 1) 0 ∷ down (k - 1) m) c = subst (λ (s : List ℕ). NextStart s c) e N in
+    let f = clear-without (getD m (k - 1) 0 ∷ down (k - 1) m) c N′ (not-around (getD m (k - 1) 0) (down (k - 1) m) c N′ (h .1)) .0 in
+    ap (λ (s : List ℕ). keepStart s c) e ∙ keep-out (getD m (k - 1) 0) (down (k - 1) m) c (h .1) ∙ ap (λ (s : List ℕ). c ∷ s) (sym f ∙ ap (clearOf c) (sym e))
+
+pub start-done : (m : List ℕ) (k c j : ℕ) → k < length m → NextStart (down k m) c → HeadFree m k c → j ≤ k → down j m ≡ clearOf c (down k m) → Gives (keepStart (down k m) c) k m (set m j c) (j + 1)
+start-done m k c j h N f l e = record {
+  is = down-push j c m (omega arith) ∙ ap (λ (s : List ℕ). c ∷ s) e ∙ sym (start-go m k c N f);
+  within = omega arith;
+  rest = drop-set-lt (k + 1) m j c (omega arith);
+}
+
+-- ---- all of them
+
+module _ (low step : ℕ) where
+  pub record Adjusting (m₀ : List ℕ) (n : ℕ) (m : List ℕ) (k i : ℕ) : Type 0 where
+    pub few : k ≤ i
+    pub within : i ≤ n
+    pub room : n ≤ length m₀
+    pub len : length m ≡ length m₀
+    pub rest : drop i m ≡ drop i m₀
+    pub kept : All Cell (down k m)
+    pub order : Down (down k m)
+    pub begun : Begun (down k m) (drop i (take n m₀))
+    pub cells : All Cell (drop i (take n m₀))
+    pub apart : Apart (drop i (take n m₀))
+    pub same : keepStarts low step (down k m) (drop i (take n m₀)) ≡ keepStarts low step [] (take n m₀)
+
+  pub adjusting-start : (m₀ : List ℕ) (n : ℕ) → n ≤ length m₀ → All Cell (take n m₀) → Apart (take n m₀) → Adjusting m₀ n m₀ 0 0
+  unfolding All Down down
+  adjusting-start m₀ n h C P = record { few = omega arith; within = omega arith; room = h; len = refl; rest = refl; kept = tt; order = tt; begun = begun-none (take n m₀); cells = C; apart = P; same = refl }
+
+  pub adjusting-next : (m₀ : List ℕ) (n : ℕ) (m : List ℕ) (k i up : ℕ) → Adjusting m₀ n m k i → i < n → up ≡ raised low step (getD m i 0) → (k < length m) × NextStart (down k m) up
+  unfolding All
+  adjusting-next m₀ n m k i up A h u =
+      let e = next-read m₀ m n i (A .room) h (A .rest) in
+      let l = drop (i + 1) (take n m₀) in (
+        omega (arith, A .few, A .room, A .len),
+        rw u (next-start low step (down k m) (getD m i 0) l (A .kept) (A .order) (subst (Begun (down k m)) e (A .begun)) (subst (λ (s : List ℕ). All Cell s) e (A .cells) .0)),
+      )
+
+  pub adjusting-turn : (m₀ : List ℕ) (n : ℕ) (m : List ℕ) (k i up : ℕ) (m′ : List ℕ) (r : ℕ) → Adjusting m₀ n m k i → i < n → up ≡ raised low step (getD m i 0) → length m′ ≡ length m
+      → Gives (keepStart (down k m) up) k m m′ r → Adjusting m₀ n m′ r (i + 1)
+  unfolding All Apart keepStarts next-start
+  adjusting-turn m₀ n m k i up m′ r A h u q G =
+      let e = next-read m₀ m n i (A .room) h (A .rest) in
+      let x = getD m i 0 in
+      let l = drop (i + 1) (take n m₀) in
+      let C = subst (λ (s : List ℕ). All Cell s) e (A .cells) in
+      let P = subst Apart e (A .apart) in
+      let is : down r m′ ≡ keepStart (down k m) (raised low step x) = G .is ∙ ap (keepStart (down k m)) u in
+      let K : KeptStart (down k m) (raised low step x) (lo x) (keepStart (down k m) (raised low step x)) =
+      keep-start-laws (down k m) (raised low step x) (next-start low step (down k m) x l (A .kept) (A .order) (subst (Begun (down k m)) e (A .begun)) (C .0)) in
+      record {
+        few = omega (arith, G .within, A .few);
+        within = omega arith;
+        room = A .room;
+        len = q ∙ A .len;
+        rest = drop-more (k + 1) (i + 1) m′ m (omega (arith, A .few)) (G .rest) ∙ drop-more i (i + 1) m m₀ (omega arith) (A .rest);
+        kept = subst (λ (s : List ℕ). All Cell s) (sym is) (K .cells);
+        order = subst Down (sym is) (K .down);
+        begun = subst (λ (s : List ℕ). Begun s l) (sym is) (begun-on x l (keepStart (down k m) (raised low step x)) (C .0) (C .1) (P .0) (K .begun));
+        cells = C .1;
+        apart = P .1;
+        same = ap (λ (s : List ℕ). keepStarts low step s l) is ∙ sym (ap (keepStarts low step (down k m)) e) ∙ A .same;
+      }
+
+  pub adjusting-done : (m₀ : List ℕ) (n : ℕ) (m : List ℕ) (k i : ℕ) (out : List ℕ) → Adjusting m₀ n m k i → n ≤ i → out ≡ laid k (zeros (n - k)) m
+      → (k ≡ length (adjustedCells low step (take n m₀))) × (out ≡ over n (adjustedCells low step (take n m₀)) m₀)
+  unfolding adjustedCells keepStarts over laid
+  adjusting-done m₀ n m k i out A h e =
+      let z = no-more m₀ n i (A .room) h in
+      let s : down k m ≡ keepStarts low step [] (take n m₀) = sym (ap (keepStarts low step (down k m)) z) ∙ A .same in
+      let f : take k m ≡ rev (keepStarts low step [] (take n m₀)) = rev-down k m (omega (arith, A .few, A .within, A .len, A .room)) ∙ ap rev s in
+      let q : k ≡ length (rev (keepStarts low step [] (take n m₀))) = sym (length-take-le k m (omega (arith, A .few, A .within, A .len, A .room))) ∙ ap length f in
+      let w : k + length (zeros (n - k)) ≡ n = omega (arith, length-zeros (n - k), A .few, A .within) in (
+        q,
+        e ∙ ap₂ (λ (a b : List ℕ). a ++ (zeros (n - k) ++ b)) f (ap (λ (j : ℕ). drop j m) w ∙ drop-more i n m m₀ (A .within) (A .rest))
+            ∙ ap (λ (j : ℕ). rev (keepStarts low step [] (take n m₀)) ++ (zeros (n - j) ++ drop n m₀)) q,
+      )
+
+-- ---- in the array of the answer
+
+-- r in place of the bound's list, in an array that has zeros behind that
+in-array : (w n : ℕ) (ids bound r : List ℕ) → n ≡ length bound → n ≤ w → ids ≡ bound ++ replicate (w - length bound) 0 → length r ≤ n → over n r ids ≡ r ++ zeros (w - length r)
+unfolding over
+in-array w n ids bound r e h f s =
+    let t : drop n ids ≡ zeros (w - n) ++ [] = ap (drop n) f ∙ drop-at bound (replicate (w - length bound) 0) n (sym e) ∙ zeros-replicate (w - length bound) ∙ sym (append-nil (zeros (w - length bound))) ∙ ap (λ (k : ℕ). zeros (w - k) ++ []) (sym e) in
+    let z : (n - length r) + (w - n) ≡ w - length r = omega arith in
+    ap (λ (l : List ℕ). r ++ l) (ap (λ (l : List ℕ). zeros (n - length r) ++ l) t ∙ zeros-add (n - length r) (w - n) [] ∙ append-nil (zeros (n - length r + (w - n))) ∙ ap zeros z)
+
+module _ (low top step cells w n : ℕ) (ids bound : List ℕ) (C : All Cell bound) (e : n ≡ length bound) (h : n ≤ w) (f : ids ≡ bound ++ replicate (w - length bound) 0)
+    (few k : ℕ) (ids′ : List ℕ) (ef : few ≡ min cells 4) (ek : k ≡ length (mergedCovering 0 top 1 few (take n ids))) (ei : ids′ ≡ over n (mergedCovering 0 top 1 few (take n ids)) ids) where
+  list : List ℕ
+  list = mergedCovering 0 top 1 (min cells 4) bound
+
+  L : Covering 0 top 1 bound list
+  unfolding list
+  L = rough-laws low top step cells bound C
+
+  same : mergedCovering 0 top 1 few (take n ids) ≡ list
+  unfolding list
+  same = ap₂ (mergedCovering 0 top 1) ef (bound-front n ids bound (replicate (w - length bound) 0) e f .0)
+
+  size : length list ≡ k
+  size = sym (ek ∙ ap length same)
+
+  there : ids′ ≡ over n list ids
+  there = ei ∙ ap (λ (l : List ℕ). over n l ids) same
+
+  front : take k ids′ ≡ list
+  front = ap (take k) there ∙ take-over n k list ids size
+
+  -- no adjustment
+  pub starts-done : step ≤ 1 → (k ≡ length (startsOf low top step cells bound)) × (ids′ ≡ startsOf low top step cells bound ++ zeros (w - length (startsOf low top step cells bound)))
+  unfolding list
+  starts-done g =
+      let q : list ≡ startsOf low top step cells bound = sym (starts-rough low top step cells bound C g) in
+      let i : ids′ ≡ list ++ zeros (w - length list) = there ∙ in-array w n ids bound list e h f (omega (arith, L .short)) in
+      (sym size ∙ ap length q, i ∙ ap (λ (l : List ℕ). l ++ zeros (w - length l)) q)
+
+  pub adjust-asks : (k ≤ length ids′) × All Cell (take k ids′) × Apart (take k ids′)
+  adjust-asks =
+      let r = bound-front n ids bound (replicate (w - length bound) 0) e f in (
+        omega (arith, ap length there, length-over n list ids (omega (arith, L .short)) (r .1), r .1, L .short, size),
+        rw front (L .normal .cells),
+        rw front (L .normal .apart),
+      )
+
+  pub starts-adjusted-done : 1 < step → (r : ℕ) (ids″ : List ℕ) → r ≡ length (adjustedCells low step (take k ids′)) → ids″ ≡ over k (adjustedCells low step (take k ids′)) ids′
+      → (r ≡ length (startsOf low top step cells bound)) × (ids″ ≡ startsOf low top step cells bound ++ zeros (w - length (startsOf low top step cells bound)))
+  unfolding list
+  starts-adjusted-done g r ids″ er ei″ =
+      let q : adjustedCells low step (take k ids′) ≡ startsOf low top step cells bound = ap (adjustedCells low step) front ∙ sym (starts-adjusted low top step cells bound C g) in
+      let A = adjusted-cells low step list (L .normal .cells) (L .normal .apart) in
+      let s : length (adjustedCells low step (take k ids′)) ≤ k = omega (arith, ap (λ (l : List ℕ). length (adjustedCells low step l)) front, A .short, size) in
+      let i : ids″ ≡ adjustedCells low step (take k ids′) ++ zeros (w - length (adjustedCells low step (take k ids′))) =
+      ei″ ∙ over-again n k list (adjustedCells low step (take k ids′)) ids ids′ ids′ size (omega (arith, L .short, size)) there refl s
+      ∙ in-array w n ids bound (adjustedCells low step (take k ids′)) e h f (omega (arith, s, L .short, size)) in
+      (er ∙ ap length q, i ∙ ap (λ (l : List ℕ). l ++ zeros (w - length l)) q)

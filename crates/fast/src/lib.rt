@@ -1,0 +1,203 @@
+// Fast coverings and start cells of a region.
+ghost use mathlib.Core.Path.{_≡_};
+ghost use mathlib.Core.Bool.{true};
+ghost use mathlib.Core.List.{_++_};
+ghost use Prim.Native.Nat.{_-_, _≤_, _<_, min};
+ghost use lib.ListN.{length, take, drop};
+ghost use Rattle.cellid.specs.CellId.{Cell};
+ghost use Rattle.cellunion.specs.CellUnion.{Apart};
+ghost use Rattle.cellunion.specs.Memory.{zeros, roomFor, laidOver};
+ghost use Rattle.cellunion.specs.Stack.{down, Gives};
+ghost use Rattle.region.specs.Region.{inDomain, boundOf};
+ghost use Rattle.fast.specs.Fast.{adjusted, pairDepth, keepStart};
+ghost use Rattle.fast.specs.Memory.{Domain, liftedFor, mergedFor, mergedCoveringFor, fastCoveringFor, adjustedFor, startsFor, over, Cells, NextStart};
+
+// What is asked of a covering.
+pub struct RegionCoverer {
+    pub min_level: u64,
+    pub max_level: u64,
+    pub level_mod: u64,
+    pub max_cells: u64,
+}
+
+// The start cells of a run, at most six, with zeros behind them.
+pub struct StartCells {
+    pub ids: [u64; 6],
+    pub count: usize,
+}
+
+// A neighbouring pair, by the place of its first cell, and one more than the adjusted level of its common ancestor.
+struct Best {
+    at: usize,
+    depth: u64,
+}
+
+fn lesser(a: u64, b: u64) -> u64
+    ensures { λ r. ⌜ r ≡ min a b ⌝ }
+{
+    if a < b { a } else { b }
+}
+
+// The level, moved up onto the steps from min_level where it lies below that.
+fn adjust_level(c: RegionCoverer, level: u64) -> u64
+    requires { ⌜ Domain c ⌝ }
+    ensures { λ r. ⌜ r ≡ adjusted (c .«min_level») (c .«level_mod») level ⌝ }
+{
+    if c.min_level < level {
+        level - (level - c.min_level) % c.level_mod
+    } else {
+        level
+    }
+}
+
+// One more than the adjusted level of the two cells' common ancestor; 0 for none.
+fn depth(c: RegionCoverer, a: u64, b: u64) -> u64
+    requires { ⌜ Domain c × Cell a × Cell b ⌝ }
+    ensures { λ r. ⌜ r ≡ pairDepth (c .«min_level») (c .«level_mod») a b ⌝ }
+{
+    let common = cellid::common_ancestor_level(a, b);
+    match common {
+        cellid::Common::Level(level) => adjust_level(c, level) + 1,
+        cellid::Common::Nothing => 0,
+    }
+}
+
+// Moves each of the first n cells whose level is above max_level or off step to its ancestor that is neither.
+fn lift(c: RegionCoverer, mem: &mut [u64], n: usize)
+    requires { ⌜ Domain c × (n ≤ length (now mem)) ⌝ }
+    ensures { λ _. ⌜ now (mem .exit) ≡ liftedFor c (take n (now (mem .entry))) ++ drop n (now (mem .entry)) ⌝ }
+{
+    let top = c.max_level;
+    let mut i: usize = 0;
+    while i < n {
+        let id = mem[i];
+        let up = adjust_level(c, lesser(cellid::level(id), top));
+        mem[i] = cellid::parent(id, up);
+        i += 1;
+    }
+}
+
+// Merges the first n cells, a normal list, while they are more than max_cells: the neighbours whose common ancestor lies deepest become that
+// ancestor, as long as it lies at min_level or deeper. Gives how many are left.
+fn merge(c: RegionCoverer, mem: &mut [u64], n: usize) -> usize
+    requires { ⌜ Domain c × Cells n (now mem) ⌝ }
+    ensures { λ r. ⌜ (r ≡ length (mergedFor c (take n (now (mem .entry))))) × (now (mem .exit) ≡ over n (mergedFor c (take n (now (mem .entry)))) (now (mem .entry))) ⌝ }
+{
+    let low = c.min_level;
+    let cells = c.max_cells;
+    let mut k = n;
+    'merge: while cells < k as u64 {
+        let mut best = Best { at: 0, depth: 0 };
+        let mut i: usize = 0;
+        'scan: while i < k - 1 {
+            let d = depth(c, mem[i], mem[i + 1]);
+            if best.depth < d {
+                best = Best { at: i, depth: d };
+            }
+            i += 1;
+        }
+        let deepest = best.depth;
+        if deepest <= low {
+            break 'merge;
+        }
+        let at = best.at;
+        mem[at] = cellid::parent(mem[at], deepest - 1);
+        k = cellunion::normalize(mem, k);
+    }
+    k
+}
+
+// Fast covering's normal list, before it is denormalised, in place of the first n cells of the memory; gives its length.
+pub fn merge_covering(c: RegionCoverer, mem: &mut [u64], n: usize) -> usize
+    requires { ⌜ Domain c × Cells n (now mem) ⌝ }
+    ensures { λ r. ⌜ (r ≡ length (mergedCoveringFor c (take n (now (mem .entry))))) × (now (mem .exit) ≡ over n (mergedCoveringFor c (take n (now (mem .entry)))) (now (mem .entry))) ⌝ }
+{
+    lift(c, mem, n);
+    let k = cellunion::normalize(mem, n);
+    merge(c, mem, k)
+}
+
+// Fast covering of the first n cells of the memory, laid over the output's first places; counted before anything is written there.
+// The memory then holds the list before it was denormalised.
+pub fn normalize_covering(
+    c: RegionCoverer,
+    mem: &mut [u64],
+    n: usize,
+    out: &mut [u64],
+) -> cellunion::Laid
+    requires { ⌜ Domain c × Cells n (now mem) ⌝ }
+    ensures { λ r. ⌜ (r ≡ roomFor (fastCoveringFor c (take n (now (mem .entry)))) (now (out .entry))) × (now (out .exit) ≡ laidOver (fastCoveringFor c (take n (now (mem .entry)))) (now (out .entry))) × (now (mem .exit) ≡ over n (mergedCoveringFor c (take n (now (mem .entry)))) (now (mem .entry))) ⌝ }
+{
+    let k = merge_covering(c, mem, n);
+    cellunion::denormalize(mem, k, c.min_level, c.level_mod, out)
+}
+
+// Fast covering of the region's bound, laid over the output's first places. It takes no steps.
+pub fn fast_covering(c: RegionCoverer, g: region::Region, out: &mut [u64]) -> cellunion::Laid
+    requires { ⌜ Domain c × (inDomain g ≡ true) ⌝ }
+    ensures { λ r. ⌜ (r ≡ roomFor (fastCoveringFor c (boundOf g)) (now (out .entry))) × (now (out .exit) ≡ laidOver (fastCoveringFor c (boundOf g)) (now (out .entry))) ⌝ }
+{
+    let b = region::cell_union_bound(g);
+    let mut ids = b.ids;
+    normalize_covering(c, &mut ids, b.count, out)
+}
+
+// One more start cell on the first k, the last kept on top: skipped if that one contains it; those that it contains go.
+fn keep_start(mem: &mut [u64], k: usize, id: u64) -> usize
+    requires { ⌜ (k < length (now mem)) × NextStart (down k (now mem)) id ⌝ }
+    ensures { λ r. ⌜ Gives (keepStart (down k (now (mem .entry))) id) k (now (mem .entry)) (now (mem .exit)) r ⌝ }
+{
+    if 0 < k {
+        if cellid::contains(mem[k - 1], id) {
+            return k;
+        }
+    }
+    let left = cellunion::clear_of(mem, k, id);
+    mem[left] = id;
+    left + 1
+}
+
+// The first n cells, which ascend and do not overlap, each moved to its adjusted level, with none inside another. Gives how many are left.
+fn adjust_cell_levels(c: RegionCoverer, mem: &mut [u64], n: usize) -> usize
+    requires { ⌜ Domain c × Cells n (now mem) × Apart (take n (now mem)) ⌝ }
+    ensures { λ r. ⌜ (r ≡ length (adjustedFor c (take n (now (mem .entry))))) × (now (mem .exit) ≡ over n (adjustedFor c (take n (now (mem .entry)))) (now (mem .entry))) ⌝ }
+{
+    let mut kept: usize = 0;
+    let mut i: usize = 0;
+    while i < n {
+        let id = mem[i];
+        let up = cellid::parent(id, adjust_level(c, cellid::level(id)));
+        kept = keep_start(mem, kept, up);
+        i += 1;
+    }
+    cellunion::clear(mem, kept, n);
+    kept
+}
+
+// The cells that a run for the region starts from: fast covering of its bound with at most four cells where that goes, then moved to levels on
+// step. At most six, ascending, none inside another; every leaf of the bound lies under one.
+pub fn starts(c: RegionCoverer, g: region::Region) -> StartCells
+    requires { ⌜ Domain c × (inDomain g ≡ true) ⌝ }
+    ensures { λ r. ⌜ (r .count ≡ length (startsFor c (boundOf g))) × (r .ids ≡ startsFor c (boundOf g) ++ zeros (6 - length (startsFor c (boundOf g)))) ⌝ }
+{
+    let b = region::cell_union_bound(g);
+    let mut ids = b.ids;
+    let rough = RegionCoverer {
+        min_level: 0,
+        max_level: c.max_level,
+        level_mod: 1,
+        max_cells: lesser(c.max_cells, 4),
+    };
+    let count = merge_covering(rough, &mut ids, b.count);
+    if c.level_mod <= 1 {
+        return StartCells {
+            ids: ids,
+            count: count,
+        };
+    }
+    let kept = adjust_cell_levels(c, &mut ids, count);
+    StartCells {
+        ids: ids,
+        count: kept,
+    }
+}

@@ -1,0 +1,58 @@
+-- `lines::read::all_plain`: what the rest says, the whole says.
+use mathlib.Core.Path.{_≡_, refl, sym, ap, _∙_}
+use Prim.Native.Nat.{_-_, _≤_}
+use native.Mathlib.Omega.{arith}
+use lib.ListN.{length, drop}
+use Rattle.lines.specs.Read.{allPlain}
+use Rattle.lines.proofs.Laws.{plain-zero, plain-high, plain-on, plain-end}
+use Rattle.lines.proofs.read.all_plain.Statement.{statement}
+use Rattle.lines.proofs.read.all_plain.Tie as tie
+
+abbrev Inv-loop : tie.InvT-loop
+Inv-loop line i₀ i = (i ≤ length line) × (allPlain line ≡ allPlain (drop i line))
+
+abbrev μ-loop : tie.MeasureT-loop
+μ-loop line i₀ i = length line - i
+
+loop-holds : tie.Need-loop-holds Inv-loop μ-loop
+loop-holds c = (omega arith, refl)
+
+shared-slice-read-if1 : tie.Need-shared-slice-read-if1 Inv-loop μ-loop
+shared-slice-read-if1 c = omega arith
+
+returns : tie.Need-returns Inv-loop μ-loop
+returns c = sym (c .before .before .before .loop .inv .1 ∙ plain-zero _ (c .before .before .before .loop .i) (omega arith) (c .if1 .taken))
+
+shared-slice-read-if2 : tie.Need-shared-slice-read-if2 Inv-loop μ-loop
+shared-slice-read-if2 c = omega arith
+
+returns-2 : tie.Need-returns-2 Inv-loop μ-loop
+returns-2 c = sym (c .before .before .before .before .before .loop .inv .1 ∙ plain-high _ (c .before .before .before .before .before .loop .i) (omega arith) (c .if2 .taken))
+
+add-i : tie.Need-add-i Inv-loop μ-loop
+add-i c = omega arith
+
+loop-less : tie.Need-loop-less Inv-loop μ-loop
+loop-less c = omega arith
+
+loop-again : tie.Need-loop-again Inv-loop μ-loop
+loop-again c = (omega arith, c .before .before .before .before .before .loop .inv .1 ∙ plain-on _ (c .before .before .before .before .before .loop .i) (omega arith) (c .before .before .if1 .left) (c .if2 .left))
+
+returns-3 : tie.Need-returns-3 Inv-loop μ-loop
+returns-3 c = sym (c .before .loop .inv .1 ∙ plain-end _ (c .before .loop .i) (omega arith))
+
+pub all-plain-spec : {M : Type 1} → statement M
+all-plain-spec =
+    tie.close
+    (tie.spec
+    Inv-loop
+    μ-loop
+    loop-holds
+    shared-slice-read-if1
+    returns
+    shared-slice-read-if2
+    returns-2
+    add-i
+    loop-less
+    loop-again
+    returns-3)

@@ -1,0 +1,3 @@
+pub mod Runs
+pub mod Example
+pub mod Rows

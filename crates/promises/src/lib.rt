@@ -1,0 +1,1 @@
+// Demand 3 for the public answers, and the table of P rows: specs/ and proofs/. No code of its own.
