@@ -22,8 +22,8 @@ pub enum Answer {
     Refused(u64),
 }
 
-// Which list a request asks for.
-enum Ending {
+// Which list a request asks for; the contracts of the public functions name its cases.
+pub enum Ending {
     Raw,
     CellUnion,
     Covering,

@@ -1,3 +1,4 @@
+pub mod Feed
 pub mod Read
 pub mod Request
 pub mod Write

@@ -1,9 +1,13 @@
 // Requests, questions and answers as lines of text. A line is fields parted by blanks.
 // What is wrong with a line is told by one word, the first fault from the left, and nothing of such a line is acted on.
+mod feed;
 mod read;
 mod request;
 mod write;
 
+pub use feed::Feed;
+pub use feed::Found;
+pub use feed::next_line;
 pub use read::Fault;
 pub use read::Place;
 pub use read::Read;

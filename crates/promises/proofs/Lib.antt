@@ -1,3 +1,4 @@
 pub mod Runs
 pub mod Example
 pub mod Rows
+pub mod Answers

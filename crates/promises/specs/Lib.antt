@@ -1,2 +1,3 @@
 pub mod Promises
 pub mod Rows
+pub mod Answers

@@ -1,0 +1,180 @@
+// Stored questions with the Rust's answers, `QUESTION TAB ANSWER` a line: how many of each file were compared, how many differ, and the
+// first that differs, in full.
+ghost use Prim.Native.Nat.{_≤_};
+ghost use lib.ListN.{length};
+ghost use Rattle.lines.specs.Feed.{Ready};
+use libc::STDOUT_FILENO;
+use lines::Feed;
+use lines::Found;
+
+// How many were compared, differ, and were answered with an error.
+struct Tally {
+    compared: u64,
+    differ: u64,
+    errors: u64,
+}
+
+// The place of the first tab, or the line's end.
+fn tab_at(line: &[u8]) -> usize
+    ensures { λ r. ⌜ r ≤ length (now (line .entry)) ⌝ }
+{
+    let mut i = 0;
+    while i < line.len() {
+        if line[i] == 9 {
+            return i;
+        }
+        i += 1;
+    }
+    i
+}
+
+// Whether the first n bytes of the text are the wanted ones and a newline.
+fn is_wanted(text: &[u8], n: usize, want: &[u8]) -> bool {
+    if n <= want.len() {
+        return false;
+    }
+    if want.len() < n - 1 {
+        return false;
+    }
+    if text.len() < n {
+        return false;
+    }
+    let mut i = 0;
+    while i < want.len() {
+        if text[i] != want[i] {
+            return false;
+        }
+        i += 1;
+    }
+    text[n - 1] == 10
+}
+
+fn show(question: &[u8], want: &[u8], text: &[u8], n: usize) {
+    io::write_all(STDOUT_FILENO, b"question ");
+    io::write_all(STDOUT_FILENO, question);
+    io::write_all(STDOUT_FILENO, b"\nstored   ");
+    io::write_all(STDOUT_FILENO, want);
+    io::write_all(STDOUT_FILENO, b"\ncomputed ");
+    if n <= text.len() {
+        io::write_all(STDOUT_FILENO, &text[..n]);
+    }
+}
+
+// An error is all that begins so.
+fn is_error(text: &[u8]) -> bool {
+    if 0 < text.len() {
+        return text[0] == b'e';
+    }
+    false
+}
+
+// One more question, whose answer is as it was stored or not.
+fn tallied(t: Tally, same: bool, error: bool) -> Tally {
+    if same {
+        return Tally {
+            compared: std::num::wrapping_add_u64(t.compared, 1),
+            differ: t.differ,
+            errors: t.errors,
+        };
+    }
+    if error {
+        return Tally {
+            compared: t.compared,
+            differ: t.differ,
+            errors: std::num::wrapping_add_u64(t.errors, 1),
+        };
+    }
+    Tally {
+        compared: std::num::wrapping_add_u64(t.compared, 1),
+        differ: std::num::wrapping_add_u64(t.differ, 1),
+        errors: t.errors,
+    }
+}
+
+// Answers the question of a line and compares.
+fn compare(line: &[u8], number: u64, text: &mut [u8], t: Tally) -> Tally {
+    let tab = tab_at(line);
+    if line.len() <= tab {
+        return t;
+    }
+    let from = tab + 1;
+    let question = &line[..tab];
+    let want = &line[from..];
+    let n = questions::answer(question, number, text);
+    let same = is_wanted(text, n, want);
+    let error = is_error(text);
+    if !same {
+        if t.differ == 0 {
+            if !error {
+                show(question, want, text, n);
+            }
+        }
+    }
+    tallied(t, same, error)
+}
+
+// The tally with the line that was found.
+fn turn(f: Feed, number: u64, buf: &[u8], text: &mut [u8], t: Tally) -> Tally
+    requires { ⌜ Ready (length (now buf)) f ⌝ }
+{
+    let start = f.start;
+    let end = f.end;
+    compare(&buf[start..end], number, text, t)
+}
+
+fn is_end(found: Found) -> bool {
+    if let Found::End = found { true } else { false }
+}
+
+fn run(fd: i32, buf: &mut [u8], text: &mut [u8]) -> Tally {
+    let mut t = Tally {
+        compared: 0,
+        differ: 0,
+        errors: 0,
+    };
+    let mut next = 0;
+    let mut filled = 0;
+    let mut number: u64 = 0;
+    while number < u64::MAX {
+        let f = lines::next_line(fd, buf, next, filled);
+        let found = f.found;
+        if is_end(found) {
+            return t;
+        }
+        number += 1;
+        next = f.next;
+        filled = f.filled;
+        t = turn(f, number, buf, text, t);
+    }
+    t
+}
+
+fn print(t: Tally) {
+    io::write_all(STDOUT_FILENO, b": ");
+    io::print_decimal(STDOUT_FILENO, t.compared);
+    io::write_all(STDOUT_FILENO, b" compared, ");
+    io::print_decimal(STDOUT_FILENO, t.differ);
+    io::write_all(STDOUT_FILENO, b" differ, ");
+    io::print_decimal(STDOUT_FILENO, t.errors);
+    io::write_all(STDOUT_FILENO, b" not answered\n");
+}
+
+// Replays the file of that name.
+fn replay(name: &[u8]) {
+    let fd = os::open_read(name);
+    if fd < 0 {
+        os::fail(name);
+        return;
+    }
+    let mut buf = io::large_buffer();
+    let mut text = io::large_buffer();
+    let t = run(fd, &mut buf, &mut text);
+    libc::close(fd);
+    io::write_all(STDOUT_FILENO, name);
+    print(t);
+}
+
+fn main() {
+    replay(b"probe.txt");
+    replay(b"sqrt.txt");
+}
