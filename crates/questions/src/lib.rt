@@ -2,9 +2,13 @@
 // digits, other numbers decimal; a truth is 1 or 0, a list its count and its ids.
 ghost use Prim.Native.Nat.{_≤_, _<_};
 ghost use Rattle.cellid.specs.CellId.{Cell};
+ghost use Rattle.fast.specs.Memory.{Domain};
+use fast::RegionCoverer;
 use lines::Fault;
 use lines::Place;
+use lines::Shape;
 use point::Point;
+use region::Region;
 
 // What a question comes to: its answer, so many bytes long, or why there is none.
 enum Told {
@@ -218,6 +222,18 @@ fn uv_to_st(to: &mut [u8], bits: u64) -> Told {
     Told::Bad(Fault::OutsideDomain)
 }
 
+// The level of a bound for a squared chord radius.
+fn level(to: &mut [u8], bits: u64) -> Told {
+    if is_finite(bits) {
+        let radius = text::float_of_bits(bits);
+        if radius <= 4.0 {
+            let a = lines::put_decimal(to, 0, cap::level_for(radius));
+            return Told::Done(lines::put(to, a, b"\n"));
+        }
+    }
+    Told::Bad(Fault::OutsideDomain)
+}
+
 // ---- questions of a cell
 
 fn vertices(to: &mut [u8], c: cell::Cell) -> Told
@@ -265,10 +281,10 @@ fn face_ij_orientation(to: &mut [u8], id: u64) -> Told
 fn of_shape(to: &mut [u8], question: u64, c: cell::Cell) -> Told
     requires { ⌜ c .face < 6 ⌝ }
 {
-    if question == 8 {
+    if question == 9 {
         return vertices(to, c);
     }
-    if question == 9 {
+    if question == 10 {
         return edges(to, c);
     }
     cell_cap_bound(to, c)
@@ -277,7 +293,7 @@ fn of_shape(to: &mut [u8], question: u64, c: cell::Cell) -> Told
 fn of_cell(to: &mut [u8], question: u64, id: u64) -> Told
     requires { ⌜ Cell id ⌝ }
 {
-    if question == 7 {
+    if question == 8 {
         return face_ij_orientation(to, id);
     }
     of_shape(to, question, cell::from_id(id))
@@ -363,25 +379,158 @@ fn of_hexes(to: &mut [u8], question: u64, h: Hexes) -> Told {
         3 => sqrt(to, h.a),
         4 => st_to_uv(to, h.a),
         5 => uv_to_st(to, h.a),
-        6 => common_ancestor_level(to, h.a, h.b),
-        11 => ask_point(to, h),
-        12 => ask_cap(to, true, h),
-        13 => ask_cap(to, false, h),
+        6 => level(to, h.a),
+        7 => common_ancestor_level(to, h.a, h.b),
+        12 => ask_point(to, h),
+        13 => ask_cap(to, true, h),
+        14 => ask_cap(to, false, h),
         _ => ask_cell(to, question, h.a),
     }
 }
 
 // How many hexadecimal fields each of them has.
-const FIELDS: [u64; 14] = [1, 3, 3, 1, 1, 1, 2, 1, 1, 1, 1, 4, 5, 5];
+const FIELDS: [u64; 15] = [1, 3, 3, 1, 1, 1, 1, 2, 1, 1, 1, 1, 4, 5, 5];
 
 fn ask_hexes(line: &[u8], p: Place, question: u64, to: &mut [u8]) -> Told
-    requires { ⌜ question ≤ 13 ⌝ }
+    requires { ⌜ question ≤ 14 ⌝ }
 {
     let h = read_hexes(line, p, FIELDS[question as usize]);
     let after = h.after;
     let end = lines::read_end(line, after);
     match end {
         Place::At(_) => of_hexes(to, question, h),
+        Place::Bad(f) => Told::Bad(f),
+    }
+}
+
+// ---- lists
+
+fn put_list(to: &mut [u8], ids: &[u64], count: usize) -> Told {
+    if count <= ids.len() {
+        let a = lines::put_decimal(to, 0, count as u64);
+        let b = lines::put_ids(to, a, &ids[..count]);
+        return Told::Done(lines::put(to, b, b"\n"));
+    }
+    Told::Bad(Fault::OutsideDomain)
+}
+
+fn vertex_neighbors(to: &mut [u8], id: u64, level: u64) -> Told
+    requires { ⌜ Cell id ⌝ }
+    requires { ⌜ level < 30 ⌝ }
+{
+    let v = neighbors::vertex_neighbors(id, level);
+    let ids = v.ids;
+    let count = v.count;
+    put_list(to, &ids, count)
+}
+
+fn neighbors_above(to: &mut [u8], id: u64, level: u64) -> Told
+    requires { ⌜ Cell id ⌝ }
+{
+    if level < 30 {
+        if level < cellid::level(id) {
+            return vertex_neighbors(to, id, level);
+        }
+    }
+    Told::Bad(Fault::OutsideDomain)
+}
+
+fn ask_neighbors(to: &mut [u8], id: u64, level: u64) -> Told {
+    if cellid::is_valid(id) {
+        return neighbors_above(to, id, level);
+    }
+    Told::Bad(Fault::OutsideDomain)
+}
+
+// The cells of a level above the cell's own around the corner next to it.
+fn ask_vertex_neighbors(line: &[u8], p: Place, to: &mut [u8]) -> Told {
+    let id = lines::read_hex(line, p);
+    let pi = id.after;
+    let level = lines::read_decimal(line, pi, u64::MAX);
+    let pl = level.after;
+    let end = lines::read_end(line, pl);
+    match end {
+        Place::At(_) => ask_neighbors(to, id.value, level.value),
+        Place::Bad(f) => Told::Bad(f),
+    }
+}
+
+fn region_of(s: Shape) -> Region {
+    match s {
+        Shape::Cap(x, y, z, r) => Region::Cap(cap_of(x, y, z, r)),
+        Shape::Cell(id) => Region::Cell(id),
+    }
+}
+
+fn bound(to: &mut [u8], g: Region) -> Told {
+    if region::in_domain(g) {
+        let b = region::cell_union_bound(g);
+        let ids = b.ids;
+        let count = b.count;
+        return put_list(to, &ids, count);
+    }
+    Told::Bad(Fault::OutsideDomain)
+}
+
+// The cells that bound a region.
+fn ask_bound(line: &[u8], p: Place, to: &mut [u8]) -> Told {
+    let read = lines::read_shape(line, p);
+    let after = read.after;
+    let shape = read.shape;
+    let end = lines::read_end(line, after);
+    match end {
+        Place::At(_) => bound(to, region_of(shape)),
+        Place::Bad(f) => Told::Bad(f),
+    }
+}
+
+fn starts(to: &mut [u8], c: RegionCoverer, g: Region) -> Told
+    requires { ⌜ Domain c ⌝ }
+{
+    if region::in_domain(g) {
+        let s = fast::starts(c, g);
+        let ids = s.ids;
+        let count = s.count;
+        return put_list(to, &ids, count);
+    }
+    Told::Bad(Fault::OutsideDomain)
+}
+
+fn starts_if(to: &mut [u8], c: RegionCoverer, g: Region) -> Told {
+    if c.max_level <= 30 {
+        if c.min_level <= c.max_level {
+            if 0 < c.level_mod {
+                if c.level_mod <= 3 {
+                    return starts(to, c, g);
+                }
+            }
+        }
+    }
+    Told::Bad(Fault::OutsideDomain)
+}
+
+// The start cells of a request.
+fn ask_starts(line: &[u8], p: Place, to: &mut [u8]) -> Told {
+    let n = lines::read_numbers(line, p);
+    let pn = n.after;
+    let read = lines::read_shape(line, pn);
+    let after = read.after;
+    let shape = read.shape;
+    let end = lines::read_end(line, after);
+    match end {
+        Place::At(_) => {
+            if n.max_cells <= 1000 {
+                let c = RegionCoverer {
+                    min_level: n.min_level,
+                    max_level: n.max_level,
+                    level_mod: n.level_mod,
+                    max_cells: n.max_cells,
+                };
+                starts_if(to, c, region_of(shape))
+            } else {
+                Told::Bad(Fault::OutsideDomain)
+            }
+        }
         Place::Bad(f) => Told::Bad(f),
     }
 }
@@ -403,14 +552,20 @@ fn ask(line: &[u8], to: &mut [u8]) -> Told {
     let which = lines::read_choice(
         line,
         start,
-        b"valid is_unit cellid_from_point sqrt st_to_uv uv_to_st common_ancestor_level face_ij_orientation vertices edges cell_cap_bound cell_contains_point cap_contains_cell cap_intersects_cell",
-        14,
+        b"valid is_unit cellid_from_point sqrt st_to_uv uv_to_st level common_ancestor_level face_ij_orientation vertices edges cell_cap_bound cell_contains_point cap_contains_cell cap_intersects_cell vertex_neighbors bound starts",
+        18,
         Fault::UnknownKind,
     );
     let question = which.value;
     let p = which.after;
-    if question <= 13 {
+    if question <= 14 {
         return ask_hexes(line, p, question, to);
     }
-    Told::Bad(Fault::UnknownKind)
+    if question == 15 {
+        return ask_vertex_neighbors(line, p, to);
+    }
+    if question == 16 {
+        return ask_bound(line, p, to);
+    }
+    ask_starts(line, p, to)
 }

@@ -1,0 +1,45 @@
+-- From a public answer to a call from C; and that a contract allows one result.
+use mathlib.Core.Path.{_≡_, sym, _∙_, subst}
+use mathlib.Core.Bool.{Bool}
+use mathlib.Core.List.{List}
+use Prim.Native.Nat.{ℕ}
+use lib.ListN.{length}
+use Rattle.region.specs.declared.Region.{Region}
+use Rattle.fast.specs.declared.RegionCoverer.{RegionCoverer}
+use Rattle.covering.specs.declared.Answer.{Answer}
+use Rattle.covering.specs.declared.Ending.{Ending}
+use Rattle.covering.specs.Covering.{Result, resultOf, fastResultOf, valuesOf, Answered}
+use Rattle.capi.specs.Calls.{Told, Called}
+
+module _ (a : Answer) (number : ℕ) (m m′ o o′ : List ℕ) (count steps aside : ℕ) (t : Told (valuesOf a) number count steps aside) where
+  called : (R : Result) → Answered R a m m′ o o′ → Called R number m m′ o o′ count steps aside
+  called R A = record {
+    told = subst (λ (x : Answer). Told (valuesOf x) number count steps aside) (A .answer) t;
+    memory = A .memory;
+    output = A .output;
+  }
+
+  -- of the request and the region that the numbers make
+  module _ (c c′ : RegionCoverer) (g g′ : Region) (p : c ≡ c′) (q : g ≡ g′) where
+    pub run-called : (e : Ending) (inner : Bool) (allowance : ℕ) → Answered (resultOf e inner c g allowance (length m) (length o)) a m m′ o o′
+        → Called (resultOf e inner c′ g′ allowance (length m) (length o)) number m m′ o o′ count steps aside
+    run-called e inner allowance A =
+        subst (λ (x : RegionCoverer). Called (resultOf e inner x g′ allowance (length m) (length o)) number m m′ o o′ count steps aside) p
+        (subst (λ (y : Region). Called (resultOf e inner c y allowance (length m) (length o)) number m m′ o o′ count steps aside) q (called _ A))
+
+    pub fast-called : Answered (fastResultOf c g (length m) (length o)) a m m′ o o′ → Called (fastResultOf c′ g′ (length m) (length o)) number m m′ o o′ count steps aside
+    fast-called A =
+        subst (λ (x : RegionCoverer). Called (fastResultOf x g′ (length m) (length o)) number m m′ o o′ count steps aside) p
+        (subst (λ (y : Region). Called (fastResultOf c y (length m) (length o)) number m m′ o o′ count steps aside) q (called _ A))
+
+-- any two results that a contract allows are one
+pub determined : (R : Result) (n n′ : ℕ) (m m₁ m₂ o o₁ o₂ : List ℕ) (k k′ s s′ t t′ : ℕ) → Called R n m m₁ o o₁ k s t → Called R n′ m m₂ o o₂ k′ s′ t′
+    → (n ≡ n′) × (m₁ ≡ m₂) × (o₁ ≡ o₂) × (k ≡ k′) × (s ≡ s′) × (t ≡ t′)
+determined R n n′ m m₁ m₂ o o₁ o₂ k k′ s s′ t t′ a b = (
+  a .told .is ∙ sym (b .told .is),
+  a .memory ∙ sym (b .memory),
+  a .output ∙ sym (b .output),
+  a .told .counted ∙ sym (b .told .counted),
+  a .told .taken ∙ sym (b .told .taken),
+  a .told .total ∙ sym (b .told .total),
+)

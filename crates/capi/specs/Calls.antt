@@ -1,0 +1,31 @@
+-- What a call from C comes to: the request and the region made of its numbers, and paper 01's number and values in the places that the caller lent.
+use mathlib.Core.Path.{_≡_}
+use mathlib.Core.List.{List}
+use Prim.Native.Nat.{ℕ}
+use lib.Ieee.{Float}
+use Rattle.region.specs.declared.Region.{Region}
+use Rattle.fast.specs.declared.RegionCoverer.{RegionCoverer}
+use Rattle.covering.specs.Covering.{Result, Values, answerOf, valuesOf, memoryAfter, outputAfter}
+
+abbrev pub regionCoverer : ℕ → ℕ → ℕ → ℕ → RegionCoverer
+regionCoverer low top step cells = record { «min_level» = low; «max_level» = top; «level_mod» = step; «max_cells» = cells }
+
+-- "a cap is a centre of three 64-bit floats and a squared chord radius"
+abbrev pub capRegion : Float → Float → Float → Float → Region
+capRegion x y z radius = Region.Cap (record { center = record { x = x; y = y; z = z }; radius = radius })
+
+abbrev pub cellRegion : ℕ → Region
+cellRegion id = Region.Cell id
+
+-- an answer's number and values
+pub record Told (v : Values) (number count steps aside : ℕ) : Type 0 where
+  pub is : number ≡ v .number
+  pub counted : count ≡ v .count
+  pub taken : steps ≡ v .steps
+  pub total : aside ≡ v .aside
+
+-- all that a call leaves: what was told, the working memory and the output
+pub record Called (R : Result) (number : ℕ) (mem mem′ out out′ : List ℕ) (count steps aside : ℕ) : Type 0 where
+  pub told : Told (valuesOf (answerOf R)) number count steps aside
+  pub memory : mem′ ≡ memoryAfter R mem
+  pub output : out′ ≡ outputAfter R out

@@ -1,0 +1,399 @@
+// The public answers for programs in C or Rust: functions on numbers and slices, under plain names, with no requirement on the caller. Each returns paper
+// 01's number, 0 for success, and writes the values of the answer through `count`, `steps` and `aside`.
+ghost use mathlib.Core.Path.{_≡_};
+ghost use mathlib.Core.Bool.{true, false};
+ghost use lib.ListN.{length};
+ghost use Rattle.covering.specs.declared.Ending.{Ending};
+ghost use Rattle.covering.specs.Covering.{resultOf, fastResultOf, valuesOf};
+ghost use Rattle.capi.specs.Calls.{regionCoverer, capRegion, cellRegion, Told, Called};
+use cell::Cap;
+use covering::Answer;
+use fast::RegionCoverer;
+use point::Point;
+use region::Region;
+
+fn region_coverer(min_level: u64, max_level: u64, level_mod: u64, max_cells: u64) -> RegionCoverer
+    ensures { λ r. ⌜ r ≡ regionCoverer «min_level» «max_level» «level_mod» «max_cells» ⌝ }
+{
+    RegionCoverer {
+        min_level,
+        max_level,
+        level_mod,
+        max_cells,
+    }
+}
+
+fn cap_region(x: f64, y: f64, z: f64, radius: f64) -> Region
+    ensures { λ r. ⌜ r ≡ capRegion x y z radius ⌝ }
+{
+    let center = Point { x, y, z };
+    let cap = Cap { center, radius };
+    Region::Cap(cap)
+}
+
+fn cell_region(id: u64) -> Region
+    ensures { λ r. ⌜ r ≡ cellRegion id ⌝ }
+{
+    Region::Cell(id)
+}
+
+// The number of an answer; its values go through the references.
+fn tell(a: Answer, count: &mut u64, steps: &mut u64, aside: &mut u64) -> u64
+    ensures { λ r. ⌜ Told (valuesOf a) r (now (count .exit)) (now (steps .exit)) (now (aside .exit)) ⌝ }
+{
+    match a {
+        Answer::Done(n, s, total) => {
+            *count = n as u64;
+            *steps = s as u64;
+            *aside = total;
+            0
+        }
+        Answer::Refused(number) => {
+            *count = 0;
+            *steps = 0;
+            *aside = 0;
+            number
+        }
+    }
+}
+
+// The covering: cells of levels min_level to max_level, in whole steps of level_mod, that cover the region as the outer run does. Of a cap.
+#[no_mangle]
+pub extern "C" fn flaxbadger_covering_cap(
+    x: f64,
+    y: f64,
+    z: f64,
+    radius: f64,
+    min_level: u64,
+    max_level: u64,
+    level_mod: u64,
+    max_cells: u64,
+    allowance: u32,
+    mem: &mut [u64],
+    out: &mut [u64],
+    count: &mut u64,
+    steps: &mut u64,
+    aside: &mut u64,
+) -> u64
+    ensures { λ r. ⌜ Called (resultOf Ending.Covering false (regionCoverer «min_level» «max_level» «level_mod» «max_cells») (capRegion x y z radius) allowance (length (now (mem .entry))) (length (now (out .entry)))) r (now (mem .entry)) (now (mem .exit)) (now (out .entry)) (now (out .exit)) (now (count .exit)) (now (steps .exit)) (now (aside .exit)) ⌝ }
+{
+    let c = region_coverer(min_level, max_level, level_mod, max_cells);
+    let g = cap_region(x, y, z, radius);
+    let a = covering::covering(c, g, allowance, mem, out);
+    tell(a, count, steps, aside)
+}
+
+// The covering: cells of levels min_level to max_level, in whole steps of level_mod, that cover the region as the outer run does. Of a cell.
+#[no_mangle]
+pub extern "C" fn flaxbadger_covering_cell(
+    id: u64,
+    min_level: u64,
+    max_level: u64,
+    level_mod: u64,
+    max_cells: u64,
+    allowance: u32,
+    mem: &mut [u64],
+    out: &mut [u64],
+    count: &mut u64,
+    steps: &mut u64,
+    aside: &mut u64,
+) -> u64
+    ensures { λ r. ⌜ Called (resultOf Ending.Covering false (regionCoverer «min_level» «max_level» «level_mod» «max_cells») (cellRegion id) allowance (length (now (mem .entry))) (length (now (out .entry)))) r (now (mem .entry)) (now (mem .exit)) (now (out .entry)) (now (out .exit)) (now (count .exit)) (now (steps .exit)) (now (aside .exit)) ⌝ }
+{
+    let c = region_coverer(min_level, max_level, level_mod, max_cells);
+    let g = cell_region(id);
+    let a = covering::covering(c, g, allowance, mem, out);
+    tell(a, count, steps, aside)
+}
+
+// The outer run's raw list, normalised; nothing is promised of levels. Of a cap.
+#[no_mangle]
+pub extern "C" fn flaxbadger_cellunion_cap(
+    x: f64,
+    y: f64,
+    z: f64,
+    radius: f64,
+    min_level: u64,
+    max_level: u64,
+    level_mod: u64,
+    max_cells: u64,
+    allowance: u32,
+    mem: &mut [u64],
+    out: &mut [u64],
+    count: &mut u64,
+    steps: &mut u64,
+    aside: &mut u64,
+) -> u64
+    ensures { λ r. ⌜ Called (resultOf Ending.CellUnion false (regionCoverer «min_level» «max_level» «level_mod» «max_cells») (capRegion x y z radius) allowance (length (now (mem .entry))) (length (now (out .entry)))) r (now (mem .entry)) (now (mem .exit)) (now (out .entry)) (now (out .exit)) (now (count .exit)) (now (steps .exit)) (now (aside .exit)) ⌝ }
+{
+    let c = region_coverer(min_level, max_level, level_mod, max_cells);
+    let g = cap_region(x, y, z, radius);
+    let a = covering::cellunion(c, g, allowance, mem, out);
+    tell(a, count, steps, aside)
+}
+
+// The outer run's raw list, normalised; nothing is promised of levels. Of a cell.
+#[no_mangle]
+pub extern "C" fn flaxbadger_cellunion_cell(
+    id: u64,
+    min_level: u64,
+    max_level: u64,
+    level_mod: u64,
+    max_cells: u64,
+    allowance: u32,
+    mem: &mut [u64],
+    out: &mut [u64],
+    count: &mut u64,
+    steps: &mut u64,
+    aside: &mut u64,
+) -> u64
+    ensures { λ r. ⌜ Called (resultOf Ending.CellUnion false (regionCoverer «min_level» «max_level» «level_mod» «max_cells») (cellRegion id) allowance (length (now (mem .entry))) (length (now (out .entry)))) r (now (mem .entry)) (now (mem .exit)) (now (out .entry)) (now (out .exit)) (now (count .exit)) (now (steps .exit)) (now (aside .exit)) ⌝ }
+{
+    let c = region_coverer(min_level, max_level, level_mod, max_cells);
+    let g = cell_region(id);
+    let a = covering::cellunion(c, g, allowance, mem, out);
+    tell(a, count, steps, aside)
+}
+
+// The outer run's raw list, in the order kept. Of a cap.
+#[no_mangle]
+pub extern "C" fn flaxbadger_raw_cap(
+    x: f64,
+    y: f64,
+    z: f64,
+    radius: f64,
+    min_level: u64,
+    max_level: u64,
+    level_mod: u64,
+    max_cells: u64,
+    allowance: u32,
+    mem: &mut [u64],
+    out: &mut [u64],
+    count: &mut u64,
+    steps: &mut u64,
+    aside: &mut u64,
+) -> u64
+    ensures { λ r. ⌜ Called (resultOf Ending.Raw false (regionCoverer «min_level» «max_level» «level_mod» «max_cells») (capRegion x y z radius) allowance (length (now (mem .entry))) (length (now (out .entry)))) r (now (mem .entry)) (now (mem .exit)) (now (out .entry)) (now (out .exit)) (now (count .exit)) (now (steps .exit)) (now (aside .exit)) ⌝ }
+{
+    let c = region_coverer(min_level, max_level, level_mod, max_cells);
+    let g = cap_region(x, y, z, radius);
+    let a = covering::raw(c, g, allowance, mem, out);
+    tell(a, count, steps, aside)
+}
+
+// The outer run's raw list, in the order kept. Of a cell.
+#[no_mangle]
+pub extern "C" fn flaxbadger_raw_cell(
+    id: u64,
+    min_level: u64,
+    max_level: u64,
+    level_mod: u64,
+    max_cells: u64,
+    allowance: u32,
+    mem: &mut [u64],
+    out: &mut [u64],
+    count: &mut u64,
+    steps: &mut u64,
+    aside: &mut u64,
+) -> u64
+    ensures { λ r. ⌜ Called (resultOf Ending.Raw false (regionCoverer «min_level» «max_level» «level_mod» «max_cells») (cellRegion id) allowance (length (now (mem .entry))) (length (now (out .entry)))) r (now (mem .entry)) (now (mem .exit)) (now (out .entry)) (now (out .exit)) (now (count .exit)) (now (steps .exit)) (now (aside .exit)) ⌝ }
+{
+    let c = region_coverer(min_level, max_level, level_mod, max_cells);
+    let g = cell_region(id);
+    let a = covering::raw(c, g, allowance, mem, out);
+    tell(a, count, steps, aside)
+}
+
+// Cells inside the region, of levels min_level to max_level in whole steps of level_mod. Of a cap.
+#[no_mangle]
+pub extern "C" fn flaxbadger_interior_covering_cap(
+    x: f64,
+    y: f64,
+    z: f64,
+    radius: f64,
+    min_level: u64,
+    max_level: u64,
+    level_mod: u64,
+    max_cells: u64,
+    allowance: u32,
+    mem: &mut [u64],
+    out: &mut [u64],
+    count: &mut u64,
+    steps: &mut u64,
+    aside: &mut u64,
+) -> u64
+    ensures { λ r. ⌜ Called (resultOf Ending.Covering true (regionCoverer «min_level» «max_level» «level_mod» «max_cells») (capRegion x y z radius) allowance (length (now (mem .entry))) (length (now (out .entry)))) r (now (mem .entry)) (now (mem .exit)) (now (out .entry)) (now (out .exit)) (now (count .exit)) (now (steps .exit)) (now (aside .exit)) ⌝ }
+{
+    let c = region_coverer(min_level, max_level, level_mod, max_cells);
+    let g = cap_region(x, y, z, radius);
+    let a = covering::interior_covering(c, g, allowance, mem, out);
+    tell(a, count, steps, aside)
+}
+
+// Cells inside the region, of levels min_level to max_level in whole steps of level_mod. Of a cell.
+#[no_mangle]
+pub extern "C" fn flaxbadger_interior_covering_cell(
+    id: u64,
+    min_level: u64,
+    max_level: u64,
+    level_mod: u64,
+    max_cells: u64,
+    allowance: u32,
+    mem: &mut [u64],
+    out: &mut [u64],
+    count: &mut u64,
+    steps: &mut u64,
+    aside: &mut u64,
+) -> u64
+    ensures { λ r. ⌜ Called (resultOf Ending.Covering true (regionCoverer «min_level» «max_level» «level_mod» «max_cells») (cellRegion id) allowance (length (now (mem .entry))) (length (now (out .entry)))) r (now (mem .entry)) (now (mem .exit)) (now (out .entry)) (now (out .exit)) (now (count .exit)) (now (steps .exit)) (now (aside .exit)) ⌝ }
+{
+    let c = region_coverer(min_level, max_level, level_mod, max_cells);
+    let g = cell_region(id);
+    let a = covering::interior_covering(c, g, allowance, mem, out);
+    tell(a, count, steps, aside)
+}
+
+// The inner run's raw list, normalised; nothing is promised of levels. Of a cap.
+#[no_mangle]
+pub extern "C" fn flaxbadger_interior_cellunion_cap(
+    x: f64,
+    y: f64,
+    z: f64,
+    radius: f64,
+    min_level: u64,
+    max_level: u64,
+    level_mod: u64,
+    max_cells: u64,
+    allowance: u32,
+    mem: &mut [u64],
+    out: &mut [u64],
+    count: &mut u64,
+    steps: &mut u64,
+    aside: &mut u64,
+) -> u64
+    ensures { λ r. ⌜ Called (resultOf Ending.CellUnion true (regionCoverer «min_level» «max_level» «level_mod» «max_cells») (capRegion x y z radius) allowance (length (now (mem .entry))) (length (now (out .entry)))) r (now (mem .entry)) (now (mem .exit)) (now (out .entry)) (now (out .exit)) (now (count .exit)) (now (steps .exit)) (now (aside .exit)) ⌝ }
+{
+    let c = region_coverer(min_level, max_level, level_mod, max_cells);
+    let g = cap_region(x, y, z, radius);
+    let a = covering::interior_cellunion(c, g, allowance, mem, out);
+    tell(a, count, steps, aside)
+}
+
+// The inner run's raw list, normalised; nothing is promised of levels. Of a cell.
+#[no_mangle]
+pub extern "C" fn flaxbadger_interior_cellunion_cell(
+    id: u64,
+    min_level: u64,
+    max_level: u64,
+    level_mod: u64,
+    max_cells: u64,
+    allowance: u32,
+    mem: &mut [u64],
+    out: &mut [u64],
+    count: &mut u64,
+    steps: &mut u64,
+    aside: &mut u64,
+) -> u64
+    ensures { λ r. ⌜ Called (resultOf Ending.CellUnion true (regionCoverer «min_level» «max_level» «level_mod» «max_cells») (cellRegion id) allowance (length (now (mem .entry))) (length (now (out .entry)))) r (now (mem .entry)) (now (mem .exit)) (now (out .entry)) (now (out .exit)) (now (count .exit)) (now (steps .exit)) (now (aside .exit)) ⌝ }
+{
+    let c = region_coverer(min_level, max_level, level_mod, max_cells);
+    let g = cell_region(id);
+    let a = covering::interior_cellunion(c, g, allowance, mem, out);
+    tell(a, count, steps, aside)
+}
+
+// The inner run's raw list, in the order kept. Of a cap.
+#[no_mangle]
+pub extern "C" fn flaxbadger_interior_raw_cap(
+    x: f64,
+    y: f64,
+    z: f64,
+    radius: f64,
+    min_level: u64,
+    max_level: u64,
+    level_mod: u64,
+    max_cells: u64,
+    allowance: u32,
+    mem: &mut [u64],
+    out: &mut [u64],
+    count: &mut u64,
+    steps: &mut u64,
+    aside: &mut u64,
+) -> u64
+    ensures { λ r. ⌜ Called (resultOf Ending.Raw true (regionCoverer «min_level» «max_level» «level_mod» «max_cells») (capRegion x y z radius) allowance (length (now (mem .entry))) (length (now (out .entry)))) r (now (mem .entry)) (now (mem .exit)) (now (out .entry)) (now (out .exit)) (now (count .exit)) (now (steps .exit)) (now (aside .exit)) ⌝ }
+{
+    let c = region_coverer(min_level, max_level, level_mod, max_cells);
+    let g = cap_region(x, y, z, radius);
+    let a = covering::interior_raw(c, g, allowance, mem, out);
+    tell(a, count, steps, aside)
+}
+
+// The inner run's raw list, in the order kept. Of a cell.
+#[no_mangle]
+pub extern "C" fn flaxbadger_interior_raw_cell(
+    id: u64,
+    min_level: u64,
+    max_level: u64,
+    level_mod: u64,
+    max_cells: u64,
+    allowance: u32,
+    mem: &mut [u64],
+    out: &mut [u64],
+    count: &mut u64,
+    steps: &mut u64,
+    aside: &mut u64,
+) -> u64
+    ensures { λ r. ⌜ Called (resultOf Ending.Raw true (regionCoverer «min_level» «max_level» «level_mod» «max_cells») (cellRegion id) allowance (length (now (mem .entry))) (length (now (out .entry)))) r (now (mem .entry)) (now (mem .exit)) (now (out .entry)) (now (out .exit)) (now (count .exit)) (now (steps .exit)) (now (aside .exit)) ⌝ }
+{
+    let c = region_coverer(min_level, max_level, level_mod, max_cells);
+    let g = cell_region(id);
+    let a = covering::interior_raw(c, g, allowance, mem, out);
+    tell(a, count, steps, aside)
+}
+
+// The quick, coarse covering of the region's bound, with no run and 0 steps. Of a cap.
+#[no_mangle]
+pub extern "C" fn flaxbadger_fast_covering_cap(
+    x: f64,
+    y: f64,
+    z: f64,
+    radius: f64,
+    min_level: u64,
+    max_level: u64,
+    level_mod: u64,
+    max_cells: u64,
+    mem: &mut [u64],
+    out: &mut [u64],
+    count: &mut u64,
+    steps: &mut u64,
+    aside: &mut u64,
+) -> u64
+    ensures { λ r. ⌜ Called (fastResultOf (regionCoverer «min_level» «max_level» «level_mod» «max_cells») (capRegion x y z radius) (length (now (mem .entry))) (length (now (out .entry)))) r (now (mem .entry)) (now (mem .exit)) (now (out .entry)) (now (out .exit)) (now (count .exit)) (now (steps .exit)) (now (aside .exit)) ⌝ }
+{
+    let c = region_coverer(min_level, max_level, level_mod, max_cells);
+    let g = cap_region(x, y, z, radius);
+    let a = covering::fast_covering(c, g, mem, out);
+    tell(a, count, steps, aside)
+}
+
+// The quick, coarse covering of the region's bound, with no run and 0 steps. Of a cell.
+#[no_mangle]
+pub extern "C" fn flaxbadger_fast_covering_cell(
+    id: u64,
+    min_level: u64,
+    max_level: u64,
+    level_mod: u64,
+    max_cells: u64,
+    mem: &mut [u64],
+    out: &mut [u64],
+    count: &mut u64,
+    steps: &mut u64,
+    aside: &mut u64,
+) -> u64
+    ensures { λ r. ⌜ Called (fastResultOf (regionCoverer «min_level» «max_level» «level_mod» «max_cells») (cellRegion id) (length (now (mem .entry))) (length (now (out .entry)))) r (now (mem .entry)) (now (mem .exit)) (now (out .entry)) (now (out .exit)) (now (count .exit)) (now (steps .exit)) (now (aside .exit)) ⌝ }
+{
+    let c = region_coverer(min_level, max_level, level_mod, max_cells);
+    let g = cell_region(id);
+    let a = covering::fast_covering(c, g, mem, out);
+    tell(a, count, steps, aside)
+}

@@ -1,0 +1,21 @@
+-- `cover::write`: so many bytes are there.
+use native.Mathlib.Omega.{arith}
+use lib.ListN.{length-take}
+use borrow.Author.Needs.{needs}
+use Rattle.cover.proofs.write.Statement.{statement}
+use Rattle.cover.proofs.write.Tie as tie
+
+slice-aggregate-write-all : tie.Need-slice-aggregate-write-all
+slice-aggregate-write-all c = simp length-take (omega arith)
+
+write-all-requires : tie.Need-write-all-requires
+write-all-requires c κs = search needs
+
+returns : tie.Need-returns
+returns c = search needs
+
+returns-2 : tie.Need-returns-2
+returns-2 c = search needs
+
+pub write-spec : {M : Type 1} → statement M
+write-spec = tie.close (tie.spec slice-aggregate-write-all write-all-requires returns returns-2)

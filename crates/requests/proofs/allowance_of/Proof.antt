@@ -1,0 +1,20 @@
+-- `requests::allowance_of`: the lesser of the two.
+use native.Mathlib.Omega.{arith}
+use Rattle.requests.specs.Requests.{allowanceOf}
+use borrow.Author.Needs.{needs}
+use Rattle.requests.proofs.allowance_of.Statement.{statement}
+use Rattle.requests.proofs.allowance_of.Tie as tie
+
+cast-result : tie.Need-cast-result
+cast-result c = search needs
+
+returns : tie.Need-returns
+unfolding allowanceOf
+returns c = omega arith
+
+returns-2 : tie.Need-returns-2
+unfolding allowanceOf
+returns-2 c = omega arith
+
+pub allowance-of-spec : {M : Type 1} → statement M
+allowance-of-spec = tie.close (tie.spec cast-result returns returns-2)

@@ -1,0 +1,56 @@
+/* Coverings from C: a cap that is covered, a cell region, and two refusals. Writes what comes back; exits with 1 where it is not what
+ * paper 01 says. */
+#include <inttypes.h>
+#include <stdio.h>
+#include <string.h>
+
+#include "flaxbadger.h"
+
+static uint64_t mem[FLAXBADGER_MEMORY];
+static uint64_t out[64];
+
+static int show(const char *name, uint64_t number, uint64_t count, uint64_t steps, uint64_t aside) {
+    printf("%s: number %" PRIu64 ", %" PRIu64 " cells, %" PRIu64 " steps, %" PRIu64 " leaves set aside\n", name, number, count, steps, aside);
+    for (uint64_t i = 0; i < count && i < 4; i++) {
+        printf("  %016" PRIx64 "\n", out[i]);
+    }
+    if (count > 4) {
+        printf("  ..\n");
+    }
+    return number == 0;
+}
+
+int main(void) {
+    uint64_t count, steps, aside, number;
+    int ok = 1;
+
+    /* The whole sphere at level 1: 24 cells, 6 steps. */
+    number = flaxbadger_covering_cap(1, 0, 0, 4, 1, 30, 1, 8, 1000, mem, FLAXBADGER_MEMORY, out, 64, &count, &steps, &aside);
+    ok &= show("the whole sphere", number, count, steps, aside) && count == 24 && steps == 6 && aside == 0;
+
+    /* The same with an allowance of 5 steps: refused with 9, and nothing written. */
+    memset(out, 0xff, sizeof out);
+    number = flaxbadger_covering_cap(1, 0, 0, 4, 1, 30, 1, 8, 5, mem, FLAXBADGER_MEMORY, out, 64, &count, &steps, &aside);
+    show("with 5 steps", number, count, steps, aside);
+    ok &= number == 9 && count == 0 && steps == 0 && aside == 0 && out[0] == UINT64_MAX;
+
+    /* Face 0 as a region. */
+    number = flaxbadger_covering_cell(UINT64_C(0x1000000000000000), 0, 30, 1, 8, 1000, mem, FLAXBADGER_MEMORY, out, 64, &count, &steps, &aside);
+    ok &= show("face 0", number, count, steps, aside) && count == 1 && out[0] == UINT64_C(0x1000000000000000) && aside == UINT64_C(5764607523034234880);
+
+    /* A small cap, and the cells inside it. */
+    number = flaxbadger_covering_cap(0, 0, 1, 1e-6, 0, 30, 1, 8, 1000, mem, FLAXBADGER_MEMORY, out, 64, &count, &steps, &aside);
+    ok &= show("a cap at the pole", number, count, steps, aside);
+    number = flaxbadger_interior_covering_cap(0, 0, 1, 1e-6, 0, 30, 1, 8, 1000, mem, FLAXBADGER_MEMORY, out, 64, &count, &steps, &aside);
+    ok &= show("inside it", number, count, steps, aside) && aside == 0;
+    number = flaxbadger_fast_covering_cap(0, 0, 1, 1e-6, 0, 30, 1, 8, mem, FLAXBADGER_MEMORY, out, 64, &count, &steps, &aside);
+    ok &= show("quickly", number, count, steps, aside) && steps == 0;
+
+    /* A working memory that is too short: refused with 6. */
+    number = flaxbadger_raw_cap(0, 0, 1, 1e-6, 0, 30, 1, 8, 1000, mem, FLAXBADGER_MEMORY - 1, out, 64, &count, &steps, &aside);
+    show("too little memory", number, count, steps, aside);
+    ok &= number == 6;
+
+    puts(ok ? "as expected" : "NOT as expected");
+    return ok ? 0 : 1;
+}

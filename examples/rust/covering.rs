@@ -1,0 +1,69 @@
+// Coverings from Rust: a safe function over the archive's, a covering of a cap, and a refusal. Exits with 1 where the answer is not what
+// paper 01 says.
+
+extern "C" {
+    fn flaxbadger_covering_cap(
+        x: f64, y: f64, z: f64, radius: f64,
+        min_level: u64, max_level: u64, level_mod: u64, max_cells: u64, allowance: u32,
+        mem: *mut u64, mem_len: usize, out: *mut u64, out_len: usize,
+        count: &mut u64, steps: &mut u64, aside: &mut u64,
+    ) -> u64;
+}
+
+/// Levels and the number of cells that are aimed at.
+#[derive(Clone, Copy)]
+struct Coverer {
+    min_level: u64,
+    max_level: u64,
+    level_mod: u64,
+    max_cells: u64,
+}
+
+/// A success.
+#[derive(Debug)]
+struct Done {
+    count: usize,
+    steps: u64,
+    aside: u64,
+}
+
+/// Covers the cap, or gives the number of the refusal (1 to 10). The slices are borrowed for the call alone, so that the archive's
+/// requirements on pointers hold.
+fn covering(c: Coverer, center: [f64; 3], radius: f64, allowance: u32, mem: &mut [u64], out: &mut [u64]) -> Result<Done, u64> {
+    let (mut count, mut steps, mut aside) = (0, 0, 0);
+    let number = unsafe {
+        flaxbadger_covering_cap(
+            center[0], center[1], center[2], radius,
+            c.min_level, c.max_level, c.level_mod, c.max_cells, allowance,
+            mem.as_mut_ptr(), mem.len(), out.as_mut_ptr(), out.len(),
+            &mut count, &mut steps, &mut aside,
+        )
+    };
+    if number == 0 { Ok(Done { count: count as usize, steps, aside }) } else { Err(number) }
+}
+
+fn main() {
+    let mut mem = vec![0u64; 4096];
+    let mut out = vec![0u64; 64];
+    let c = Coverer { min_level: 1, max_level: 30, level_mod: 1, max_cells: 8 };
+
+    let sphere = covering(c, [1.0, 0.0, 0.0], 4.0, 1000, &mut mem, &mut out);
+    println!("the whole sphere: {sphere:?}");
+    let mut ok = matches!(sphere, Ok(Done { count: 24, steps: 6, aside: 0 })) && out[0] == 0x0400000000000000 && out[23] == 0xbc00000000000000;
+
+    let short = covering(c, [1.0, 0.0, 0.0], 4.0, 1000, &mut mem, &mut out[..23]);
+    println!("with an output of 23: {short:?}");
+    ok &= matches!(short, Err(10));
+
+    let pole = covering(Coverer { min_level: 0, ..c }, [0.0, 0.0, 1.0], 1e-6, 1000, &mut mem, &mut out);
+    if let Ok(done) = &pole {
+        for id in &out[..done.count] {
+            println!("  {id:016x}");
+        }
+    }
+    println!("a cap at the pole: {pole:?}");
+    ok &= pole.is_ok();
+
+    println!("{}", if ok { "as expected" } else { "NOT as expected" });
+    std::process::exit(if ok { 0 } else { 1 });
+}
