@@ -21,8 +21,7 @@ unfoldable pub written : ℕ → List ℕ → List ℕ → List ℕ
 written at [] d = d
 written at (b ∷ s) d = written (next at (length d)) s (set d at b)
 
--- the bytes s are written into d from a place on: the place after them is r, and the buffer is d' (proofs/Writing.antt: where there is
--- room for them they stand there whole, and all else is as it was)
+-- the bytes s are written into d from a place on, one after another as far as d reaches: the place after them is r, and the buffer is d'
 pub record Wrote (at : ℕ) (s d : List ℕ) (r : ℕ) (d' : List ℕ) : Type 0 where
   pub count : r ≡ stopAt at s (length d)
   pub bytes : d' ≡ written at s d
