@@ -1,4 +1,4 @@
-// Reads a question a line from standard input and writes an answer a line: see the crate `questions`.
+// Reads a question a line from standard input and writes an answer a line: see the crates `questions` and `unions`.
 ghost use lib.ListN.{length};
 ghost use Rattle.lines.specs.Feed.{Ready};
 use libc::STDIN_FILENO;
@@ -6,9 +6,26 @@ use libc::STDOUT_FILENO;
 use lines::Fault;
 use lines::Feed;
 use lines::Found;
+use unions::Reply;
+
+// The answer's length.
+fn ask(line: &[u8], number: u64, ids: &mut [u64], out: &mut [u64], text: &mut [u8]) -> usize {
+    let reply = unions::answer(line, number, ids, out, text);
+    match reply {
+        Reply::Done(n) => n,
+        Reply::NotMine => questions::answer(line, number, text),
+    }
+}
 
 // Answers the line that was found; false where the input has ended.
-fn answer(f: Feed, number: u64, buf: &[u8], text: &mut [u8]) -> bool
+fn answer(
+    f: Feed,
+    number: u64,
+    buf: &[u8],
+    ids: &mut [u64],
+    out: &mut [u64],
+    text: &mut [u8],
+) -> bool
     requires { ⌜ Ready (length (now buf)) f ⌝ }
 {
     let found = f.found;
@@ -16,7 +33,7 @@ fn answer(f: Feed, number: u64, buf: &[u8], text: &mut [u8]) -> bool
         Found::Line => {
             let start = f.start;
             let end = f.end;
-            let n = questions::answer(&buf[start..end], number, text);
+            let n = ask(&buf[start..end], number, ids, out, text);
             write(text, n)
         }
         Found::TooLong => {
@@ -34,7 +51,7 @@ fn write(text: &[u8], n: usize) -> bool {
     false
 }
 
-fn run(buf: &mut [u8], text: &mut [u8]) {
+fn run(buf: &mut [u8], ids: &mut [u64], out: &mut [u64], text: &mut [u8]) {
     let mut next = 0;
     let mut filled = 0;
     let mut number: u64 = 0;
@@ -43,7 +60,7 @@ fn run(buf: &mut [u8], text: &mut [u8]) {
         number += 1;
         next = f.next;
         filled = f.filled;
-        if !answer(f, number, buf, text) {
+        if !answer(f, number, buf, ids, out, text) {
             return;
         }
     }
@@ -51,6 +68,8 @@ fn run(buf: &mut [u8], text: &mut [u8]) {
 
 fn main() {
     let mut buf = io::large_buffer();
-    let mut text = io::buffer();
-    run(&mut buf, &mut text);
+    let mut ids = [0u64; 4096];
+    let mut out = [0u64; 4096];
+    let mut text = io::large_buffer();
+    run(&mut buf, &mut ids, &mut out, &mut text);
 }

@@ -6,6 +6,7 @@ ghost use Rattle.lines.specs.Feed.{Ready};
 use libc::STDOUT_FILENO;
 use lines::Feed;
 use lines::Found;
+use unions::Reply;
 
 // How many were compared, differ, and were answered with an error.
 struct Tally {
@@ -91,8 +92,24 @@ fn tallied(t: Tally, same: bool, error: bool) -> Tally {
     }
 }
 
+// The answer's length.
+fn ask(line: &[u8], number: u64, ids: &mut [u64], out: &mut [u64], text: &mut [u8]) -> usize {
+    let reply = unions::answer(line, number, ids, out, text);
+    match reply {
+        Reply::Done(n) => n,
+        Reply::NotMine => questions::answer(line, number, text),
+    }
+}
+
 // Answers the question of a line and compares.
-fn compare(line: &[u8], number: u64, text: &mut [u8], t: Tally) -> Tally {
+fn compare(
+    line: &[u8],
+    number: u64,
+    ids: &mut [u64],
+    out: &mut [u64],
+    text: &mut [u8],
+    t: Tally,
+) -> Tally {
     let tab = tab_at(line);
     if line.len() <= tab {
         return t;
@@ -100,7 +117,7 @@ fn compare(line: &[u8], number: u64, text: &mut [u8], t: Tally) -> Tally {
     let from = tab + 1;
     let question = &line[..tab];
     let want = &line[from..];
-    let n = questions::answer(question, number, text);
+    let n = ask(question, number, ids, out, text);
     let same = is_wanted(text, n, want);
     let error = is_error(text);
     if !same {
@@ -114,19 +131,27 @@ fn compare(line: &[u8], number: u64, text: &mut [u8], t: Tally) -> Tally {
 }
 
 // The tally with the line that was found.
-fn turn(f: Feed, number: u64, buf: &[u8], text: &mut [u8], t: Tally) -> Tally
+fn turn(
+    f: Feed,
+    number: u64,
+    buf: &[u8],
+    ids: &mut [u64],
+    out: &mut [u64],
+    text: &mut [u8],
+    t: Tally,
+) -> Tally
     requires { ⌜ Ready (length (now buf)) f ⌝ }
 {
     let start = f.start;
     let end = f.end;
-    compare(&buf[start..end], number, text, t)
+    compare(&buf[start..end], number, ids, out, text, t)
 }
 
 fn is_end(found: Found) -> bool {
     if let Found::End = found { true } else { false }
 }
 
-fn run(fd: i32, buf: &mut [u8], text: &mut [u8]) -> Tally {
+fn run(fd: i32, buf: &mut [u8], ids: &mut [u64], out: &mut [u64], text: &mut [u8]) -> Tally {
     let mut t = Tally {
         compared: 0,
         differ: 0,
@@ -144,7 +169,7 @@ fn run(fd: i32, buf: &mut [u8], text: &mut [u8]) -> Tally {
         number += 1;
         next = f.next;
         filled = f.filled;
-        t = turn(f, number, buf, text, t);
+        t = turn(f, number, buf, ids, out, text, t);
     }
     t
 }
@@ -168,7 +193,9 @@ fn replay(name: &[u8]) {
     }
     let mut buf = io::large_buffer();
     let mut text = io::large_buffer();
-    let t = run(fd, &mut buf, &mut text);
+    let mut ids = [0u64; 4096];
+    let mut out = [0u64; 4096];
+    let t = run(fd, &mut buf, &mut ids, &mut out, &mut text);
     libc::close(fd);
     io::write_all(STDOUT_FILENO, name);
     print(t);

@@ -26,8 +26,8 @@ part-want-start c = search needs
 part-want-end : tie.Need-part-want-end
 part-want-end c = search needs
 
-answer-requires : tie.Need-answer-requires
-answer-requires c κs = search needs
+ask-requires : tie.Need-ask-requires
+ask-requires c κs = search needs
 
 is-wanted-requires : tie.Need-is-wanted-requires
 is-wanted-requires c κs = search needs
@@ -44,6 +44,12 @@ tallied-requires c κs = search needs
 same-length : tie.Need-same-length
 same-length c = search needs
 
+same-length-2 : tie.Need-same-length-2
+same-length-2 c = search needs
+
+same-length-3 : tie.Need-same-length-3
+same-length-3 c = search needs
+
 returns-2 : tie.Need-returns-2
 returns-2 c = search needs
 
@@ -58,10 +64,12 @@ compare-spec =
     sub-want
     part-want-start
     part-want-end
-    answer-requires
+    ask-requires
     is-wanted-requires
     is-error-requires
     show-requires
     tallied-requires
     same-length
+    same-length-2
+    same-length-3
     returns-2)

@@ -7,10 +7,10 @@ use Rattle.replay.proofs.run.Statement.{statement}
 use Rattle.replay.proofs.run.Tie as tie
 
 abbrev Inv-loop : tie.InvT-loop
-Inv-loop fd buf₀ text₀ t₀ next₀ filled₀ number₀ buf text t next filled number = (length buf ≡ length buf₀) × (length text ≡ length text₀) × (next ≤ filled) × (filled ≤ length buf₀)
+Inv-loop fd buf₀ ids₀ out₀ text₀ t₀ next₀ filled₀ number₀ buf ids out text t next filled number = (length buf ≡ length buf₀) × (length ids ≡ length ids₀) × (length out ≡ length out₀) × (length text ≡ length text₀) × (next ≤ filled) × (filled ≤ length buf₀)
 
 abbrev μ-loop : tie.MeasureT-loop
-μ-loop fd buf₀ text₀ t₀ next₀ filled₀ number₀ buf text t next filled number = 18446744073709551615 - number
+μ-loop fd buf₀ ids₀ out₀ text₀ t₀ next₀ filled₀ number₀ buf ids out text t next filled number = 18446744073709551615 - number
 
 loop-holds : tie.Need-loop-holds Inv-loop μ-loop
 loop-holds c = search needs
@@ -27,6 +27,12 @@ same-length c = search needs
 same-length-2 : tie.Need-same-length-2 Inv-loop μ-loop
 same-length-2 c = search needs
 
+same-length-3 : tie.Need-same-length-3 Inv-loop μ-loop
+same-length-3 c = search needs
+
+same-length-4 : tie.Need-same-length-4 Inv-loop μ-loop
+same-length-4 c = search needs
+
 returns : tie.Need-returns Inv-loop μ-loop
 returns c = search needs
 
@@ -42,11 +48,17 @@ loop-less c = search needs
 loop-again : tie.Need-loop-again Inv-loop μ-loop
 loop-again c = search needs
 
-same-length-3 : tie.Need-same-length-3 Inv-loop μ-loop
-same-length-3 c = search needs
+same-length-5 : tie.Need-same-length-5 Inv-loop μ-loop
+same-length-5 c = search needs
 
-same-length-4 : tie.Need-same-length-4 Inv-loop μ-loop
-same-length-4 c = search needs
+same-length-6 : tie.Need-same-length-6 Inv-loop μ-loop
+same-length-6 c = search needs
+
+same-length-7 : tie.Need-same-length-7 Inv-loop μ-loop
+same-length-7 c = search needs
+
+same-length-8 : tie.Need-same-length-8 Inv-loop μ-loop
+same-length-8 c = search needs
 
 returns-2 : tie.Need-returns-2 Inv-loop μ-loop
 returns-2 c = search needs
@@ -62,11 +74,15 @@ run-spec =
     is-end-requires
     same-length
     same-length-2
+    same-length-3
+    same-length-4
     returns
     add-number
     turn-requires
     loop-less
     loop-again
-    same-length-3
-    same-length-4
+    same-length-5
+    same-length-6
+    same-length-7
+    same-length-8
     returns-2)
