@@ -1,18 +1,16 @@
 -- Laws of `specs/Write.antt`: what is written in parts is written whole, and what a number's digits are.
 use mathlib.Core.Path.{_≡_, refl, sym, ap, ap₂, _∙_, subst}
-use mathlib.Core.Bool.{Bool, true, false}
 use mathlib.Core.List.{List, [], _∷_, _++_}
-use Prim.Native.Nat.{ℕ, zero, suc, _+_, _-_, _*_, _/_, _%_, _^_, _≤_, _<_}
+use Prim.Native.Nat.{ℕ, zero, suc, _+_, _-_, _*_, _/_, _^_, _≤_, _<_}
 use native.Mathlib.Omega.{arith}
 use native.Mathlib.Decide.{decLt}
 use mathlib.Core.Logic.{by-cases}
 use native.Mathlib.Numerals.{add-one}
 use native.Mathlib.Nat.{mod-eq-of-lt, div-lt-iff-lt-mul, le-div-iff-mul-le, pow-suc, pow-le-pow-right}
-use lib.Dec.{ltb}
-use lib.ListN.{length, getD, take, drop, set, drop-of-length-le, length-set}
+use lib.ListN.{length, getD, drop, set, drop-of-length-le, length-set}
 use lib.Seq.{drop-cons}
 use borrow.Author.Tests.{lt-ltb, le-ltb}
-use Rattle.io.specs.Digits.{digits, glyph, Fewest}
+use Rattle.io.specs.Digits.{digits, Fewest}
 use Rattle.lines.specs.Write.{next, stopAt, written, Wrote, spelled, decimalText, hexText, idText, idsText}
 
 -- ---- parts

@@ -1,8 +1,8 @@
 // Lines of an input of any size, one after another, out of one buffer. A line that the buffer can't hold is passed over to its end.
 ghost use mathlib.Core.Path.{_≡_};
-ghost use Prim.Native.Nat.{_+_, _-_, _≤_};
-ghost use lib.ListN.{length, take, drop};
-ghost use Rattle.lines.specs.Feed.{untilNewline, movedDown, Ready};
+ghost use Prim.Native.Nat.{_-_, _≤_, _<_};
+ghost use lib.ListN.{length, take};
+ghost use Rattle.lines.specs.Feed.{NoNewline, between, lineEnd, movedDown, lineTo, lastLine, Ready, Passed, NextLine};
 
 // What was found: a line, one that is too long for the buffer, or the input's end.
 pub enum Found {
@@ -23,7 +23,7 @@ pub struct Feed {
 // The place of the first newline from `from` on and before `to`, or `to`.
 fn line_end(buf: &[u8], from: usize, to: usize) -> usize
     requires { ⌜ (from ≤ to) × (to ≤ length (now buf)) ⌝ }
-    ensures { λ r. ⌜ r ≡ from + untilNewline (take (to - from) (drop from (now (buf .entry)))) ⌝ }
+    ensures { λ r. ⌜ r ≡ lineEnd from to (now (buf .entry)) ⌝ }
     ensures { λ r. ⌜ (from ≤ r) × (r ≤ to) ⌝ }
 {
     let mut i = from;
@@ -53,14 +53,10 @@ fn move_down(buf: &mut [u8], from: usize, to: usize)
 fn fill(fd: i32, buf: &mut [u8], filled: usize) -> usize
     requires { ⌜ filled ≤ length (now buf) ⌝ }
     ensures { λ r. ⌜ (filled ≤ r) × (r ≤ length (now (buf .entry))) ⌝ }
+    ensures { λ _. ⌜ take filled (now (buf .exit)) ≡ take filled (now (buf .entry)) ⌝ }
 {
-    let room = buf.len() - filled;
     let got = libc::read(fd, &mut buf[filled..]);
-    let n = io::count(got, buf);
-    if n <= room {
-        return filled + n;
-    }
-    filled
+    filled + io::count(got, &buf[filled..])
 }
 
 // The rest of what is in the buffer once a line too long for it has been passed over.
@@ -72,6 +68,7 @@ pub struct Rest {
 // Reads on to the next newline.
 fn skip_line(fd: i32, buf: &mut [u8]) -> Rest
     ensures { λ r. ⌜ (r .next ≤ r .filled) × (r .filled ≤ length (now (buf .entry))) ⌝ }
+    ensures { λ r. ⌜ Passed (r .next) (r .filled) (now (buf .exit)) ⌝ }
 {
     let mut turns = u64::MAX;
     while 0 < turns {
@@ -81,61 +78,31 @@ fn skip_line(fd: i32, buf: &mut [u8]) -> Rest
         }
         let end = line_end(buf, 0, filled);
         if end < filled {
-            return Rest {
-                next: end + 1,
-                filled,
-            };
+            let next = end + 1;
+            return Rest { next, filled };
         }
         turns -= 1;
     }
     Rest { next: 0, filled: 0 }
 }
 
-// The next line: the unread bytes are buf[next..filled], and what follows them is read from the file. A last line needs no newline.
-pub fn next_line(fd: i32, buf: &mut [u8], next: usize, filled: usize) -> Feed
-    requires { ⌜ (next ≤ filled) × (filled ≤ length (now buf)) ⌝ }
-    ensures { λ r. ⌜ Ready (length (now (buf .entry))) r ⌝ }
+// The line up to a newline at `end`.
+fn line_to(start: usize, end: usize, filled: usize) -> Feed
+    requires { ⌜ end < filled ⌝ }
+    ensures { λ r. ⌜ r ≡ lineTo start end filled ⌝ }
 {
-    let mut start = next;
-    let mut filled = filled;
-    let mut turns = u64::MAX;
-    while 0 < turns {
-        let end = line_end(buf, start, filled);
-        if end < filled {
-            return Feed {
-                start,
-                end,
-                next: end + 1,
-                filled,
-                found: Found::Line,
-            };
-        }
-        move_down(buf, start, filled);
-        filled -= start;
-        start = 0;
-        if filled == buf.len() {
-            let rest = skip_line(fd, buf);
-            return Feed {
-                start: 0,
-                end: 0,
-                next: rest.next,
-                filled: rest.filled,
-                found: Found::TooLong,
-            };
-        }
-        let more = fill(fd, buf, filled);
-        if more == filled {
-            return last(filled);
-        }
-        filled = more;
-        turns -= 1;
+    Feed {
+        start,
+        end,
+        next: end + 1,
+        filled,
+        found: Found::Line,
     }
-    last(0)
 }
 
 // What is left at the input's end is a line, if anything is left.
 fn last(filled: usize) -> Feed
-    ensures { λ r. ⌜ Ready filled r ⌝ }
+    ensures { λ r. ⌜ r ≡ lastLine filled ⌝ }
 {
     if filled == 0 {
         return Feed {
@@ -153,4 +120,46 @@ fn last(filled: usize) -> Feed
         filled,
         found: Found::Line,
     }
+}
+
+// The line that the first `held` bytes begin, none of them a newline: reads on until it is whole.
+fn read_on(fd: i32, buf: &mut [u8], held: usize) -> Feed
+    requires { ⌜ (held ≤ length (now buf)) × NoNewline (take held (now buf)) ⌝ }
+    ensures { λ r. ⌜ Ready (length (now (buf .entry))) r ⌝ }
+    ensures { λ r. ⌜ NextLine (now (buf .entry)) 0 held (now (buf .exit)) r ⌝ }
+{
+    let mut filled = held;
+    while filled < buf.len() {
+        let more = fill(fd, buf, filled);
+        if more == filled {
+            return last(filled);
+        }
+        let end = line_end(buf, filled, more);
+        if end < more {
+            return line_to(0, end, more);
+        }
+        filled = more;
+    }
+    let rest = skip_line(fd, buf);
+    Feed {
+        start: 0,
+        end: 0,
+        next: rest.next,
+        filled: rest.filled,
+        found: Found::TooLong,
+    }
+}
+
+// The next line: the unread bytes are buf[next..filled], and what follows them is read from the file. A last line needs no newline.
+pub fn next_line(fd: i32, buf: &mut [u8], next: usize, filled: usize) -> Feed
+    requires { ⌜ (next ≤ filled) × (filled ≤ length (now buf)) ⌝ }
+    ensures { λ r. ⌜ Ready (length (now (buf .entry))) r ⌝ }
+    ensures { λ r. ⌜ NextLine (now (buf .entry)) next filled (now (buf .exit)) r ⌝ }
+{
+    let end = line_end(buf, next, filled);
+    if end < filled {
+        return line_to(next, end, filled);
+    }
+    move_down(buf, next, filled);
+    read_on(fd, buf, filled - next)
 }

@@ -17,7 +17,7 @@ pub enum Region {
     Cell(u64),
 }
 
-fn is_finite(x: f64) -> bool
+pub fn is_finite(x: f64) -> bool
     ensures { λ r. ⌜ r ≡ isFinite x ⌝ }
 {
     let top = 1.0 / 0.0;
@@ -27,7 +27,8 @@ fn is_finite(x: f64) -> bool
     false
 }
 
-fn cap_in_domain(c: Cap) -> bool
+// Whether a cap is one that a request may have.
+pub fn cap_in_domain(c: Cap) -> bool
     ensures { λ r. ⌜ r ≡ capInDomain c ⌝ }
 {
     if !is_finite(c.center.x) {

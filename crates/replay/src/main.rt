@@ -5,14 +5,12 @@ ghost use lib.ListN.{length};
 ghost use Rattle.lines.specs.Feed.{Ready};
 use libc::STDOUT_FILENO;
 use lines::Feed;
-use lines::Found;
-use unions::Reply;
+use serve::Program;
 
-// How many were compared, differ, and were answered with an error.
+// How many were compared, and how many of them differ.
 struct Tally {
     compared: u64,
     differ: u64,
-    errors: u64,
 }
 
 // The place of the first tab, or the line's end.
@@ -61,51 +59,26 @@ fn show(question: &[u8], want: &[u8], text: &[u8], n: usize) {
     }
 }
 
-// An error is all that begins so.
-fn is_error(text: &[u8]) -> bool {
-    if 0 < text.len() {
-        return text[0] == b'e';
-    }
-    false
-}
-
-// One more question, whose answer is as it was stored or not.
-fn tallied(t: Tally, same: bool, error: bool) -> Tally {
+// One more, whose answer is as it was stored or not.
+fn tallied(t: Tally, same: bool) -> Tally {
     if same {
         return Tally {
             compared: std::num::wrapping_add_u64(t.compared, 1),
             differ: t.differ,
-            errors: t.errors,
-        };
-    }
-    if error {
-        return Tally {
-            compared: t.compared,
-            differ: t.differ,
-            errors: std::num::wrapping_add_u64(t.errors, 1),
         };
     }
     Tally {
         compared: std::num::wrapping_add_u64(t.compared, 1),
         differ: std::num::wrapping_add_u64(t.differ, 1),
-        errors: t.errors,
     }
 }
 
-// The answer's length.
-fn ask(line: &[u8], number: u64, ids: &mut [u64], out: &mut [u64], text: &mut [u8]) -> usize {
-    let reply = unions::answer(line, number, ids, out, text);
-    match reply {
-        Reply::Done(n) => n,
-        Reply::NotMine => questions::answer(line, number, text),
-    }
-}
-
-// Answers the question of a line and compares.
+// Answers the question of a line and compares; a line without a tab is a remark.
 fn compare(
+    program: Program,
     line: &[u8],
     number: u64,
-    ids: &mut [u64],
+    mem: &mut [u64],
     out: &mut [u64],
     text: &mut [u8],
     t: Tally,
@@ -117,25 +90,23 @@ fn compare(
     let from = tab + 1;
     let question = &line[..tab];
     let want = &line[from..];
-    let n = ask(question, number, ids, out, text);
+    let n = serve::answer(program, question, number, mem, out, text);
     let same = is_wanted(text, n, want);
-    let error = is_error(text);
     if !same {
         if t.differ == 0 {
-            if !error {
-                show(question, want, text, n);
-            }
+            show(question, want, text, n);
         }
     }
-    tallied(t, same, error)
+    tallied(t, same)
 }
 
 // The tally with the line that was found.
 fn turn(
+    program: Program,
     f: Feed,
     number: u64,
     buf: &[u8],
-    ids: &mut [u64],
+    mem: &mut [u64],
     out: &mut [u64],
     text: &mut [u8],
     t: Tally,
@@ -144,18 +115,20 @@ fn turn(
 {
     let start = f.start;
     let end = f.end;
-    compare(&buf[start..end], number, ids, out, text, t)
+    compare(program, &buf[start..end], number, mem, out, text, t)
 }
 
-fn is_end(found: Found) -> bool {
-    if let Found::End = found { true } else { false }
-}
-
-fn run(fd: i32, buf: &mut [u8], ids: &mut [u64], out: &mut [u64], text: &mut [u8]) -> Tally {
+fn run(
+    program: Program,
+    fd: i32,
+    buf: &mut [u8],
+    mem: &mut [u64],
+    out: &mut [u64],
+    text: &mut [u8],
+) -> Tally {
     let mut t = Tally {
         compared: 0,
         differ: 0,
-        errors: 0,
     };
     let mut next = 0;
     let mut filled = 0;
@@ -163,13 +136,13 @@ fn run(fd: i32, buf: &mut [u8], ids: &mut [u64], out: &mut [u64], text: &mut [u8
     while number < u64::MAX {
         let f = lines::next_line(fd, buf, next, filled);
         let found = f.found;
-        if is_end(found) {
+        if serve::is_end(found) {
             return t;
         }
         number += 1;
         next = f.next;
         filled = f.filled;
-        t = turn(f, number, buf, ids, out, text, t);
+        t = turn(program, f, number, buf, mem, out, text, t);
     }
     t
 }
@@ -179,29 +152,28 @@ fn print(t: Tally) {
     io::print_decimal(STDOUT_FILENO, t.compared);
     io::write_all(STDOUT_FILENO, b" compared, ");
     io::print_decimal(STDOUT_FILENO, t.differ);
-    io::write_all(STDOUT_FILENO, b" differ, ");
-    io::print_decimal(STDOUT_FILENO, t.errors);
-    io::write_all(STDOUT_FILENO, b" not answered\n");
+    io::write_all(STDOUT_FILENO, b" differ\n");
 }
 
-// Replays the file of that name.
-fn replay(name: &[u8]) {
+// Replays the file of that name, its questions asked of the program.
+fn replay(program: Program, name: &[u8]) {
     let fd = os::open_read(name);
     if fd < 0 {
         os::fail(name);
         return;
     }
     let mut buf = io::large_buffer();
-    let mut text = io::large_buffer();
-    let mut ids = [0u64; 4096];
-    let mut out = [0u64; 4096];
-    let t = run(fd, &mut buf, &mut ids, &mut out, &mut text);
+    let mut mem = serve::memory();
+    let mut out = serve::places();
+    let mut text = serve::page();
+    let t = run(program, fd, &mut buf, &mut mem, &mut out, &mut text);
     libc::close(fd);
     io::write_all(STDOUT_FILENO, name);
     print(t);
 }
 
 fn main() {
-    replay(b"probe.txt");
-    replay(b"sqrt.txt");
+    replay(Program::Cover, b"cover.txt");
+    replay(Program::Probe, b"probe.txt");
+    replay(Program::Probe, b"sqrt.txt");
 }

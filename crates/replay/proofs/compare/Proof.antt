@@ -1,6 +1,6 @@
 -- `replay::compare`: so many bytes are there.
-use native.Mathlib.Omega.{arith}
-use lib.ListN.{length-take}
+use mathlib.Core.Path.{sym}
+use lib.Seq.{length-take-le}
 use borrow.Author.Needs.{needs}
 use Rattle.replay.proofs.compare.Statement.{statement}
 use Rattle.replay.proofs.compare.Tie as tie
@@ -15,7 +15,7 @@ add-from : tie.Need-add-from
 add-from c = search needs
 
 slice-aggregate-question : tie.Need-slice-aggregate-question
-slice-aggregate-question c = simp length-take (omega arith)
+slice-aggregate-question c = sym (length-take-le _ _ (c .before .before .tab-at .ensures))
 
 sub-want : tie.Need-sub-want
 sub-want c = search needs
@@ -26,14 +26,11 @@ part-want-start c = search needs
 part-want-end : tie.Need-part-want-end
 part-want-end c = search needs
 
-ask-requires : tie.Need-ask-requires
-ask-requires c κs = search needs
+answer-requires : tie.Need-answer-requires
+answer-requires c κs = search needs
 
 is-wanted-requires : tie.Need-is-wanted-requires
 is-wanted-requires c κs = search needs
-
-is-error-requires : tie.Need-is-error-requires
-is-error-requires c κs = search needs
 
 show-requires : tie.Need-show-requires
 show-requires c κs = search needs
@@ -64,9 +61,8 @@ compare-spec =
     sub-want
     part-want-start
     part-want-end
-    ask-requires
+    answer-requires
     is-wanted-requires
-    is-error-requires
     show-requires
     tallied-requires
     same-length

@@ -7,10 +7,10 @@ use Rattle.replay.proofs.run.Statement.{statement}
 use Rattle.replay.proofs.run.Tie as tie
 
 abbrev Inv-loop : tie.InvT-loop
-Inv-loop fd buf₀ ids₀ out₀ text₀ t₀ next₀ filled₀ number₀ buf ids out text t next filled number = (length buf ≡ length buf₀) × (length ids ≡ length ids₀) × (length out ≡ length out₀) × (length text ≡ length text₀) × (next ≤ filled) × (filled ≤ length buf₀)
+Inv-loop program fd buf₀ mem₀ out₀ text₀ t₀ next₀ filled₀ number₀ buf mem out text t next filled number = (length buf ≡ length buf₀) × (length mem ≡ length mem₀) × (length out ≡ length out₀) × (length text ≡ length text₀) × (next ≤ filled) × (filled ≤ length buf₀)
 
 abbrev μ-loop : tie.MeasureT-loop
-μ-loop fd buf₀ ids₀ out₀ text₀ t₀ next₀ filled₀ number₀ buf ids out text t next filled number = 18446744073709551615 - number
+μ-loop program fd buf₀ mem₀ out₀ text₀ t₀ next₀ filled₀ number₀ buf mem out text t next filled number = 18446744073709551615 - number
 
 loop-holds : tie.Need-loop-holds Inv-loop μ-loop
 loop-holds c = search needs

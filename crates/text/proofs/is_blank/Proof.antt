@@ -1,5 +1,5 @@
 -- `text::is_blank`: test by test.
-use borrow.Author.Tests.{lt-ltb, le-ltb, le-leb, lt-leb, eq-eqb, ne-eqb}
+use borrow.Author.Tests.{eq-eqb, ne-eqb}
 use Rattle.text.specs.Text.{isBlank}
 use Rattle.text.proofs.is_blank.Statement.{statement}
 use Rattle.text.proofs.is_blank.Tie as tie

@@ -3,8 +3,8 @@ use mathlib.Core.Path.{_≡_, refl, sym, ap, _∙_}
 use Prim.Native.Nat.{ℕ, _+_, _-_, _*_, _≤_, _<_}
 use native.Mathlib.Omega.{arith}
 use borrow.Author.Tests.{ltb-true, ltb-false}
-use lib.ListN.{length, getD, drop}
-use Rattle.text.specs.Text.{digitOf, valueFrom, limited}
+use lib.ListN.{length, drop}
+use Rattle.text.specs.Text.{valueFrom, limited}
 use Rattle.text.proofs.Laws.{value-go, value-end, value-over, limited-in}
 use Rattle.text.proofs.value.Statement.{statement}
 use Rattle.text.proofs.value.Tie as tie

@@ -1,5 +1,5 @@
 -- `lines::read::option_at`: the field begins with the key, or does not, or is missing.
-use mathlib.Core.Path.{_≡_, refl, sym, ap, _∙_}
+use mathlib.Core.Path.{sym, _∙_}
 use Rattle.text.specs.Text.{bytesOf}
 use Rattle.lines.proofs.Laws.{starts-long, option-there, option-other, option-none}
 use borrow.Author.Needs.{needs}

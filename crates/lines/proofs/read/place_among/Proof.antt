@@ -1,8 +1,7 @@
 -- `lines::read::place_among`: the words passed and the place among the others are the place among all.
-use mathlib.Core.Path.{_≡_, refl, sym, ap, _∙_}
-use Prim.Native.Nat.{ℕ, _+_, _-_, _≤_}
+use mathlib.Core.Path.{_≡_, sym, ap, _∙_}
+use Prim.Native.Nat.{_+_, _-_, _≤_}
 use native.Mathlib.Omega.{arith}
-use Rattle.text.specs.Text.{fieldAt}
 use Rattle.text.specs.declared.Field.{Field}
 use Rattle.lines.specs.Read.{placeAmong}
 use Rattle.lines.proofs.Laws.{place-start, place-found, place-on, place-end}

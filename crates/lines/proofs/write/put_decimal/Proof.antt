@@ -1,5 +1,5 @@
 -- `lines::write::put_decimal`: the digits that `io` gives are the number with no zeros in front.
-use mathlib.Core.Path.{_≡_, refl, sym, ap, _∙_}
+use mathlib.Core.Path.{_∙_}
 use Rattle.lines.proofs.Writing.{wrote-as, decimal-text}
 use borrow.Author.Needs.{needs}
 use Rattle.lines.proofs.write.put_decimal.Statement.{statement}

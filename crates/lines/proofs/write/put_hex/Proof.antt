@@ -1,5 +1,5 @@
 -- `lines::write::put_hex`: the digits that `io` gives are sixteen.
-use mathlib.Core.Path.{_≡_, refl, sym, ap, _∙_}
+use mathlib.Core.Path.{_∙_}
 use Rattle.lines.proofs.Writing.{wrote-as, hex-text}
 use borrow.Author.Needs.{needs}
 use Rattle.lines.proofs.write.put_hex.Statement.{statement}

@@ -1,0 +1,29 @@
+-- `serve::is_end`: case by case.
+use Rattle.serve.specs.Serve.{isEnd}
+use borrow.Author.Needs.{needs}
+use Rattle.serve.proofs.is_end.Statement.{statement}
+use Rattle.serve.proofs.is_end.Tie as tie
+
+enum-told : tie.Need-enum-told
+enum-told c = search needs
+
+enum-told-2 : tie.Need-enum-told-2
+enum-told-2 c = search needs
+
+enum-told-3 : tie.Need-enum-told-3
+enum-told-3 c = search needs
+
+returns : tie.Need-returns
+unfolding isEnd
+returns c = rw (c .enum-told .given .1)
+
+returns-2 : tie.Need-returns-2
+unfolding isEnd
+returns-2 c = rw (c .enum-told2 .given .1)
+
+returns-3 : tie.Need-returns-3
+unfolding isEnd
+returns-3 c = rw (c .enum-told3 .given .1)
+
+pub is-end-spec : {M : Type 1} → statement M
+is-end-spec = tie.close (tie.spec enum-told enum-told-2 enum-told-3 returns returns-2 returns-3)

@@ -1,0 +1,12 @@
+-- `serve::page`: so many zeros. The level and the type are written out: without them the two lists are compared number by number.
+use mathlib.Core.Path.{sym}
+use Prim.Native.Nat.{ℕ}
+use lib.ListN.{length-replicate}
+use Rattle.serve.proofs.page.Statement.{statement}
+use Rattle.serve.proofs.page.Tie as tie
+
+returns : tie.Need-returns
+returns c = sym (length-replicate {0} {A = ℕ} 1114240 0)
+
+pub page-spec : {M : Type 1} → statement M
+page-spec = tie.close (tie.spec returns)
