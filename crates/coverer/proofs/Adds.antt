@@ -40,7 +40,7 @@ use Rattle.coverer.proofs.Stands.{raw-length, sets-aside, does-as, does
 
 pub domain : (q : Asked) (g : Region) → Asks q g → Domain (requestOf q)
 unfolding requestOf
-domain q g A = record { order = A .order; deep = A .deep; step = A .some }
+domain q g A = record { order = A .order; deep = A .deep }
 
 -- 4 ^ level_mod is at most 64
 pub narrow : (q : Asked) (g : Region) (w : Rule) → Ready q g w → w .full ≤ 64

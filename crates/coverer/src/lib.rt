@@ -20,26 +20,26 @@ use queue::Rule;
 use region::Region;
 
 // How far a run is: ids kept, records queued, leaves set aside, steps taken.
-pub struct Counts {
-    pub kept: usize,
-    pub queued: usize,
-    pub aside: u64,
-    pub steps: u32,
+struct Counts {
+    kept: usize,
+    queued: usize,
+    aside: u64,
+    steps: u32,
 }
 
 // What a part of the run comes to: refused with its number, or going on.
-pub enum Turn {
+enum Turn {
     Refused(u64),
     Going(Counts),
 }
 
 // The cells under a taken candidate: place j of the sets is the cell base + (2j + 1) unit.
-pub struct Brood {
-    pub base: u64,
-    pub unit: u64,
-    pub places: u64,
-    pub present: u64,
-    pub terminal: u64,
+struct Brood {
+    base: u64,
+    unit: u64,
+    places: u64,
+    present: u64,
+    terminal: u64,
 }
 
 // The engine's answer. The kept ids stand in the memory.

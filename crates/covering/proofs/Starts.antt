@@ -37,7 +37,7 @@ starts-fit c g s h inner =
 module _ (c : RegionCoverer) (g : Region) (memory : ℕ) (v : Valid c g memory) (inner : Bool) where
   pub run-domain : Domain (requestOf (askedOf c inner))
   unfolding requestOf
-  run-domain = record { order = v .order; deep = v .deep; step = v .«mod» .0 }
+  run-domain = record { order = v .order; deep = v .deep }
 
   pub raw-cells : (allowance : ℕ) (s : State) → ranOf inner c g allowance ≡ going s → All Cell (rawIds s)
   unfolding ranOf outcomeOf rawIds

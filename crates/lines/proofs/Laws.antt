@@ -16,10 +16,13 @@ use Rattle.lines.specs.declared.read.Fault.{Fault}
 use Rattle.lines.specs.declared.read.Place.{Place}
 use Rattle.lines.specs.declared.read.Read.{Read}
 use Rattle.lines.specs.declared.request.Kind.{Kind}
-use Rattle.lines.specs.declared.request.Request.{Request}
+use Rattle.lines.specs.declared.request.Numbers.{Numbers}
+use Rattle.lines.specs.declared.request.Shape.{Shape}
+use Rattle.lines.specs.declared.request.ShapeRead.{ShapeRead}
+use Rattle.lines.specs.declared.request.Options.{Options}
 use Rattle.lines.specs.declared.request.Parsed.{Parsed}
-use Rattle.lines.specs.Read.{faulty, readAs, numberAt, choiceAfter, startsWith, optionAt, isWord, placeAmong, chosen, choiceAt, endAfter, isPlain, allPlain}
-use Rattle.lines.specs.Request.{kindOf, regions, capAfter, cellAfter, shapeAfter, asked}
+use Rattle.lines.specs.Read.{faulty, readAs, numberAt, decimalAfter, hexAfter, optionAfter, choiceAfter, startOf, startsWith, optionAt, isWord, placeAmong, chosen, choiceAt, endAfter, isPlain, allPlain}
+use Rattle.lines.specs.Request.{kindAfter, kindOf, numbersAfter, regions, capAfter, cellAfter, shapeAfter, allowKey, outKey, memKey, optionsAfter, asked, requestOf}
 
 -- ---- the next field, there or not
 
@@ -104,13 +107,42 @@ module _ (l : List ℕ) (p : Place) (which : Read) (e : which ≡ choiceAfter re
   unfolding shapeAfter
   shape-cell h = rw (shapeAfter, ← e, ne-eqb _ _ h, ← e)
 
-pub asked-at : (p : Place) (r : Request) (end : ℕ) → p ≡ Place.At end → asked p r ≡ Parsed.Asked r
-unfolding asked
-asked-at p r end e = rw e
+module _ (l : List ℕ) (p : Place) where
+  pub numbers-read : (a b c d : Read) → a ≡ decimalAfter l p 0xffff_ffff_ffff_ffff → b ≡ decimalAfter l (a .after) 0xffff_ffff_ffff_ffff → c ≡ decimalAfter l (b .after) 0xffff_ffff_ffff_ffff → d ≡ decimalAfter l (c .after) 0xffff_ffff_ffff_ffff
+      → record { «min_level» = a .value; «max_level» = b .value; «level_mod» = c .value; «max_cells» = d .value; after = d .after } ≡ numbersAfter l p
+  unfolding numbersAfter
+  numbers-read a b c d ea eb ec ed = rw (ed, ec, eb, ea)
 
-pub asked-bad : (p : Place) (r : Request) (f : Fault) → p ≡ Place.Bad f → asked p r ≡ Parsed.Bad f
-unfolding asked
-asked-bad p r f e = rw e
+  pub cap-read : (x y z r : Read) → x ≡ hexAfter l p → y ≡ hexAfter l (x .after) → z ≡ hexAfter l (y .after) → r ≡ hexAfter l (z .after)
+      → record { shape = Shape.Cap (x .value) (y .value) (z .value) (r .value); after = r .after } ≡ capAfter l p
+  unfolding capAfter
+  cap-read x y z r ex ey ez er = rw (er, ez, ey, ex)
+
+  pub cell-read : (id : Read) → id ≡ hexAfter l p → record { shape = Shape.Cell (id .value); after = id .after } ≡ cellAfter l p
+  unfolding cellAfter
+  cell-read id e = rw e
+
+  pub options-read : (allow out mem : Read) → allow ≡ optionAfter allowKey 4294967295 4294967295 l p → out ≡ optionAfter outKey 65536 65536 l (allow .after)
+      → mem ≡ optionAfter memKey 4096 8192 l (out .after)
+      → record { allowance = allow .value; out = out .value; mem = mem .value; after = mem .after } ≡ optionsAfter l p
+  unfolding optionsAfter
+  options-read allow out mem ea eo em = rw (em, eo, ea)
+
+module _ (l : List ℕ) (start : Place) (kind : Read) (numbers : Numbers) (region : ShapeRead) (options : Options) (end : Place)
+    (s : start ≡ startOf l) (k : kind ≡ kindAfter l start) (n : numbers ≡ numbersAfter l (kind .after))
+    (g : region ≡ shapeAfter l (numbers .after)) (o : options ≡ optionsAfter l (region .after)) (e : end ≡ endAfter l (options .after)) where
+  parts-read : asked end (record { kind = kindOf (kind .value); numbers = numbers; shape = region .shape; options = options }) ≡ requestOf l
+  unfolding requestOf
+  parts-read = rw (e, o, g, n, k, s)
+
+  pub request-read : (what : Kind) (at : ℕ) → what ≡ kindOf (kind .value) → end ≡ Place.At at
+      → Parsed.Asked (record { kind = what; numbers = numbers; shape = region .shape; options = options }) ≡ requestOf l
+  unfolding asked
+  request-read what at w a = rw (w, ← parts-read, a)
+
+  pub request-bad : (f : Fault) → end ≡ Place.Bad f → Parsed.Bad f ≡ requestOf l
+  unfolding asked
+  request-bad f a = rw (← parts-read, a)
 
 pub kind-fast : (n : ℕ) → (n ≡ 0 → ⊥) → (n ≡ 1 → ⊥) → (n ≡ 2 → ⊥) → (n ≡ 3 → ⊥) → (n ≡ 4 → ⊥) → (n ≡ 5 → ⊥) → Kind.Fast ≡ kindOf n
 unfolding kindOf

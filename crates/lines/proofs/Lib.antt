@@ -1,4 +1,1 @@
-pub mod Feeding
-pub mod Laws
-pub mod Lengths
-pub mod Writing
+mod Laws

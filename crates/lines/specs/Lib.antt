@@ -1,4 +1,2 @@
-pub mod Feed
 pub mod Read
 pub mod Request
-pub mod Write

@@ -11,6 +11,7 @@ use Rattle.lines.specs.declared.read.Fault.{Fault}
 use Rattle.lines.specs.declared.read.Place.{Place}
 use Rattle.lines.specs.declared.read.Read.{Read}
 
+-- a fault, and no number
 unfoldable pub faulty : Fault → Read
 faulty f = record { value = 0; after = Place.Bad f }
 
@@ -19,6 +20,7 @@ unfoldable pub from : Place → (ℕ → Read) → Read
 from (Place.At at) read = read at
 from (Place.Bad f) read = faulty f
 
+-- what a field's bytes spell, and the place after the field
 unfoldable pub readAs : Number → ℕ → Read
 readAs (Number.Value v) next = record { value = v; after = Place.At next }
 readAs Number.NotANumber next = faulty Fault.NotANumber
@@ -26,6 +28,7 @@ readAs Number.TooFewDigits next = faulty Fault.TooFewDigits
 readAs Number.TooManyDigits next = faulty Fault.TooManyDigits
 readAs Number.TooLarge next = faulty Fault.TooLarge
 
+-- a field that is not empty
 abbrev pub isThere : Field → Bool
 isThere f = ltb (f .start) (f .end)
 
@@ -60,7 +63,7 @@ optionAt key default limit l at = elim (isThere (fieldAt l at) && startsWith key
 unfoldable pub optionAfter : List ℕ → ℕ → ℕ → List ℕ → Place → Read
 optionAfter key default limit l p = from p (optionAt key default limit l)
 
--- the field of a line from a place on is a word
+-- the next field from a place on is the word w
 unfoldable pub isWord : List ℕ → ℕ → List ℕ → Bool
 isWord l at w = isThere (fieldAt l at) && (eqb (length (bytesOf l (fieldAt l at))) (length w) && startsWith w (bytesOf l (fieldAt l at)))
 
@@ -69,10 +72,11 @@ unfoldable pub placeAmong : ℕ → List ℕ → ℕ → List ℕ → ℕ
 placeAmong zero words at w = 0
 placeAmong (suc n) words at w = elim (isWord words at w) [ true ↦ 0 | false ↦ suc (placeAmong n words (fieldAt words at .end) w) ]
 
+-- the place of a word among so many, if it is one of them
 unfoldable pub chosen : ℕ → Fault → ℕ → ℕ → Read
 chosen count fault k next = elim (ltb k count) [ true ↦ record { value = k; after = Place.At next } | false ↦ faulty fault ]
 
--- which of some words the next field is
+-- which of some words the next field is; a fault where it is none of them
 unfoldable pub choiceAt : List ℕ → ℕ → Fault → List ℕ → ℕ → Read
 choiceAt words count fault l at = elim (isThere (fieldAt l at)) [
   | true ↦ chosen count fault (placeAmong count words 0 (bytesOf l (fieldAt l at))) (fieldAt l at .end)
@@ -82,7 +86,7 @@ choiceAt words count fault l at = elim (isThere (fieldAt l at)) [
 unfoldable pub choiceAfter : List ℕ → ℕ → Fault → List ℕ → Place → Read
 choiceAfter words count fault l p = from p (choiceAt words count fault l)
 
--- a place, if no field stands after it
+-- a place, if no further field stands after it
 unfoldable pub endAfter : List ℕ → Place → Place
 endAfter l (Place.At at) = elim (isThere (fieldAt l at)) [ true ↦ Place.Bad Fault.ExtraField | false ↦ Place.At at ]
 endAfter l (Place.Bad f) = Place.Bad f
@@ -95,9 +99,10 @@ unfoldable pub allPlain : List ℕ → Bool
 allPlain [] = true
 allPlain (b ∷ l) = isPlain b && allPlain l
 
--- a line that asks nothing: it has no field, or begins with # (35)
+-- a line that asks nothing: all its bytes are plain, and it has no field or begins with # (35)
 unfoldable pub isSilent : List ℕ → Bool
 isSilent l = allPlain l && elim (isThere (fieldAt l 0)) [ true ↦ eqb (getD l 0 0) 35 | false ↦ true ]
 
+-- the line's beginning, if all its bytes are plain
 unfoldable pub startOf : List ℕ → Place
 startOf l = elim (allPlain l) [ true ↦ Place.At 0 | false ↦ Place.Bad Fault.BadByte ]

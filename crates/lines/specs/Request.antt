@@ -4,6 +4,7 @@ use mathlib.Core.List.{List, [], _∷_}
 use Prim.Native.Nat.{ℕ}
 use lib.Dec.{eqb}
 use lib.ListN.{getD}
+use Rattle.text.specs.Ascii.{ascii}
 use Rattle.lines.specs.declared.read.Fault.{Fault}
 use Rattle.lines.specs.declared.read.Place.{Place}
 use Rattle.lines.specs.declared.read.Read.{Read}
@@ -16,9 +17,12 @@ use Rattle.lines.specs.declared.request.Request.{Request}
 use Rattle.lines.specs.declared.request.Parsed.{Parsed}
 use Rattle.lines.specs.Read.{decimalAfter, hexAfter, optionAfter, choiceAfter, endAfter, isSilent, startOf}
 
--- covering cellunion raw interior icellunion iraw fast
 abbrev pub kinds : List ℕ
-kinds = 99 ∷ 111 ∷ 118 ∷ 101 ∷ 114 ∷ 105 ∷ 110 ∷ 103 ∷ 32 ∷ 99 ∷ 101 ∷ 108 ∷ 108 ∷ 117 ∷ 110 ∷ 105 ∷ 111 ∷ 110 ∷ 32 ∷ 114 ∷ 97 ∷ 119 ∷ 32 ∷ 105 ∷ 110 ∷ 116 ∷ 101 ∷ 114 ∷ 105 ∷ 111 ∷ 114 ∷ 32 ∷ 105 ∷ 99 ∷ 101 ∷ 108 ∷ 108 ∷ 117 ∷ 110 ∷ 105 ∷ 111 ∷ 110 ∷ 32 ∷ 105 ∷ 114 ∷ 97 ∷ 119 ∷ 32 ∷ 102 ∷ 97 ∷ 115 ∷ 116 ∷ []
+kinds = ascii "covering cellunion raw interior icellunion iraw fast"
+
+-- which of these words the next field is
+unfoldable pub kindAfter : List ℕ → Place → Read
+kindAfter l p = choiceAfter kinds 7 Fault.UnknownKind l p
 
 unfoldable pub kindOf : ℕ → Kind
 kindOf n = getD (Kind.Covering ∷ Kind.CellUnion ∷ Kind.Raw ∷ Kind.Interior ∷ Kind.InteriorCellUnion ∷ Kind.InteriorRaw ∷ []) n Kind.Fast
@@ -48,28 +52,24 @@ capAfter l p =
 unfoldable pub cellAfter : List ℕ → Place → ShapeRead
 cellAfter l p = record { shape = Shape.Cell (hexAfter l p .value); after = hexAfter l p .after }
 
--- cap cell
 abbrev pub regions : List ℕ
-regions = 99 ∷ 97 ∷ 112 ∷ 32 ∷ 99 ∷ 101 ∷ 108 ∷ 108 ∷ []
+regions = ascii "cap cell"
 
 unfoldable pub shapeAfter : List ℕ → Place → ShapeRead
 shapeAfter l p =
     let which = choiceAfter regions 2 Fault.UnknownRegion l p in
     elim (eqb (which .value) 0) [ true ↦ capAfter l (which .after) | false ↦ cellAfter l (which .after) ]
 
--- allow=
 abbrev pub allowKey : List ℕ
-allowKey = 97 ∷ 108 ∷ 108 ∷ 111 ∷ 119 ∷ 61 ∷ []
+allowKey = ascii "allow="
 
--- out=
 abbrev pub outKey : List ℕ
-outKey = 111 ∷ 117 ∷ 116 ∷ 61 ∷ []
+outKey = ascii "out="
 
--- mem=
 abbrev pub memKey : List ℕ
-memKey = 109 ∷ 101 ∷ 109 ∷ 61 ∷ []
+memKey = ascii "mem="
 
--- the allowance (a u32; all of it), the places of output (65,536), the words of working memory (4,096, at most 8,192)
+-- each with what it is where it is left out, and the most that it may be: the allowance, the places of output, the words of working memory
 unfoldable pub optionsAfter : List ℕ → Place → Options
 optionsAfter l p =
     let allow = optionAfter allowKey 4294967295 4294967295 l p in
@@ -85,11 +85,12 @@ asked (Place.Bad f) r = Parsed.Bad f
 -- one part after another
 unfoldable pub requestOf : List ℕ → Parsed
 requestOf l =
-    let kind = choiceAfter kinds 7 Fault.UnknownKind l (startOf l) in
+    let kind = kindAfter l (startOf l) in
     let numbers = numbersAfter l (kind .after) in
     let region = shapeAfter l (numbers .after) in
     let options = optionsAfter l (region .after) in
     asked (endAfter l (options .after)) (record { kind = kindOf (kind .value); numbers = numbers; shape = region .shape; options = options })
 
+-- what a line is to `cover`
 unfoldable pub parsedOf : List ℕ → Parsed
 parsedOf l = elim (isSilent l) [ true ↦ Parsed.Nothing | false ↦ requestOf l ]

@@ -1,13 +1,8 @@
-// Requests, questions and answers as lines of text. A line is fields parted by blanks.
+// Requests and questions as lines of text. A line is fields parted by blanks.
 // What is wrong with a line is told by one word, the first fault from the left, and nothing of such a line is acted on.
-mod feed;
 mod read;
 mod request;
-mod write;
 
-pub use feed::Feed;
-pub use feed::Found;
-pub use feed::next_line;
 pub use read::Fault;
 pub use read::Place;
 pub use read::Read;
@@ -16,7 +11,6 @@ pub use read::read_choice;
 pub use read::read_decimal;
 pub use read::read_end;
 pub use read::read_hex;
-pub use read::read_option;
 pub use read::read_start;
 pub use request::Kind;
 pub use request::Numbers;
@@ -28,10 +22,3 @@ pub use request::ShapeRead;
 pub use request::read_numbers;
 pub use request::read_request;
 pub use request::read_shape;
-pub use write::put;
-pub use write::put_decimal;
-pub use write::put_error;
-pub use write::put_hex;
-pub use write::put_ids;
-pub use write::put_ok;
-pub use write::put_refused;

@@ -226,10 +226,11 @@ fn all_plain(line: &[u8]) -> bool
 {
     let mut i = 0;
     while i < line.len() {
-        if line[i] == 0 {
+        let b = line[i];
+        if b == 0 {
             return false;
         }
-        if line[i] > 127 {
+        if b > 127 {
             return false;
         }
         i += 1;

@@ -1,8 +1,9 @@
 // A request of `cover`: `KIND MIN MAX MOD MAX_CELLS REGION [allow=N] [out=N] [mem=N]`.
 ghost use mathlib.Core.Path.{_≡_};
-ghost use Rattle.lines.specs.Request.{kindOf, numbersAfter, capAfter, cellAfter, shapeAfter, optionsAfter, requestOf, parsedOf};
+ghost use Rattle.lines.specs.Request.{kindOf, kindAfter, numbersAfter, capAfter, cellAfter, shapeAfter, optionsAfter, requestOf, parsedOf};
 use crate::read::Fault;
 use crate::read::Place;
+use crate::read::Read;
 use crate::read::is_silent;
 use crate::read::read_choice;
 use crate::read::read_decimal;
@@ -155,18 +156,25 @@ fn read_options(line: &[u8], p: Place) -> Options
     }
 }
 
+// The word for what is asked.
+fn read_kind(line: &[u8], p: Place) -> Read
+    ensures { λ r. ⌜ r ≡ kindAfter (now (line .entry)) p ⌝ }
+{
+    read_choice(
+        line,
+        p,
+        b"covering cellunion raw interior icellunion iraw fast",
+        7,
+        Fault::UnknownKind,
+    )
+}
+
 // The request that the fields of a line are.
 fn read_fields(line: &[u8]) -> Parsed
     ensures { λ r. ⌜ r ≡ requestOf (now (line .entry)) ⌝ }
 {
     let start = read_start(line);
-    let kind = read_choice(
-        line,
-        start,
-        b"covering cellunion raw interior icellunion iraw fast",
-        7,
-        Fault::UnknownKind,
-    );
+    let kind = read_kind(line, start);
     let pk = kind.after;
     let numbers = read_numbers(line, pk);
     let pn = numbers.after;

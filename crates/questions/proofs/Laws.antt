@@ -12,7 +12,7 @@ use Rattle.cell.specs.Cell.{cellOf}
 use Rattle.cell.proofs.Laws.{cell-face}
 use Rattle.lines.specs.declared.read.Read.{Read}
 use Rattle.lines.specs.Read.{isSilent}
-use Rattle.lines.specs.Write.{stopAt, written, Wrote}
+use Rattle.replies.specs.Write.{stopAt, written, Wrote}
 use Rattle.lists.specs.declared.Question as Lists
 use Rattle.lists.specs.Lists.{saidAfter, listedOf, outputOf}
 use Rattle.lists.proofs.Laws.{valid-one}

@@ -6,6 +6,7 @@ use Prim.Native.Nat.{ℕ, _-_}
 use lib.Dec.{ltb}
 use lib.Ieee.{Float, binary64, toBits, le}
 use lib.ListN.{getD, take}
+use Rattle.text.specs.Ascii.{ascii}
 use Rattle.root.specs.Root.{root}
 use Rattle.cellid.specs.declared.Common.{Common}
 use Rattle.cellid.specs.CellId.{validId, commonLevel}
@@ -25,7 +26,7 @@ use Rattle.lines.specs.declared.read.Fault.{Fault}
 use Rattle.lines.specs.declared.read.Place.{Place}
 use Rattle.lines.specs.declared.read.Read.{Read}
 use Rattle.lines.specs.Read.{hexAfter, choiceAfter, endAfter, isSilent, startOf}
-use Rattle.lines.specs.Write.{decimalText, hexText, space, newline, idsText, errorText}
+use Rattle.replies.specs.Write.{decimalText, hexText, space, newline, idsText, errorText}
 use Rattle.fields.specs.Fields.{float, pointOf, capOf}
 use Rattle.lists.specs.declared.Question as Lists
 use Rattle.lists.specs.declared.Listed.{Listed}
@@ -131,9 +132,8 @@ hexesAfter n l p =
     let e = moreAfter (ltb 4 n) l (d .after) in
     record { a = a .value; b = b .value; c = c .value; d = d .value; e = e .value; after = e .after }
 
--- valid is_unit cellid_from_point sqrt st_to_uv uv_to_st level common_ancestor_level face_ij_orientation vertices edges cell_cap_bound cell_contains_point cap_contains_cell cap_intersects_cell vertex_neighbors bound starts normalize denormalize normalize_covering
 abbrev pub words : List ℕ
-words = 118 ∷ 97 ∷ 108 ∷ 105 ∷ 100 ∷ 32 ∷ 105 ∷ 115 ∷ 95 ∷ 117 ∷ 110 ∷ 105 ∷ 116 ∷ 32 ∷ 99 ∷ 101 ∷ 108 ∷ 108 ∷ 105 ∷ 100 ∷ 95 ∷ 102 ∷ 114 ∷ 111 ∷ 109 ∷ 95 ∷ 112 ∷ 111 ∷ 105 ∷ 110 ∷ 116 ∷ 32 ∷ 115 ∷ 113 ∷ 114 ∷ 116 ∷ 32 ∷ 115 ∷ 116 ∷ 95 ∷ 116 ∷ 111 ∷ 95 ∷ 117 ∷ 118 ∷ 32 ∷ 117 ∷ 118 ∷ 95 ∷ 116 ∷ 111 ∷ 95 ∷ 115 ∷ 116 ∷ 32 ∷ 108 ∷ 101 ∷ 118 ∷ 101 ∷ 108 ∷ 32 ∷ 99 ∷ 111 ∷ 109 ∷ 109 ∷ 111 ∷ 110 ∷ 95 ∷ 97 ∷ 110 ∷ 99 ∷ 101 ∷ 115 ∷ 116 ∷ 111 ∷ 114 ∷ 95 ∷ 108 ∷ 101 ∷ 118 ∷ 101 ∷ 108 ∷ 32 ∷ 102 ∷ 97 ∷ 99 ∷ 101 ∷ 95 ∷ 105 ∷ 106 ∷ 95 ∷ 111 ∷ 114 ∷ 105 ∷ 101 ∷ 110 ∷ 116 ∷ 97 ∷ 116 ∷ 105 ∷ 111 ∷ 110 ∷ 32 ∷ 118 ∷ 101 ∷ 114 ∷ 116 ∷ 105 ∷ 99 ∷ 101 ∷ 115 ∷ 32 ∷ 101 ∷ 100 ∷ 103 ∷ 101 ∷ 115 ∷ 32 ∷ 99 ∷ 101 ∷ 108 ∷ 108 ∷ 95 ∷ 99 ∷ 97 ∷ 112 ∷ 95 ∷ 98 ∷ 111 ∷ 117 ∷ 110 ∷ 100 ∷ 32 ∷ 99 ∷ 101 ∷ 108 ∷ 108 ∷ 95 ∷ 99 ∷ 111 ∷ 110 ∷ 116 ∷ 97 ∷ 105 ∷ 110 ∷ 115 ∷ 95 ∷ 112 ∷ 111 ∷ 105 ∷ 110 ∷ 116 ∷ 32 ∷ 99 ∷ 97 ∷ 112 ∷ 95 ∷ 99 ∷ 111 ∷ 110 ∷ 116 ∷ 97 ∷ 105 ∷ 110 ∷ 115 ∷ 95 ∷ 99 ∷ 101 ∷ 108 ∷ 108 ∷ 32 ∷ 99 ∷ 97 ∷ 112 ∷ 95 ∷ 105 ∷ 110 ∷ 116 ∷ 101 ∷ 114 ∷ 115 ∷ 101 ∷ 99 ∷ 116 ∷ 115 ∷ 95 ∷ 99 ∷ 101 ∷ 108 ∷ 108 ∷ 32 ∷ 118 ∷ 101 ∷ 114 ∷ 116 ∷ 101 ∷ 120 ∷ 95 ∷ 110 ∷ 101 ∷ 105 ∷ 103 ∷ 104 ∷ 98 ∷ 111 ∷ 114 ∷ 115 ∷ 32 ∷ 98 ∷ 111 ∷ 117 ∷ 110 ∷ 100 ∷ 32 ∷ 115 ∷ 116 ∷ 97 ∷ 114 ∷ 116 ∷ 115 ∷ 32 ∷ 110 ∷ 111 ∷ 114 ∷ 109 ∷ 97 ∷ 108 ∷ 105 ∷ 122 ∷ 101 ∷ 32 ∷ 100 ∷ 101 ∷ 110 ∷ 111 ∷ 114 ∷ 109 ∷ 97 ∷ 108 ∷ 105 ∷ 122 ∷ 101 ∷ 32 ∷ 110 ∷ 111 ∷ 114 ∷ 109 ∷ 97 ∷ 108 ∷ 105 ∷ 122 ∷ 101 ∷ 95 ∷ 99 ∷ 111 ∷ 118 ∷ 101 ∷ 114 ∷ 105 ∷ 110 ∷ 103 ∷ []
+words = ascii "valid is_unit cellid_from_point sqrt st_to_uv uv_to_st level common_ancestor_level face_ij_orientation vertices edges cell_cap_bound cell_contains_point cap_contains_cell cap_intersects_cell vertex_neighbors bound starts normalize denormalize normalize_covering"
 
 -- which of them is a line's first word
 unfoldable pub askedOf : List ℕ → Read
@@ -193,8 +193,8 @@ pointText p = floatText (p .x) ++ (space ++ (floatText (p .y) ++ (space ++ float
 
 -- 1 or 0
 unfoldable pub truthText : Bool → List ℕ
-truthText true = 49 ∷ []
-truthText false = 48 ∷ []
+truthText true = ascii "1"
+truthText false = ascii "0"
 
 unfoldable pub gridText : FaceIj → List ℕ
 gridText g = decimalText (g .face) ++ (space ++ (decimalText (g .i) ++ (space ++ (decimalText (g .j) ++ (space ++ decimalText (g .orientation))))))
@@ -212,8 +212,7 @@ listText count ids = decimalText count ++ idsText (take count ids)
 unfoldable pub valueText : Value → List ℕ → List ℕ
 valueText (Value.Truth b) ids = truthText b
 valueText (Value.Number n) ids = decimalText n
--- -1
-valueText Value.NoLevel ids = 45 ∷ 49 ∷ []
+valueText Value.NoLevel ids = ascii "-1"
 valueText (Value.Hex x) ids = hexText x
 valueText (Value.Grid g) ids = gridText g
 valueText (Value.Points p q r s) ids = pointsText p q r s

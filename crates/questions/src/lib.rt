@@ -5,7 +5,7 @@ mod write;
 
 ghost use mathlib.Core.Path.{_≡_};
 ghost use Prim.Native.Nat.{_≤_};
-ghost use Rattle.lines.specs.Write.{Wrote};
+ghost use Rattle.replies.specs.Write.{Wrote};
 ghost use Rattle.questions.specs.Questions.{askedOf, questionOf, listOf, listReply, replyOf, outputAfter, replyText};
 use hexes::Question;
 use hexes::ask_hexes;

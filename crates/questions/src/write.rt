@@ -1,7 +1,7 @@
 // What a question comes to, and its text.
 ghost use mathlib.Core.List.{_++_};
 ghost use lib.ListN.{take};
-ghost use Rattle.lines.specs.Write.{Wrote, decimalText, space, idsText};
+ghost use Rattle.replies.specs.Write.{Wrote, decimalText, space, idsText};
 ghost use Rattle.questions.specs.Questions.{floatText, pointText, truthText, gridText, pointsText, capText, listText, valueText, replyText};
 use cell::Cap;
 use hilbert::FaceIj;
@@ -31,14 +31,14 @@ pub enum Reply {
 fn put_float(text: &mut [u8], at: usize, x: f64) -> usize
     ensures { λ r. ⌜ Wrote at (floatText x) (now (text .entry)) r (now (text .exit)) ⌝ }
 {
-    lines::put_hex(text, at, text::bits_of_float(x))
+    replies::put_hex(text, at, text::bits_of_float(x))
 }
 
 // Writes a space and a float.
 fn put_next_float(text: &mut [u8], at: usize, x: f64) -> usize
     ensures { λ r. ⌜ Wrote at (space ++ floatText x) (now (text .entry)) r (now (text .exit)) ⌝ }
 {
-    let n = lines::put(text, at, b" ");
+    let n = replies::put(text, at, b" ");
     put_float(text, n, x)
 }
 
@@ -54,7 +54,7 @@ fn put_point(text: &mut [u8], at: usize, p: Point) -> usize
 fn put_next_point(text: &mut [u8], at: usize, p: Point) -> usize
     ensures { λ r. ⌜ Wrote at (space ++ pointText p) (now (text .entry)) r (now (text .exit)) ⌝ }
 {
-    let n = lines::put(text, at, b" ");
+    let n = replies::put(text, at, b" ");
     put_point(text, n, p)
 }
 
@@ -62,23 +62,23 @@ fn put_truth(text: &mut [u8], b: bool) -> usize
     ensures { λ r. ⌜ Wrote 0 (truthText b) (now (text .entry)) r (now (text .exit)) ⌝ }
 {
     if b {
-        return lines::put(text, 0, b"1");
+        return replies::put(text, 0, b"1");
     }
-    lines::put(text, 0, b"0")
+    replies::put(text, 0, b"0")
 }
 
 // Writes a space and a number.
 fn put_next_decimal(text: &mut [u8], at: usize, x: u64) -> usize
     ensures { λ r. ⌜ Wrote at (space ++ decimalText x) (now (text .entry)) r (now (text .exit)) ⌝ }
 {
-    let n = lines::put(text, at, b" ");
-    lines::put_decimal(text, n, x)
+    let n = replies::put(text, at, b" ");
+    replies::put_decimal(text, n, x)
 }
 
 fn put_grid(text: &mut [u8], g: FaceIj) -> usize
     ensures { λ r. ⌜ Wrote 0 (gridText g) (now (text .entry)) r (now (text .exit)) ⌝ }
 {
-    let a = lines::put_decimal(text, 0, g.face);
+    let a = replies::put_decimal(text, 0, g.face);
     let b = put_next_decimal(text, a, g.i);
     let c = put_next_decimal(text, b, g.j);
     put_next_decimal(text, c, g.orientation)
@@ -105,15 +105,15 @@ fn put_first(text: &mut [u8], at: usize, ids: &[u64], count: usize) -> usize
     ensures { λ r. ⌜ Wrote at (idsText (take count (now (ids .entry)))) (now (text .entry)) r (now (text .exit)) ⌝ }
 {
     if count <= ids.len() {
-        return lines::put_ids(text, at, &ids[..count]);
+        return replies::put_ids(text, at, &ids[..count]);
     }
-    lines::put_ids(text, at, ids)
+    replies::put_ids(text, at, ids)
 }
 
 fn put_list(text: &mut [u8], ids: &[u64], count: usize) -> usize
     ensures { λ r. ⌜ Wrote 0 (listText count (now (ids .entry))) (now (text .entry)) r (now (text .exit)) ⌝ }
 {
-    let a = lines::put_decimal(text, 0, count as u64);
+    let a = replies::put_decimal(text, 0, count as u64);
     put_first(text, a, ids, count)
 }
 
@@ -122,9 +122,9 @@ fn put_value(text: &mut [u8], v: Value, ids: &[u64]) -> usize
 {
     match v {
         Value::Truth(b) => put_truth(text, b),
-        Value::Number(n) => lines::put_decimal(text, 0, n),
-        Value::NoLevel => lines::put(text, 0, b"-1"),
-        Value::Hex(x) => lines::put_hex(text, 0, x),
+        Value::Number(n) => replies::put_decimal(text, 0, n),
+        Value::NoLevel => replies::put(text, 0, b"-1"),
+        Value::Hex(x) => replies::put_hex(text, 0, x),
         Value::Grid(g) => put_grid(text, g),
         Value::Points(p, q, r, s) => put_points(text, p, q, r, s),
         Value::Bound(c) => put_bound(text, c),
@@ -139,9 +139,9 @@ pub fn put_reply(text: &mut [u8], number: u64, reply: Reply, ids: &[u64]) -> usi
     match reply {
         Reply::Told(v) => {
             let a = put_value(text, v, ids);
-            lines::put(text, a, b"\n")
+            replies::put(text, a, b"\n")
         }
         Reply::Silent => 0,
-        Reply::Bad(f) => lines::put_error(text, number, f),
+        Reply::Bad(f) => replies::put_error(text, number, f),
     }
 }

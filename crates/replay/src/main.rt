@@ -2,9 +2,9 @@
 // first that differs, in full.
 ghost use Prim.Native.Nat.{_≤_};
 ghost use lib.ListN.{length};
-ghost use Rattle.lines.specs.Feed.{Ready};
+ghost use Rattle.input.specs.Feed.{Ready};
+use input::Feed;
 use libc::STDOUT_FILENO;
-use lines::Feed;
 use serve::Program;
 
 // How many were compared, and how many of them differ.
@@ -134,7 +134,7 @@ fn run(
     let mut filled = 0;
     let mut number: u64 = 0;
     while number < u64::MAX {
-        let f = lines::next_line(fd, buf, next, filled);
+        let f = input::next_line(fd, buf, next, filled);
         let found = f.found;
         if serve::is_end(found) {
             return t;

@@ -8,7 +8,7 @@ use lib.ListN.{length, take, drop, length-append, length-take}
 use lib.Seq.{take-append-seam}
 use Rattle.covering.specs.declared.Answer.{Answer}
 use Rattle.covering.specs.Covering.{Result, refused, done, answerOf, valuesOf, outputAfter, Answered}
-use Rattle.lines.specs.Write.{Wrote, stopAt, written, okText, errorText}
+use Rattle.replies.specs.Write.{Wrote, stopAt, written, okText, errorText}
 use Rattle.lines.specs.declared.read.Fault.{Fault}
 use Rattle.lines.specs.declared.request.Parsed.{Parsed}
 use Rattle.lines.specs.declared.request.Request.{Request}

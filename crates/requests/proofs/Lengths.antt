@@ -16,7 +16,7 @@ use Rattle.run.specs.Run as Run
 use Rattle.covering.specs.declared.Ending.{Ending}
 use Rattle.covering.specs.Covering.{Result, refused, done, fitted, earlyOf, listOf, endedAs, ranOf, resultOf, fastResultOf}
 use Rattle.fields.specs.Fields.{covererOf, regionOf}
-use Rattle.lines.proofs.Lengths.{error-length, refused-length, ok-length}
+use Rattle.replies.proofs.Lengths.{error-length, refused-length, ok-length}
 use Rattle.lines.specs.declared.request.Kind.{Kind}
 use Rattle.lines.specs.declared.request.Parsed.{Parsed}
 use Rattle.requests.specs.Requests.{allowanceOf, resultFor, resultTo, resultIn, resultText, textOf}

@@ -14,7 +14,7 @@ use Rattle.fields.specs.Fields.{covererOf, regionOf}
 use Rattle.lines.specs.declared.request.Kind.{Kind}
 use Rattle.lines.specs.declared.request.Parsed.{Parsed}
 use Rattle.lines.specs.declared.request.Request.{Request}
-use Rattle.lines.specs.Write.{Wrote, refusedText, okText, errorText}
+use Rattle.replies.specs.Write.{Wrote, refusedText, okText, errorText}
 
 -- a u32: no run takes more steps than that allows
 unfoldable pub allowanceOf : ℕ → ℕ

@@ -4,7 +4,7 @@ ghost use lib.ListN.{length};
 ghost use Prim.Native.Nat.{_≤_, min};
 ghost use Rattle.covering.specs.Covering.{Answered, valuesOf};
 ghost use Rattle.lines.specs.Request.{parsedOf};
-ghost use Rattle.lines.specs.Write.{Wrote};
+ghost use Rattle.replies.specs.Write.{Wrote};
 ghost use Rattle.requests.specs.Requests.{allowanceOf, resultFor, resultTo, answerText, AnsweredIn, Replied};
 use covering::Answer;
 use fast::RegionCoverer;
@@ -81,9 +81,9 @@ fn put_answer(a: Answer, out: &[u64], text: &mut [u8]) -> usize
 {
     match a {
         Answer::Done(count, steps, aside) => {
-            lines::put_ok(text, steps as u64, aside, &out[..count])
+            replies::put_ok(text, steps as u64, aside, &out[..count])
         }
-        Answer::Refused(refusal) => lines::put_refused(text, refusal),
+        Answer::Refused(refusal) => replies::put_refused(text, refusal),
     }
 }
 
@@ -98,6 +98,6 @@ pub fn reply(line: &[u8], number: u64, mem: &mut [u64], out: &mut [u64], text: &
             put_answer(a, out, text)
         }
         Parsed::Nothing => 0,
-        Parsed::Bad(f) => lines::put_error(text, number, f),
+        Parsed::Bad(f) => replies::put_error(text, number, f),
     }
 }

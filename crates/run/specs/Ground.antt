@@ -13,7 +13,6 @@ use Rattle.run.specs.Run.{Request, Grown, State, going, after, sumOf}
 pub record Domain (q : Request) : Type 0 where
   pub order : q .minLevel ≤ q .maxLevel
   pub deep : q .maxLevel ≤ 30
-  pub step : 0 < q .levelMod
 
 -- a cell at a level of the run: at most max, and below min or in whole steps of level_mod from min
 pub record Fit (q : Request) (id : ℕ) : Type 0 where

@@ -8,11 +8,11 @@ use lib.Dec.{ltb}
 use lib.ListN.{length}
 use borrow.Author.Tests.{ltb-true}
 use Rattle.lines.specs.declared.read.Fault.{Fault}
-use Rattle.lines.specs.declared.feed.Found.{Found}
-use Rattle.lines.specs.declared.feed.Feed.{Feed}
+use Rattle.input.specs.declared.Found.{Found}
+use Rattle.input.specs.declared.Feed.{Feed}
 use Rattle.lines.specs.Request.{parsedOf}
-use Rattle.lines.specs.Write.{next, stopAt, written, Wrote, errorText}
-use Rattle.lines.proofs.Writing.{written-length}
+use Rattle.replies.specs.Write.{next, stopAt, written, Wrote, errorText}
+use Rattle.replies.proofs.Writing.{written-length}
 use Rattle.requests.specs.Requests as Requests
 use Rattle.questions.specs.Questions as Questions
 use Rattle.serve.specs.declared.Program.{Program}

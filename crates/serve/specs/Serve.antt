@@ -4,11 +4,11 @@ use mathlib.Core.Bool.{Bool, true, false}
 use mathlib.Core.List.{List, []}
 use Prim.Native.Nat.{ℕ}
 use Rattle.lines.specs.declared.read.Fault.{Fault}
-use Rattle.lines.specs.declared.feed.Found.{Found}
-use Rattle.lines.specs.declared.feed.Feed.{Feed}
-use Rattle.lines.specs.Feed.{between}
+use Rattle.input.specs.declared.Found.{Found}
+use Rattle.input.specs.declared.Feed.{Feed}
+use Rattle.input.specs.Feed.{between}
 use Rattle.lines.specs.Request.{parsedOf}
-use Rattle.lines.specs.Write.{Wrote, errorText}
+use Rattle.replies.specs.Write.{Wrote, errorText}
 use Rattle.requests.specs.Requests as Requests
 use Rattle.questions.specs.Questions as Questions
 use Rattle.serve.specs.declared.Program.{Program}

@@ -2,13 +2,13 @@
 // standard output.
 ghost use mathlib.Core.Path.{_≡_};
 ghost use lib.ListN.{length};
-ghost use Rattle.lines.specs.Feed.{Ready};
+ghost use Rattle.input.specs.Feed.{Ready};
 ghost use Rattle.serve.specs.Serve.{Served, Told, isEnd};
+use input::Feed;
+use input::Found;
 use libc::STDIN_FILENO;
 use libc::STDOUT_FILENO;
 use lines::Fault;
-use lines::Feed;
-use lines::Found;
 
 // `cover` answers requests, `probe` single questions.
 pub enum Program {
@@ -31,10 +31,10 @@ pub fn places() -> [u64; 65536]
 }
 
 // Room for the longest answer: 65,536 ids of 17 bytes each, and what stands before and after them.
-pub fn page() -> [u8; 1114240]
-    ensures { λ r. ⌜ 1114240 ≡ length r ⌝ }
+pub fn page() -> [u8; 1114368]
+    ensures { λ r. ⌜ 1114368 ≡ length r ⌝ }
 {
-    [0; 1114240]
+    [0; 1114368]
 }
 
 // The answer to a line of that number, from the first byte of the text on, and how long it is.
@@ -74,7 +74,7 @@ fn answer_found(
             let end = f.end;
             answer(program, &buf[start..end], number, mem, out, text)
         }
-        Found::TooLong => lines::put_error(text, number, Fault::LineTooLong),
+        Found::TooLong => replies::put_error(text, number, Fault::LineTooLong),
         Found::End => 0,
     }
 }
@@ -95,7 +95,7 @@ fn run_in(program: Program, buf: &mut [u8], mem: &mut [u64], out: &mut [u64], te
     let mut filled = 0;
     let mut number: u64 = 0;
     while number < u64::MAX {
-        let f = lines::next_line(STDIN_FILENO, buf, next, filled);
+        let f = input::next_line(STDIN_FILENO, buf, next, filled);
         let found = f.found;
         if is_end(found) {
             return;

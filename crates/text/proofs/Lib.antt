@@ -1,2 +1,2 @@
-pub mod Laws
-pub mod Floats
+mod Floats
+mod Laws

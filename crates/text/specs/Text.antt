@@ -17,6 +17,7 @@ digitOf b = elim (ltb b 48) [
   ]
 ]
 
+-- every byte is a digit of the base
 unfoldable pub allDigits : ℕ → List ℕ → Bool
 allDigits base [] = true
 allDigits base (b ∷ l) = ltb (digitOf b) base && allDigits base l
@@ -26,6 +27,7 @@ unfoldable pub valueFrom : ℕ → ℕ → List ℕ → ℕ
 valueFrom base n [] = n
 valueFrom base n (b ∷ l) = valueFrom base (n * base + digitOf b) l
 
+-- a number, if it is at most a limit
 unfoldable pub limited : ℕ → ℕ → Number
 limited limit n = elim (ltb limit n) [ true ↦ Number.TooLarge | false ↦ Number.Value n ]
 

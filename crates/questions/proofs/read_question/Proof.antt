@@ -1,4 +1,5 @@
 -- `questions::read_question`: the first field of the line, among the words.
+use Rattle.text.specs.Ascii.{ascii}
 use Rattle.questions.specs.Questions.{askedOf}
 use borrow.Author.Needs.{needs}
 use Rattle.questions.proofs.read_question.Statement.{statement}
@@ -14,7 +15,7 @@ read-choice-requires : tie.Need-read-choice-requires
 read-choice-requires c κs = search needs
 
 returns : tie.Need-returns
-unfolding askedOf
+unfolding askedOf ascii
 returns c = rw (← c .before .before .read-start .ensures) (c .read-choice .ensures)
 
 pub read-question-spec : {M : Type 1} → statement M

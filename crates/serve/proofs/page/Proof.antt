@@ -6,7 +6,7 @@ use Rattle.serve.proofs.page.Statement.{statement}
 use Rattle.serve.proofs.page.Tie as tie
 
 returns : tie.Need-returns
-returns c = sym (length-replicate {0} {A = ℕ} 1114240 0)
+returns c = sym (length-replicate {0} {A = ℕ} 1114368 0)
 
 pub page-spec : {M : Type 1} → statement M
 page-spec = tie.close (tie.spec returns)

@@ -17,17 +17,14 @@ abbrev μ-loop : tie.MeasureT-loop
 loop-holds : tie.Need-loop-holds Inv-loop μ-loop
 loop-holds c = (omega arith, refl)
 
-shared-slice-read-if1 : tie.Need-shared-slice-read-if1 Inv-loop μ-loop
-shared-slice-read-if1 c = omega arith
+shared-slice-read-b : tie.Need-shared-slice-read-b Inv-loop μ-loop
+shared-slice-read-b c = omega arith
 
 returns : tie.Need-returns Inv-loop μ-loop
 returns c = sym (c .before .before .before .loop .inv .1 ∙ plain-zero _ (c .before .before .before .loop .i) (omega arith) (c .if1 .taken))
 
-shared-slice-read-if2 : tie.Need-shared-slice-read-if2 Inv-loop μ-loop
-shared-slice-read-if2 c = omega arith
-
 returns-2 : tie.Need-returns-2 Inv-loop μ-loop
-returns-2 c = sym (c .before .before .before .before .before .loop .inv .1 ∙ plain-high _ (c .before .before .before .before .before .loop .i) (omega arith) (c .if2 .taken))
+returns-2 c = sym (c .before .before .before .before .loop .inv .1 ∙ plain-high _ (c .before .before .before .before .loop .i) (omega arith) (c .if2 .taken))
 
 add-i : tie.Need-add-i Inv-loop μ-loop
 add-i c = omega arith
@@ -36,7 +33,7 @@ loop-less : tie.Need-loop-less Inv-loop μ-loop
 loop-less c = omega arith
 
 loop-again : tie.Need-loop-again Inv-loop μ-loop
-loop-again c = (omega arith, c .before .before .before .before .before .loop .inv .1 ∙ plain-on _ (c .before .before .before .before .before .loop .i) (omega arith) (c .before .before .if1 .left) (c .if2 .left))
+loop-again c = (omega arith, c .before .before .before .before .loop .inv .1 ∙ plain-on _ (c .before .before .before .before .loop .i) (omega arith) (c .before .if1 .left) (c .if2 .left))
 
 returns-3 : tie.Need-returns-3 Inv-loop μ-loop
 returns-3 c = sym (c .before .loop .inv .1 ∙ plain-end _ (c .before .loop .i) (omega arith))
@@ -48,9 +45,8 @@ all-plain-spec =
     Inv-loop
     μ-loop
     loop-holds
-    shared-slice-read-if1
+    shared-slice-read-b
     returns
-    shared-slice-read-if2
     returns-2
     add-i
     loop-less

@@ -1,4 +1,4 @@
--- `lines::read::bad`.
+-- `lines::read::bad`: as it is defined.
 use mathlib.Core.Path.{refl}
 use Rattle.lines.specs.Read.{faulty}
 use Rattle.lines.proofs.read.bad.Statement.{statement}

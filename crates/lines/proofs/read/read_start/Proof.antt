@@ -1,4 +1,4 @@
--- `lines::read::read_start`.
+-- `lines::read::read_start`: all bytes are plain, or one is not.
 use Rattle.lines.specs.Read.{startOf}
 use borrow.Author.Needs.{needs}
 use Rattle.lines.proofs.read.read_start.Statement.{statement}

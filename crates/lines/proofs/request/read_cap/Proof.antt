@@ -1,5 +1,5 @@
 -- `lines::request::read_cap`: four floats, one after another.
-use Rattle.lines.specs.Request.{capAfter}
+use Rattle.lines.proofs.Laws.{cap-read}
 use borrow.Author.Needs.{needs}
 use Rattle.lines.proofs.request.read_cap.Statement.{statement}
 use Rattle.lines.proofs.request.read_cap.Tie as tie
@@ -17,8 +17,7 @@ read-hex-requires-4 : tie.Need-read-hex-requires-4
 read-hex-requires-4 c κs = search needs
 
 returns : tie.Need-returns
-unfolding capAfter
-returns c = cc
+returns c = cap-read _ _ _ _ _ _ (c .before .before .before .read-hex .ensures) (c .before .before .read-hex2 .ensures) (c .before .read-hex3 .ensures) (c .read-hex4 .ensures)
 
 pub read-cap-spec : {M : Type 1} → statement M
 read-cap-spec =

@@ -1,6 +1,5 @@
 -- `lines::request::read_fields`: one part after another, then the end or the first fault.
-use Rattle.lines.specs.Request.{kindOf, requestOf}
-use Rattle.lines.proofs.Laws.{asked-at, asked-bad}
+use Rattle.lines.proofs.Laws.{request-read, request-bad}
 use borrow.Author.Needs.{needs}
 use Rattle.lines.proofs.request.read_fields.Statement.{statement}
 use Rattle.lines.proofs.request.read_fields.Tie as tie
@@ -8,11 +7,8 @@ use Rattle.lines.proofs.request.read_fields.Tie as tie
 read-start-requires : tie.Need-read-start-requires
 read-start-requires c κs = search needs
 
-slice-aggregate-read-choice : tie.Need-slice-aggregate-read-choice
-slice-aggregate-read-choice c = search needs
-
-read-choice-requires : tie.Need-read-choice-requires
-read-choice-requires c κs = search needs
+read-kind-requires : tie.Need-read-kind-requires
+read-kind-requires c κs = search needs
 
 read-numbers-requires : tie.Need-read-numbers-requires
 read-numbers-requires c κs = search needs
@@ -36,20 +32,17 @@ enum-known-end : tie.Need-enum-known-end
 enum-known-end c = search needs
 
 returns : tie.Need-returns
-unfolding requestOf
-returns c = cc (asked-at _ (record { kind = c .kind-of .result; numbers = c .before .before .before .before .before .before .read-numbers .result; shape = c .before .before .before .before .before .read-shape .result .shape; options = c .before .before .before .before .read-options .result }) _ (c .before .enum-told .given .1))
+returns c = request-read _ _ _ _ _ _ _ (c .before .before .before .before .before .before .before .before .read-start .ensures) (c .before .before .before .before .before .before .before .read-kind .ensures) (c .before .before .before .before .before .before .read-numbers .ensures) (c .before .before .before .before .before .read-shape .ensures) (c .before .before .before .before .read-options .ensures) (c .before .before .before .read-end .ensures) _ _ (c .kind-of .ensures) (c .before .enum-told .given .1)
 
 returns-2 : tie.Need-returns-2
-unfolding requestOf
-returns-2 c = cc (asked-bad _ (record { kind = kindOf (c .before .before .before .before .before .before .before .read-choice .result .value); numbers = c .before .before .before .before .before .before .read-numbers .result; shape = c .before .before .before .before .before .read-shape .result .shape; options = c .before .before .before .before .read-options .result }) _ (c .before .end .given .1))
+returns-2 c = request-bad _ _ _ _ _ _ _ (c .before .before .before .before .before .before .before .before .read-start .ensures) (c .before .before .before .before .before .before .before .read-kind .ensures) (c .before .before .before .before .before .before .read-numbers .ensures) (c .before .before .before .before .before .read-shape .ensures) (c .before .before .before .before .read-options .ensures) (c .before .before .before .read-end .ensures) _ (c .before .end .given .1)
 
 pub read-fields-spec : {M : Type 1} → statement M
 read-fields-spec =
     tie.close
     (tie.spec
     read-start-requires
-    slice-aggregate-read-choice
-    read-choice-requires
+    read-kind-requires
     read-numbers-requires
     read-shape-requires
     read-options-requires

@@ -1,5 +1,5 @@
 -- `lines::request::read_numbers`: one number after another.
-use Rattle.lines.specs.Request.{numbersAfter}
+use Rattle.lines.proofs.Laws.{numbers-read}
 use borrow.Author.Needs.{needs}
 use Rattle.lines.proofs.request.read_numbers.Statement.{statement}
 use Rattle.lines.proofs.request.read_numbers.Tie as tie
@@ -17,8 +17,7 @@ read-decimal-requires-4 : tie.Need-read-decimal-requires-4
 read-decimal-requires-4 c κs = search needs
 
 returns : tie.Need-returns
-unfolding numbersAfter
-returns c = rw (c .read-decimal4 .ensures, c .before .read-decimal3 .ensures, c .before .before .read-decimal2 .ensures, c .before .before .before .read-decimal .ensures)
+returns c = numbers-read _ _ _ _ _ _ (c .before .before .before .read-decimal .ensures) (c .before .before .read-decimal2 .ensures) (c .before .read-decimal3 .ensures) (c .read-decimal4 .ensures)
 
 pub read-numbers-spec : {M : Type 1} → statement M
 read-numbers-spec =

@@ -1,5 +1,6 @@
 -- `lines::request::read_options`: one option after another.
-use Rattle.lines.specs.Request.{optionsAfter}
+use Rattle.text.specs.Ascii.{ascii}
+use Rattle.lines.proofs.Laws.{options-read}
 use borrow.Author.Needs.{needs}
 use Rattle.lines.proofs.request.read_options.Statement.{statement}
 use Rattle.lines.proofs.request.read_options.Tie as tie
@@ -23,8 +24,8 @@ read-option-requires-3 : tie.Need-read-option-requires-3
 read-option-requires-3 c κs = search needs
 
 returns : tie.Need-returns
-unfolding optionsAfter
-returns c = cc
+unfolding ascii
+returns c = options-read _ _ _ _ _ (c .before .before .before .before .read-option .ensures) (c .before .before .read-option2 .ensures) (c .read-option3 .ensures)
 
 pub read-options-spec : {M : Type 1} → statement M
 read-options-spec =

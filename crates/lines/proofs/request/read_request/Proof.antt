@@ -1,4 +1,4 @@
--- `lines::request::read_request`.
+-- `lines::request::read_request`: the line asks nothing, or its fields are read.
 use Rattle.lines.specs.Request.{parsedOf}
 use borrow.Author.Needs.{needs}
 use Rattle.lines.proofs.request.read_request.Statement.{statement}

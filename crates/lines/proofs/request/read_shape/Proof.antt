@@ -1,4 +1,5 @@
 -- `lines::request::read_shape`: a cap or a cell.
+use Rattle.text.specs.Ascii.{ascii}
 use Rattle.lines.proofs.Laws.{shape-cap, shape-cell}
 use borrow.Author.Needs.{needs}
 use Rattle.lines.proofs.request.read_shape.Statement.{statement}
@@ -14,12 +15,14 @@ read-cap-requires : tie.Need-read-cap-requires
 read-cap-requires c κs = search needs
 
 returns : tie.Need-returns
+unfolding ascii
 returns c = rw (c .read-cap .ensures) (shape-cap _ _ (c .before .before .before .read-choice .result) (c .before .before .before .read-choice .ensures) (c .before .if1 .taken))
 
 read-cell-requires : tie.Need-read-cell-requires
 read-cell-requires c κs = search needs
 
 returns-2 : tie.Need-returns-2
+unfolding ascii
 returns-2 c = rw (c .read-cell .ensures) (shape-cell _ _ (c .before .before .before .read-choice .result) (c .before .before .before .read-choice .ensures) (c .before .if1 .left))
 
 pub read-shape-spec : {M : Type 1} → statement M

@@ -1,6 +1,6 @@
 -- `questions::write::put_bound`: one part after another.
 use Rattle.questions.specs.Questions.{capText}
-use Rattle.lines.proofs.Writing.{wrote-then}
+use Rattle.replies.proofs.Writing.{wrote-then}
 use borrow.Author.Needs.{needs}
 use Rattle.questions.proofs.write.put_bound.Statement.{statement}
 use Rattle.questions.proofs.write.put_bound.Tie as tie

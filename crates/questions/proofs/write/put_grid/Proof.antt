@@ -1,6 +1,6 @@
 -- `questions::write::put_grid`: one part after another.
 use Rattle.questions.specs.Questions.{gridText}
-use Rattle.lines.proofs.Writing.{wrote-then}
+use Rattle.replies.proofs.Writing.{wrote-then}
 use borrow.Author.Needs.{needs}
 use Rattle.questions.proofs.write.put_grid.Statement.{statement}
 use Rattle.questions.proofs.write.put_grid.Tie as tie

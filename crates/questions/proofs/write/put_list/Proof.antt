@@ -1,6 +1,6 @@
 -- `questions::write::put_list`: one part after another.
 use Rattle.questions.specs.Questions.{listText}
-use Rattle.lines.proofs.Writing.{wrote-then}
+use Rattle.replies.proofs.Writing.{wrote-then}
 use borrow.Author.Needs.{needs}
 use Rattle.questions.proofs.write.put_list.Statement.{statement}
 use Rattle.questions.proofs.write.put_list.Tie as tie

@@ -1,5 +1,5 @@
 -- `questions::write::put_next_point`: one part after another.
-use Rattle.lines.proofs.Writing.{wrote-then}
+use Rattle.replies.proofs.Writing.{wrote-then}
 use borrow.Author.Needs.{needs}
 use Rattle.questions.proofs.write.put_next_point.Statement.{statement}
 use Rattle.questions.proofs.write.put_next_point.Tie as tie

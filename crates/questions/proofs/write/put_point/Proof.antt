@@ -1,6 +1,6 @@
 -- `questions::write::put_point`: one part after another.
 use Rattle.questions.specs.Questions.{pointText}
-use Rattle.lines.proofs.Writing.{wrote-then}
+use Rattle.replies.proofs.Writing.{wrote-then}
 use borrow.Author.Needs.{needs}
 use Rattle.questions.proofs.write.put_point.Statement.{statement}
 use Rattle.questions.proofs.write.put_point.Tie as tie

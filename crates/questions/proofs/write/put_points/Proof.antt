@@ -1,6 +1,6 @@
 -- `questions::write::put_points`: one part after another.
 use Rattle.questions.specs.Questions.{pointsText}
-use Rattle.lines.proofs.Writing.{wrote-then}
+use Rattle.replies.proofs.Writing.{wrote-then}
 use borrow.Author.Needs.{needs}
 use Rattle.questions.proofs.write.put_points.Statement.{statement}
 use Rattle.questions.proofs.write.put_points.Tie as tie

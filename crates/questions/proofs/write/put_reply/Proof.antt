@@ -1,6 +1,6 @@
 -- `questions::write::put_reply`: the text of the value and a newline, nothing, or the fault's text.
 use Rattle.questions.specs.Questions.{replyText}
-use Rattle.lines.proofs.Writing.{wrote-then}
+use Rattle.replies.proofs.Writing.{wrote-then}
 use Rattle.questions.proofs.Laws.{wrote-nothing}
 use borrow.Author.Needs.{needs}
 use Rattle.questions.proofs.write.put_reply.Statement.{statement}

@@ -1,4 +1,5 @@
 -- `questions::write::put_truth`: 1 or 0.
+use Rattle.text.specs.Ascii.{ascii}
 use Rattle.questions.specs.Questions.{truthText}
 use borrow.Author.Needs.{needs}
 use Rattle.questions.proofs.write.put_truth.Statement.{statement}
@@ -14,7 +15,7 @@ same-length : tie.Need-same-length
 same-length c = search needs
 
 returns : tie.Need-returns
-unfolding truthText
+unfolding truthText ascii
 returns c = rw (c .before .before .before .before .before .if1 .taken) (c .before .before .put .ensures)
 
 slice-aggregate-put-2 : tie.Need-slice-aggregate-put-2
@@ -27,7 +28,7 @@ same-length-2 : tie.Need-same-length-2
 same-length-2 c = search needs
 
 returns-2 : tie.Need-returns-2
-unfolding truthText
+unfolding truthText ascii
 returns-2 c = rw (c .before .before .before .before .before .if1 .left) (c .before .before .put2 .ensures)
 
 pub put-truth-spec : {M : Type 1} → statement M

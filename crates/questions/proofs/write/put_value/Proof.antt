@@ -1,4 +1,5 @@
 -- `questions::write::put_value`: each kind of value has its function.
+use Rattle.text.specs.Ascii.{ascii}
 use Rattle.questions.specs.Questions.{valueText}
 use borrow.Author.Needs.{needs}
 use Rattle.questions.proofs.write.put_value.Statement.{statement}
@@ -73,7 +74,7 @@ same-length-3 : tie.Need-same-length-3
 same-length-3 c = search needs
 
 returns-3 : tie.Need-returns-3
-unfolding valueText
+unfolding valueText ascii
 returns-3 c = rw (c .before .before .before .before .before .enum-told .given .1) (c .before .before .put .ensures)
 
 same-length-4 : tie.Need-same-length-4
