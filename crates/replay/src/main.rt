@@ -1,8 +1,11 @@
 // Stored questions with the Rust's answers, `QUESTION TAB ANSWER` a line: how many of each file were compared, how many differ, and the
 // first that differs, in full.
+ghost use mathlib.Core.Path.{_≡_};
 ghost use Prim.Native.Nat.{_≤_};
 ghost use lib.ListN.{length};
 ghost use Rattle.input.specs.Feed.{Ready};
+ghost use Rattle.replay.specs.Replay.{untilTab, isWanted, talliedOf, Compared};
+ghost use Rattle.serve.specs.Serve.{lineOf};
 use input::Feed;
 use libc::STDOUT_FILENO;
 use serve::Program;
@@ -15,7 +18,7 @@ struct Tally {
 
 // The place of the first tab, or the line's end.
 fn tab_at(line: &[u8]) -> usize
-    ensures { λ r. ⌜ r ≤ length (now (line .entry)) ⌝ }
+    ensures { λ r. ⌜ (r ≡ untilTab (now (line .entry))) × (r ≤ length (now (line .entry))) ⌝ }
 {
     let mut i = 0;
     while i < line.len() {
@@ -27,15 +30,14 @@ fn tab_at(line: &[u8]) -> usize
     i
 }
 
-// Whether the first n bytes of the text are the wanted ones and a newline.
-fn is_wanted(text: &[u8], n: usize, want: &[u8]) -> bool {
-    if n <= want.len() {
+// Whether the text is the wanted bytes and a newline.
+fn is_wanted(text: &[u8], want: &[u8]) -> bool
+    ensures { λ r. ⌜ r ≡ isWanted (now (text .entry)) (now (want .entry)) ⌝ }
+{
+    if text.len() <= want.len() {
         return false;
     }
-    if want.len() < n - 1 {
-        return false;
-    }
-    if text.len() < n {
+    if want.len() < text.len() - 1 {
         return false;
     }
     let mut i = 0;
@@ -45,22 +47,22 @@ fn is_wanted(text: &[u8], n: usize, want: &[u8]) -> bool {
         }
         i += 1;
     }
-    text[n - 1] == 10
+    text[i] == 10
 }
 
-fn show(question: &[u8], want: &[u8], text: &[u8], n: usize) {
+fn show(question: &[u8], want: &[u8], text: &[u8]) {
     io::write_all(STDOUT_FILENO, b"question ");
     io::write_all(STDOUT_FILENO, question);
     io::write_all(STDOUT_FILENO, b"\nstored   ");
     io::write_all(STDOUT_FILENO, want);
     io::write_all(STDOUT_FILENO, b"\ncomputed ");
-    if n <= text.len() {
-        io::write_all(STDOUT_FILENO, &text[..n]);
-    }
+    io::write_all(STDOUT_FILENO, text);
 }
 
 // One more, whose answer is as it was stored or not.
-fn tallied(t: Tally, same: bool) -> Tally {
+fn tallied(t: Tally, same: bool) -> Tally
+    ensures { λ r. ⌜ r ≡ talliedOf t same ⌝ }
+{
     if same {
         return Tally {
             compared: std::num::wrapping_add_u64(t.compared, 1),
@@ -73,6 +75,19 @@ fn tallied(t: Tally, same: bool) -> Tally {
     }
 }
 
+// The tally with an answer held against the stored one; the first that differs is shown.
+fn held(question: &[u8], want: &[u8], text: &[u8], t: Tally) -> Tally
+    ensures { λ r. ⌜ r ≡ talliedOf t (isWanted (now (text .entry)) (now (want .entry))) ⌝ }
+{
+    let same = is_wanted(text, want);
+    if !same {
+        if t.differ == 0 {
+            show(question, want, text);
+        }
+    }
+    tallied(t, same)
+}
+
 // Answers the question of a line and compares; a line without a tab is a remark.
 fn compare(
     program: Program,
@@ -82,7 +97,10 @@ fn compare(
     out: &mut [u64],
     text: &mut [u8],
     t: Tally,
-) -> Tally {
+) -> Tally
+    requires { ⌜ (length (now out) ≤ 65536) × (1114368 ≤ length (now text)) ⌝ }
+    ensures { λ r. ⌜ Compared program (now (line .entry)) number (now (mem .entry)) (now (mem .exit)) (now (out .entry)) (now (out .exit)) (now (text .entry)) (now (text .exit)) t r ⌝ }
+{
     let tab = tab_at(line);
     if line.len() <= tab {
         return t;
@@ -91,16 +109,10 @@ fn compare(
     let question = &line[..tab];
     let want = &line[from..];
     let n = serve::answer(program, question, number, mem, out, text);
-    let same = is_wanted(text, n, want);
-    if !same {
-        if t.differ == 0 {
-            show(question, want, text, n);
-        }
-    }
-    tallied(t, same)
+    held(question, want, &text[..n], t)
 }
 
-// The tally with the line that was found.
+// The tally with the line that was found, which is empty where it was too long.
 fn turn(
     program: Program,
     f: Feed,
@@ -111,7 +123,8 @@ fn turn(
     text: &mut [u8],
     t: Tally,
 ) -> Tally
-    requires { ⌜ Ready (length (now buf)) f ⌝ }
+    requires { ⌜ Ready (length (now buf)) f × (length (now out) ≤ 65536) × (1114368 ≤ length (now text)) ⌝ }
+    ensures { λ r. ⌜ Compared program (lineOf f (now (buf .entry))) number (now (mem .entry)) (now (mem .exit)) (now (out .entry)) (now (out .exit)) (now (text .entry)) (now (text .exit)) t r ⌝ }
 {
     let start = f.start;
     let end = f.end;
@@ -125,7 +138,9 @@ fn run(
     mem: &mut [u64],
     out: &mut [u64],
     text: &mut [u8],
-) -> Tally {
+) -> Tally
+    requires { ⌜ (length (now out) ≤ 65536) × (1114368 ≤ length (now text)) ⌝ }
+{
     let mut t = Tally {
         compared: 0,
         differ: 0,

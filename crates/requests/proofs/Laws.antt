@@ -1,5 +1,5 @@
 -- Laws of `specs/Requests.antt`: a request is answered within parts of the memory and of the output, and the answer's text is that of its result.
-use mathlib.Core.Path.{_≡_, refl, sym, ap, _∙_}
+use mathlib.Core.Path.{_≡_, refl, ap, _∙_}
 use mathlib.Core.List.{List, [], _∷_, _++_, append-assoc}
 use Prim.Native.Nat.{ℕ, zero, suc, min, _≤_}
 use native.Mathlib.Omega.{arith}

@@ -18,16 +18,7 @@ use Rattle.questions.specs.Questions as Questions
 use Rattle.serve.specs.declared.Program.{Program}
 use Rattle.serve.specs.Serve.{textOf, memoryOf, outputOf, Served, foundText, foundMemory, foundOutput, lineOf, Told}
 
-module _ (p : Program) (number : ℕ) (line mem out out' text : List ℕ) (r : ℕ) (text' : List ℕ) where
-  pub served-probe : p ≡ Program.Probe → Wrote 0 (Questions.replyText number (Questions.replyOf line out) out') text r text' × (out' ≡ Questions.outputAfter line out) → Served p number line mem mem out out' text r text'
-  unfolding textOf memoryOf outputOf
-  served-probe e w = rw e (record { wrote = rw (w .1) at (w .0); memory = refl; output = w .1 })
-
-  pub served-cover : (mem' : List ℕ) → p ≡ Program.Cover → Requests.Replied number (parsedOf line) mem mem' out out' text r text' → Served p number line mem mem' out out' text r text'
-  unfolding textOf memoryOf outputOf
-  served-cover mem' e w = rw e (record { wrote = w .wrote; memory = w .memory; output = w .output })
-
--- ---- what was found
+-- ---- the end of what is written lies in the text
 
 next-within : (at room : ℕ) → at ≤ room → next at room ≤ room
 unfolding next
@@ -42,6 +33,22 @@ unfolding stopAt
 stop-within at [] room h = h
 stop-within at (b ∷ s) room h = stop-within (next at room) s room (next-within at room h)
 
+pub wrote-within : (s text : List ℕ) (r : ℕ) (text' : List ℕ) → Wrote 0 s text r text' → r ≤ length text'
+wrote-within s text r text' w = rw (w .count, w .bytes, written-length) (stop-within 0 s (length text) (omega arith))
+
+-- ---- a line
+
+module _ (p : Program) (number : ℕ) (line mem out out' text : List ℕ) (r : ℕ) (text' : List ℕ) where
+  pub served-probe : p ≡ Program.Probe → Wrote 0 (Questions.replyText number (Questions.replyOf line out) out') text r text' × (out' ≡ Questions.outputAfter line out) → Served p number line mem mem out out' text r text'
+  unfolding textOf memoryOf outputOf
+  served-probe e w = rw e (record { wrote = rw (w .1) at (w .0); memory = refl; output = w .1 })
+
+  pub served-cover : (mem' : List ℕ) → p ≡ Program.Cover → Requests.Replied number (parsedOf line) mem mem' out out' text r text' → Served p number line mem mem' out out' text r text'
+  unfolding textOf memoryOf outputOf
+  served-cover mem' e w = rw e (record { wrote = w .wrote; memory = w .memory; output = w .output })
+
+-- ---- what was found
+
 module _ (p : Program) (number : ℕ) (f : Feed) (buf mem out text : List ℕ) where
   pub told-end : f .found ≡ Found.End → Told p number f buf mem mem out out text 0 text
   unfolding foundText foundMemory foundOutput stopAt written
@@ -55,7 +62,3 @@ module _ (p : Program) (number : ℕ) (f : Feed) (buf mem out text : List ℕ) w
     pub told-line : f .found ≡ Found.Line → Served p number (lineOf f buf) mem mem' out out' text r text' → Told p number f buf mem mem' out out' text r text'
     unfolding foundText foundMemory foundOutput
     told-line e S = record { wrote = rw e (S .wrote); memory = rw e (S .memory); output = rw e (S .output) }
-
-    -- the answer's end lies in the text
-    pub told-within : Told p number f buf mem mem' out out' text r text' → r ≤ length text'
-    told-within T = rw (T .wrote .count, T .wrote .bytes, written-length) (stop-within 0 _ (length text) (omega arith))

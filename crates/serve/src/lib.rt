@@ -2,6 +2,7 @@
 // standard output.
 ghost use mathlib.Core.Path.{_≡_};
 ghost use lib.ListN.{length};
+ghost use Rattle.cellunion.specs.Memory.{zeros};
 ghost use Rattle.input.specs.Feed.{Ready};
 ghost use Rattle.serve.specs.Serve.{Served, Told, isEnd};
 use input::Feed;
@@ -18,21 +19,21 @@ pub enum Program {
 
 // The words of working memory that a request may ask for.
 pub fn memory() -> [u64; 8192]
-    ensures { λ r. ⌜ 8192 ≡ length r ⌝ }
+    ensures { λ r. ⌜ (r ≡ zeros 8192) × (8192 ≡ length r) ⌝ }
 {
     [0; 8192]
 }
 
 // The places of output that a request may ask for.
 pub fn places() -> [u64; 65536]
-    ensures { λ r. ⌜ 65536 ≡ length r ⌝ }
+    ensures { λ r. ⌜ (r ≡ zeros 65536) × (65536 ≡ length r) ⌝ }
 {
     [0; 65536]
 }
 
 // Room for the longest answer: 65,536 ids of 17 bytes each, and what stands before and after them.
 pub fn page() -> [u8; 1114368]
-    ensures { λ r. ⌜ 1114368 ≡ length r ⌝ }
+    ensures { λ r. ⌜ (r ≡ zeros 1114368) × (1114368 ≡ length r) ⌝ }
 {
     [0; 1114368]
 }

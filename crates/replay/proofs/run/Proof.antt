@@ -1,4 +1,4 @@
--- `replay::run`: the unread bytes lie in the buffer, and the buffers keep their lengths.
+-- `replay::run`: the unread bytes lie in the buffer, and the slices keep their lengths.
 use mathlib.Core.Path.{_≡_}
 use Prim.Native.Nat.{_-_, _≤_}
 use lib.ListN.{length}
@@ -7,7 +7,8 @@ use Rattle.replay.proofs.run.Statement.{statement}
 use Rattle.replay.proofs.run.Tie as tie
 
 abbrev Inv-loop : tie.InvT-loop
-Inv-loop program fd buf₀ mem₀ out₀ text₀ t₀ next₀ filled₀ number₀ buf mem out text t next filled number = (length buf ≡ length buf₀) × (length mem ≡ length mem₀) × (length out ≡ length out₀) × (length text ≡ length text₀) × (next ≤ filled) × (filled ≤ length buf₀)
+Inv-loop program fd buf₀ mem₀ out₀ text₀ t₀ next₀ filled₀ number₀ buf mem out text t next filled number =
+    (length buf ≡ length buf₀) × (length mem ≡ length mem₀) × (length out ≡ length out₀) × (length text ≡ length text₀) × (next ≤ filled) × (filled ≤ length buf₀)
 
 abbrev μ-loop : tie.MeasureT-loop
 μ-loop program fd buf₀ mem₀ out₀ text₀ t₀ next₀ filled₀ number₀ buf mem out text t next filled number = 18446744073709551615 - number

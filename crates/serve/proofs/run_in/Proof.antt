@@ -3,7 +3,7 @@ use mathlib.Core.Path.{_≡_, sym}
 use Prim.Native.Nat.{_-_, _≤_}
 use lib.ListN.{length}
 use lib.Seq.{length-take-le}
-use Rattle.serve.proofs.Laws.{told-within}
+use Rattle.serve.proofs.Laws.{wrote-within}
 use borrow.Author.Needs.{needs}
 use Rattle.serve.proofs.run_in.Statement.{statement}
 use Rattle.serve.proofs.run_in.Tie as tie
@@ -45,10 +45,10 @@ answer-found-requires : tie.Need-answer-found-requires Inv-loop μ-loop
 answer-found-requires c κs = search needs
 
 slice-reshare-prefix-write-all : tie.Need-slice-reshare-prefix-write-all Inv-loop μ-loop
-slice-reshare-prefix-write-all c = told-within _ _ _ _ _ _ _ _ _ _ _ (c .before .before .before .before .before .before .answer-found .ensures)
+slice-reshare-prefix-write-all c = wrote-within _ _ _ _ (c .before .before .before .before .before .before .answer-found .ensures .wrote)
 
 slice-aggregate-write-all : tie.Need-slice-aggregate-write-all Inv-loop μ-loop
-slice-aggregate-write-all c = sym (length-take-le _ _ (told-within _ _ _ _ _ _ _ _ _ _ _ (c .before .before .before .before .before .before .before .answer-found .ensures)))
+slice-aggregate-write-all c = sym (length-take-le _ _ (wrote-within _ _ _ _ (c .before .before .before .before .before .before .before .answer-found .ensures .wrote)))
 
 write-all-requires : tie.Need-write-all-requires Inv-loop μ-loop
 write-all-requires c κs = search needs
