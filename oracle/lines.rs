@@ -1,18 +1,22 @@
 //! The oracle's line program: one question a line from standard input, one answer a line to standard output.
 //!
 //! It answers the lines of `cover` and of `probe`, with one or more blanks (spaces, tabs, carriage returns) between fields.
-//! Floats and ids are 16 hex digits, other numbers decimal; a truth is 1 or 0, a list `COUNT ID...`. Empty lines and lines
-//! that begin with # are passed over; `error LINE-NUMBER WORD` answers a line that is no question, or a question outside
-//! its function's domain.
+//! Floats and ids are 16 hex digits, other numbers decimal; a truth is 1 or 0, a list `COUNT ID...`. Lines of blanks alone
+//! and lines that begin with # are passed over; `error LINE-NUMBER WORD` answers a line that is no question, a question
+//! outside its function's domain, a line with a byte that is 0 or not ASCII, and one of more than 262,144 bytes. At the
+//! end of the input `end N` is written, N the number of answers: where it is missing, the output was cut.
 //!
-//!     KIND MIN MAX MOD MAX_CELLS REGION [allow=N] [out=N] [mem=N]
+//!     KIND MIN MAX MOD MAX_CELLS REGION [OPTION...]
 //!                            KIND covering, cellunion, raw, interior, icellunion, iraw or fast; REGION cap X Y Z R or cell ID;
+//!                            OPTION allow=N, out=N or mem=N, in any order, each at most once;
 //!                            answer ok STEPS ASIDE COUNT ID... or refused NUMBER
 //!     trace KIND ...         the candidates that the run takes, COUNT COST:ID...; hooked builds only
 //!     levels R COUNT         the level for each of COUNT floats from R upwards in their bits, as runs LEVEL:HOW-MANY...
+//!     normalize LIST, denormalize MIN MOD LIST, normalize_covering MIN MAX MOD MAX_CELLS LIST
+//!                            LIST COUNT ID..., at most 4,096 ids
 //!     valid, is_unit, cell_contains_point, cap_contains_cell, cap_intersects_cell, common_ancestor_level, level,
 //!     face_ij_orientation, cellid_from_point, vertices, edges, cell_cap_bound, sqrt, st_to_uv, uv_to_st, vertex_neighbors,
-//!     bound, normalize, denormalize, normalize_covering, starts
+//!     bound, starts
 //!
 //! The values are the Rust's. The paper's refusals 1 to 6 and 10 are decided here, around it; 7, 8 and 9 by the hooks.
 //! Domains: ids are valid; floats are finite (but for cover's regions and sqrt); a point is_unit (but for is_unit itself);
@@ -50,6 +54,11 @@ const MEMORY: u64 = 1 << 30;
 const SECONDS: u32 = 120;
 /// The most intersection tests of one run: beyond the longest run that the refusals allow, and small for the build without.
 const TESTS: u64 = if cfg!(hooked) { 100_000_000 } else { 300_000 };
+// The programs' limits: bytes of a line, ids on it, digits of a decimal number, words of memory.
+const LINE: usize = 262_144;
+const IDS: u64 = 4_096;
+const DIGITS: usize = 20;
+const WORDS: u64 = 8_192;
 const NAN: &str = "7ff8000000000000";
 
 unsafe extern "C" {
@@ -169,11 +178,11 @@ impl<'a> Fields<'a> {
     }
 
     fn ids(&mut self) -> Result<Vec<CellID>, Word> {
-        let mut ids = Vec::new();
-        while self.0.peek().is_some() {
-            ids.push(self.id()?);
+        let count = self.number()?;
+        if count > IDS {
+            return Err("large");
         }
-        Ok(ids)
+        (0..count).map(|_| self.id()).collect()
     }
 
     /// A region inside the domain, or None for one outside it.
@@ -203,7 +212,10 @@ fn decimal(word: &str) -> Result<u64, Word> {
     if word.is_empty() || !word.bytes().all(|b| b.is_ascii_digit()) {
         return Err("number");
     }
-    word.parse().map_err(|_| "digits")
+    if word.len() > DIGITS {
+        return Err("digits");
+    }
+    word.parse().map_err(|_| "large")
 }
 
 fn list(ids: &[CellID]) -> String {
@@ -335,7 +347,7 @@ fn cover(kind: Kind, fields: &mut Fields, trace: bool) -> Result<String, Word> {
         }
     }
     let (allowance, out, memory) = (allowance.unwrap_or(0xffffffff), out.unwrap_or(65_536), memory.unwrap_or(4_096));
-    if allowance > 0xffffffff || u128::from(out) > hooks::ROOM {
+    if allowance > 0xffffffff || u128::from(out) > hooks::ROOM || memory > WORDS {
         return Err("large");
     }
     let refused = |number: u8| Ok(format!("refused {number}"));
@@ -495,8 +507,7 @@ fn probe(question: &str, fields: &mut Fields) -> Result<String, Word> {
     })
 }
 
-fn question(line: &str) -> Result<String, Word> {
-    let fields: Vec<&str> = line.split([' ', '\t', '\r']).filter(|field| !field.is_empty()).collect();
+fn question(fields: Vec<&str>) -> Result<String, Word> {
     let mut fields = Fields(fields.into_iter().peekable());
     let mut word = fields.word()?;
     let trace = word == "trace";
@@ -512,16 +523,25 @@ fn question(line: &str) -> Result<String, Word> {
     Ok(answer)
 }
 
-fn answer(number: u64, line: &[u8]) -> String {
+/// The answer to a line; None for one that is passed over.
+fn answer(number: u64, line: &[u8]) -> Option<String> {
+    let error = |word: Word| Some(format!("error {number} {word}"));
+    if line.len() > LINE {
+        return error("long");
+    }
     let text = match std::str::from_utf8(line) {
-        Ok(text) if text.is_ascii() => text,
-        _ => return format!("error {number} bytes"),
+        Ok(text) if text.is_ascii() && !text.contains('\0') => text,
+        _ => return error("bytes"),
     };
-    match catch_unwind(AssertUnwindSafe(|| question(text))) {
-        Ok(Ok(answer)) => answer,
-        Ok(Err(word)) => format!("error {number} {word}"),
-        Err(cause) if cause.is::<Cut>() => String::from("cut"),
-        Err(_) => String::from("panic"),
+    let fields: Vec<&str> = text.split([' ', '\t', '\r']).filter(|field| !field.is_empty()).collect();
+    if fields.is_empty() || text.starts_with('#') {
+        return None;
+    }
+    match catch_unwind(AssertUnwindSafe(|| question(fields))) {
+        Ok(Ok(answer)) => Some(answer),
+        Ok(Err(word)) => error(word),
+        Err(cause) if cause.is::<Cut>() => Some(String::from("cut")),
+        Err(_) => Some(String::from("panic")),
     }
 }
 
@@ -536,22 +556,18 @@ fn main() {
     }));
     let mut input = std::io::stdin().lock();
     let mut output = std::io::stdout().lock();
-    let (mut number, mut line) = (0, Vec::new());
-    loop {
-        line.clear();
-        if input.read_until(b'\n', &mut line).expect("standard input") == 0 {
-            return;
-        }
+    let mut write = |answer: String| writeln!(output, "{answer}").and_then(|()| output.flush()).expect("standard output");
+    let (mut number, mut answered, mut line) = (0, 0, Vec::new());
+    while input.read_until(b'\n', &mut line).expect("standard input") > 0 {
         number += 1;
-        let text = line.strip_suffix(b"\n").unwrap_or(&line);
-        if text.is_empty() || text[0] == b'#' {
-            continue;
-        }
         unsafe { alarm(SECONDS) };
-        let answer = answer(number, text);
+        let answer = answer(number, line.strip_suffix(b"\n").unwrap_or(&line));
         unsafe { alarm(0) };
-        if writeln!(output, "{answer}").and_then(|()| output.flush()).is_err() {
-            return;
+        if let Some(answer) = answer {
+            write(answer);
+            answered += 1;
         }
+        line.clear();
     }
+    write(format!("end {answered}"));
 }

@@ -1,6 +1,6 @@
-"""Random and boundary questions over paper 01's whole domain, as lines of `cover` and `probe`.
+"""Random and boundary questions over paper 01's whole domain, as lines of `cover` and `probe`, and how a program is asked.
 
-Used by oracle/compare and oracle/lists. A Picker with the same seed gives the same questions. What stands here only chooses
+Used by the other scripts of this folder. A Picker with the same seed gives the same questions. What stands here only chooses
 questions; the little geometry that it has (corners of cells, distances) aims at boundaries and decides no answer.
 """
 
@@ -16,6 +16,7 @@ KINDS = ["covering"] * 4 + ["interior"] * 3 + ["raw"] * 2 + ["iraw"] * 2 + ["cel
 PROBES = """valid is_unit cell_contains_point cap_contains_cell cap_intersects_cell common_ancestor_level level
 face_ij_orientation cellid_from_point vertices edges cell_cap_bound sqrt st_to_uv uv_to_st vertex_neighbors bound normalize
 denormalize normalize_covering starts""".split()
+LISTS = {"normalize": 0, "denormalize": 2, "normalize_covering": 4}  # how many fields stand before the list's count
 # Paper 01's "Numbers to try" that are run and compared: request and answer.
 FULL, EMPTY = (f"cap 3ff0000000000000 0000000000000000 0000000000000000 {radius}" for radius in ("4010000000000000", "bff0000000000000"))
 FACES = " ".join(f"{face * 2 + 1:x}000000000000000" for face in range(6))
@@ -41,7 +42,9 @@ MALFORMED = [
     "covering 0 30 1 8 disc 1000000000000000", "covering 0 30 1 8 cap 3ff0000000000000 0000000000000000 0000000000000000",
     "covering 0 30 1 8 cell 1000000000000000 3000000000000000", "covering 0 30 1 8 cell 1000000000000000 allow=",
     "covering 0 30 1 8 cell 1000000000000000 allow=4294967296", "covering 0 30 1 8 cell 1000000000000000 room=3",
-    "covering", "fast 0 30 1 8 cell 1000000000000000 out=x",
+    "covering", "fast 0 30 1 8 cell 1000000000000000 out=x", "raw 0 30 1 8 cell 1000000000000000 mem=8193",
+    "raw 0 30 1 8 cell 1000000000000000 mem=4096 allow=1 mem=4096", "covering 0 30 1 8 allow=1 cell 1000000000000000",
+    "covering 0 30 1 8 cell 1000000000000000 allow=1 out=1 mem=4096 out=1", "iraw 0 30 1 8 cell 1000000000000000 out=1 out",
 ]
 
 POS_TO_IJ = [[0, 1, 3, 2], [0, 2, 3, 1], [3, 2, 0, 1], [3, 1, 0, 2]]
@@ -127,26 +130,41 @@ def child(id, k):
     return id - low + (2 * k + 1) * (low >> 2)
 
 
+def counted(ids):
+    """A list as it stands on a line."""
+    return " ".join([str(len(ids)), *(f"{id:016x}" for id in ids)])
+
+
 def ask(command, lines):
-    """The answers of a program to all lines, one each."""
+    """The answers of a program to all lines, one each. After them it has to write `end` and their number; where it doesn't, it was cut."""
     done = subprocess.run(command, input="".join(line + "\n" for line in lines), stdout=subprocess.PIPE, text=True, timeout=3600)
-    answers = done.stdout.splitlines()
-    if done.returncode != 0 or len(answers) != len(lines):
-        after = lines[len(answers)] if len(answers) < len(lines) else "the last line"
-        sys.exit(f"{' '.join(command)} ended with {done.returncode} after {len(answers)} of {len(lines)} answers, at: {after}")
-    return answers
+    written = done.stdout.split("\n")
+    if done.returncode != 0 or written[len(lines):] != [f"end {len(lines)}", ""]:
+        sys.exit(f"{' '.join(command)} was cut: {len(lines)} lines asked, {len(written) - 1} lines written, status {done.returncode}; it ends with "
+                 f"{done.stdout[-80:]!r}")
+    return written[:len(lines)]
 
 
 class Talker:
-    """A program that is asked a few lines at a time while it runs."""
+    """A program that is asked a few lines at a time while it runs. Closed, it has to write `end` and the number of all answers."""
 
     def __init__(self, command):
+        self.command, self.asked = command, 0
         self.process = subprocess.Popen(command, stdin=subprocess.PIPE, stdout=subprocess.PIPE, text=True)
 
     def __call__(self, lines):
         self.process.stdin.write("".join(line + "\n" for line in lines))
         self.process.stdin.flush()
-        return [self.process.stdout.readline().rstrip("\n") for _ in lines]
+        self.asked += len(lines)
+        answers = [self.process.stdout.readline() for _ in lines]
+        if not all(answer.endswith("\n") for answer in answers):
+            sys.exit(f"{' '.join(self.command)} was cut: {self.asked} lines asked, and it has stopped")
+        return [answer[:-1] for answer in answers]
+
+    def close(self):
+        rest, _ = self.process.communicate()
+        if self.process.returncode != 0 or rest != f"end {self.asked}\n":
+            sys.exit(f"{' '.join(self.command)} was cut: {self.asked} lines asked, status {self.process.returncode}; it ends with {rest[-80:]!r}")
 
 
 def settle(ask, makers, most=4.0):
@@ -177,6 +195,7 @@ def settle(ask, makers, most=4.0):
 class Picker:
     def __init__(self, seed):
         self.r = random.Random(seed)
+        self.side = random.Random(f"beside {seed}")  # for what oracle/lists doesn't ask, so that the stored questions stay
         self.thresholds = thresholds()
         self.flips = []  # (centre, radius, cell): a test's answer changes above this radius
 
@@ -553,15 +572,48 @@ class Picker:
         if name == "bound":
             return f"bound {self.region()[0]}"
         if name == "normalize":
-            return " ".join(["normalize", *(f"{id:016x}" for id in self.ids(r.choice([4, 10, 40, 120])))])
+            return f"normalize {counted(self.ids(r.choice([4, 10, 40, 120])))}"
         if name == "denormalize":
             found = self.apart(r.choice([3, 8, 20]))
             low = r.randint(0, 30) if not found else max(0, min(30, min(map(level_of, found)) + r.randint(-3, 4)))
-            return " ".join([name, str(low), str(r.randint(1, 3)), *(f"{id:016x}" for id in found)])
+            return f"{name} {low} {r.randint(1, 3)} {counted(found)}"
         if name == "normalize_covering":
             found = self.apart(6)[:6]
             natural = r.choice([level_of(id) for id in found] or [10])
             low, high, step, cells = self.numbers(natural)
-            return " ".join([name, *map(str, (min(low, natural + 3, high), high, step, r.choice([cells, 0, 1, 2, 3, 4]))), *(f"{id:016x}" for id in found)])
+            return f"{name} {min(low, natural + 3, high)} {high} {step} {r.choice([cells, 0, 1, 2, 3, 4])} {counted(found)}"
         region, natural = self.region()
         return " ".join(["starts", *map(str, self.numbers(natural)), region])
+
+    # what only oracle/compare asks
+
+    def turned(self, line):
+        """A request with its options in any order."""
+        fields, options = line.split(" "), []
+        while "=" in fields[-1]:
+            options.append(fields.pop())
+        self.side.shuffle(options)
+        return " ".join(fields + options)
+
+    def question(self):
+        """One `probe` line, now and then with a list that is about as long as it may be, or not as long as it says."""
+        line, r = self.probe(), self.side
+        name, *words = line.split(" ")
+        if name not in LISTS or r.random() < 0.9:
+            return line
+        if r.random() < 0.5:
+            count = int(words[LISTS[name]])
+            words[LISTS[name]] = str(r.choice([count + 1, max(0, count - 1), 0, 4096, 4097]))
+            return " ".join([name, *words])
+        # cells of one level in a row, with gaps
+        level, wanted = r.randint(7, 30), r.choice([1000, 4095, 4096, 4096, 4097])
+        place, found = r.randrange(4 << 2 * level), []
+        while len(found) < wanted:
+            place += 1 if r.random() < 0.9 else 2
+            found.append((2 * place + 1) << 2 * (30 - level))
+        if name == "normalize":
+            r.shuffle(found)
+            return f"{name} {counted(found)}"
+        if name == "denormalize":
+            return f"{name} {min(30, level + r.randint(-2, 2))} {words[1]} {counted(found)}"
+        return f"{name} {max(0, level - r.randint(0, 8))} {level} {words[2]} {r.choice([4, 100, 1000])} {counted(found)}"

@@ -1,7 +1,91 @@
-// Reads a request a line from standard input and writes an answer a line: `ok STEPS ASIDE COUNT ID...`, `refused NUMBER`, or
-// `error LINE-NUMBER WORD` for a line that is no request. What is read, answered and written is that of the crate `requests`.
-use serve::Program;
+// Reads a request a line from standard input and writes an answer a line: `ok STEPS ASIDE COUNT ID...`, `refused NUMBER`, or `error LINE-NUMBER WORD` for a
+// line that is no request. The last line of a whole output is `end N`, the number of lines answered. What a line asks and what is answered is the crate
+// `requests`.
+ghost use mathlib.Core.Path.{_≡_};
+ghost use Prim.Native.Nat.{_+_, _*_, _≤_};
+ghost use lib.ListN.{length};
+ghost use Rattle.input.specs.Feed.{Ready};
+ghost use Rattle.cover.specs.Cover.{Told};
+use input::Feed;
+use input::Found;
+use libc::STDIN_FILENO;
+use text::Fault;
+
+// The words of working memory that a request may ask for.
+fn memory() -> [u64; 8192]
+    ensures { λ r. ⌜ 8192 ≡ length r ⌝ }
+{
+    [0; 8192]
+}
+
+// The places of output that a request may ask for.
+fn places() -> [u64; 65536]
+    ensures { λ r. ⌜ 65536 ≡ length r ⌝ }
+{
+    [0; 65536]
+}
+
+// Room for the longest answer: 65,536 ids of 17 bytes each, and what stands before and after them.
+fn blank_page() -> [u8; 1114368]
+    ensures { λ r. ⌜ 1114368 ≡ length r ⌝ }
+{
+    [0; 1114368]
+}
+
+// The answer to what was found, whole, from the first byte of the page on, and how long it is.
+fn answer(
+    f: Feed,
+    number: u64,
+    answered: u64,
+    buf: &[u8],
+    mem: &mut [u64],
+    out: &mut [u64],
+    page: &mut [u8],
+) -> usize
+    requires { ⌜ Ready (length (now buf)) f × (17 * length (now out) + 256 ≤ length (now page)) ⌝ }
+    ensures { λ r. ⌜ Told f number answered (now (buf .entry)) (now (mem .entry)) (now (mem .exit)) (now (out .entry)) (now (out .exit)) (now (page .entry)) r (now (page .exit)) ⌝ }
+{
+    let found = f.found;
+    match found {
+        Found::Line => {
+            let start = f.start;
+            let end = f.end;
+            requests::answer(&buf[start..end], number, mem, out, page)
+        }
+        Found::TooLong => replies::put_error(page, number, Fault::LineTooLong),
+        Found::Failed => replies::put_error(page, number, Fault::ReadFailed),
+        Found::End => replies::put_end(page, answered),
+    }
+}
+
+// Line after line, numbered from 1 on, until the input ends or fails, or the output can't be written.
+fn run(buf: &mut [u8], mem: &mut [u64], out: &mut [u64], page: &mut [u8])
+    requires { ⌜ 17 * length (now out) + 256 ≤ length (now page) ⌝ }
+{
+    let mut next = 0;
+    let mut filled = 0;
+    let mut number: u64 = 0;
+    let mut answered: u64 = 0;
+    while number < u64::MAX {
+        let f = input::next_line(STDIN_FILENO, buf, next, filled);
+        number += 1;
+        let n = answer(f, number, answered, buf, mem, out, page);
+        let found = f.found;
+        if !input::tell(found, &page[..n]) {
+            return;
+        }
+        if 0 < n {
+            answered += 1;
+        }
+        next = f.next;
+        filled = f.filled;
+    }
+}
 
 fn main() {
-    serve::run(Program::Cover);
+    let mut buf = input::buffer();
+    let mut mem = memory();
+    let mut out = places();
+    let mut page = blank_page();
+    run(&mut buf, &mut mem, &mut out, &mut page);
 }

@@ -22,7 +22,7 @@ pub enum Answer {
     Refused(u64),
 }
 
-// Which list a request asks for; the contracts of the public functions name its cases.
+// Which list a request asks for: the raw one, in the order kept, the normalised one, or the final one.
 pub enum Ending {
     Raw,
     CellUnion,
@@ -30,7 +30,7 @@ pub enum Ending {
 }
 
 // The first of the refusals 1 to 6 that is to be given, or 0.
-fn first_refusal(c: RegionCoverer, g: Region, memory: usize) -> u64
+pub fn first_refusal(c: RegionCoverer, g: Region, memory: usize) -> u64
     ensures { λ r. ⌜ r ≡ earlyOf c g memory ⌝ }
 {
     if c.max_level > 30 {
@@ -129,8 +129,8 @@ fn finish(
     laid_answer(laid, steps, aside)
 }
 
-// Answers an outer or inner request.
-fn respond(
+// Answers an outer or inner request with the list that it asks for; the six functions below are its cases.
+pub fn respond(
     e: Ending,
     inner: bool,
     c: RegionCoverer,

@@ -1,14 +1,19 @@
-// Lines of an input of any size, one after another, out of one buffer. A line that the buffer can't hold is passed over to its end.
+// Lines of an input of any size, one after another, out of one buffer. A line that the buffer can't hold is passed over to its end, and a part of a line
+// that neither a newline nor the true end of the input closes is never answered.
 ghost use mathlib.Core.Path.{_≡_};
+ghost use mathlib.Core.Bool.{false, _&&_};
 ghost use Prim.Native.Nat.{_-_, _≤_, _<_};
 ghost use lib.ListN.{length, take};
-ghost use Rattle.input.specs.Feed.{NoNewline, between, lineEnd, movedDown, lineTo, lastLine, tooLong, Ready, Passed, NextLine};
+ghost use Rattle.input.specs.Feed.{between, lineEnd, lineTo, lastLine, tooLong, failure, isLast, Ready, NoLine, ReadOn, NextLine};
+use libc::STDERR_FILENO;
+use libc::STDOUT_FILENO;
 
-// What was found: a line, one that is too long for the buffer, or the input's end.
+// What was found: a line, one that is too long for the buffer, the input's end, or that the input can't be read.
 pub enum Found {
     Line,
     TooLong,
     End,
+    Failed,
 }
 
 // The line is buf[start..end]; what is read and not yet looked at is buf[next..filled].
@@ -20,26 +25,31 @@ pub struct Feed {
     pub found: Found,
 }
 
+// How many bytes of the buffer are filled after a read, and whether it failed.
+struct Filled {
+    filled: usize,
+    failed: bool,
+}
+
+// Room for a line of 262,144 bytes and its newline.
+pub fn buffer() -> [u8; 262145]
+    ensures { λ r. ⌜ 262145 ≡ length r ⌝ }
+{
+    [0; 262145]
+}
+
 // The place of the first newline from `from` on and before `to`, or `to`.
 fn line_end(buf: &[u8], from: usize, to: usize) -> usize
     requires { ⌜ (from ≤ to) × (to ≤ length (now buf)) ⌝ }
-    ensures { λ r. ⌜ r ≡ lineEnd from to (now (buf .entry)) ⌝ }
-    ensures { λ r. ⌜ (from ≤ r) × (r ≤ to) ⌝ }
+    ensures { λ r. ⌜ (r ≡ lineEnd from to (now (buf .entry))) × (from ≤ r) × (r ≤ to) ⌝ }
 {
-    let mut i = from;
-    while i < to {
-        if buf[i] == 10 {
-            return i;
-        }
-        i += 1;
-    }
-    i
+    from + text::find(&buf[from..to], 10)
 }
 
 // Moves buf[from..to] to the front.
 fn move_down(buf: &mut [u8], from: usize, to: usize)
     requires { ⌜ (from ≤ to) × (to ≤ length (now buf)) ⌝ }
-    ensures { λ _. ⌜ now (buf .exit) ≡ movedDown from (to - from) (now (buf .entry)) ⌝ }
+    ensures { λ _. ⌜ take (to - from) (now (buf .exit)) ≡ between from to (now (buf .entry)) ⌝ }
 {
     let n = to - from;
     let mut i = 0;
@@ -49,14 +59,16 @@ fn move_down(buf: &mut [u8], from: usize, to: usize)
     }
 }
 
-// Reads once into what is free behind the first `filled` bytes, and answers how many are filled then: as many as before at the input's end.
-fn fill(fd: i32, buf: &mut [u8], filled: usize) -> usize
+// Reads once into what is free behind the first `filled` bytes. At the input's end, and where the read fails, no more are filled than before.
+fn fill(fd: i32, buf: &mut [u8], filled: usize) -> Filled
     requires { ⌜ filled ≤ length (now buf) ⌝ }
-    ensures { λ r. ⌜ (filled ≤ r) × (r ≤ length (now (buf .entry))) ⌝ }
-    ensures { λ _. ⌜ take filled (now (buf .exit)) ≡ take filled (now (buf .entry)) ⌝ }
+    ensures { λ r. ⌜ (filled ≤ r .filled) × (r .filled ≤ length (now (buf .entry))) × (take filled (now (buf .exit)) ≡ take filled (now (buf .entry))) ⌝ }
 {
     let got = libc::read(fd, &mut buf[filled..]);
-    filled + io::count(got, &buf[filled..])
+    Filled {
+        filled: filled + io::count(got, &buf[filled..]),
+        failed: got < 0,
+    }
 }
 
 // The line up to a newline at `end`.
@@ -74,24 +86,16 @@ fn line_to(start: usize, end: usize, filled: usize) -> Feed
 }
 
 // What is left at the input's end is a line, if anything is left.
-fn last(filled: usize) -> Feed
+fn last_line(filled: usize) -> Feed
     ensures { λ r. ⌜ r ≡ lastLine filled ⌝ }
 {
-    if filled == 0 {
-        return Feed {
-            start: 0,
-            end: 0,
-            next: 0,
-            filled: 0,
-            found: Found::End,
-        };
-    }
+    let found = if filled == 0 { Found::End } else { Found::Line };
     Feed {
         start: 0,
         end: filled,
         next: filled,
         filled,
-        found: Found::Line,
+        found,
     }
 }
 
@@ -108,14 +112,29 @@ fn too_long(next: usize, filled: usize) -> Feed
     }
 }
 
+// A read that failed: of what was held nothing is answered.
+fn failure() -> Feed
+    ensures { λ r. ⌜ r ≡ failure ⌝ }
+{
+    Feed {
+        start: 0,
+        end: 0,
+        next: 0,
+        filled: 0,
+        found: Found::Failed,
+    }
+}
+
 // Reads on to the next newline, past a line too long for the buffer.
 fn skip_line(fd: i32, buf: &mut [u8]) -> Feed
-    ensures { λ r. ⌜ Ready (length (now (buf .entry))) r ⌝ }
-    ensures { λ r. ⌜ Passed (now (buf .exit)) r ⌝ }
+    ensures { λ r. ⌜ Ready (length (now (buf .entry))) r × NoLine (now (buf .exit)) r ⌝ }
 {
-    let mut turns = u64::MAX;
-    while 0 < turns {
-        let filled = fill(fd, buf, 0);
+    for _ in 0..u64::MAX {
+        let f = fill(fd, buf, 0);
+        if f.failed {
+            return failure();
+        }
+        let filled = f.filled;
         if filled == 0 {
             return too_long(0, 0);
         }
@@ -123,22 +142,24 @@ fn skip_line(fd: i32, buf: &mut [u8]) -> Feed
         if end < filled {
             return too_long(end + 1, filled);
         }
-        turns -= 1;
     }
     too_long(0, 0)
 }
 
 // The line that the first `held` bytes begin, none of them a newline: reads on until it is whole.
 fn read_on(fd: i32, buf: &mut [u8], held: usize) -> Feed
-    requires { ⌜ (held ≤ length (now buf)) × NoNewline (take held (now buf)) ⌝ }
-    ensures { λ r. ⌜ Ready (length (now (buf .entry))) r ⌝ }
-    ensures { λ r. ⌜ NextLine (now (buf .entry)) 0 held (now (buf .exit)) r ⌝ }
+    requires { ⌜ (held ≤ length (now buf)) × (held ≡ lineEnd 0 held (now buf)) ⌝ }
+    ensures { λ r. ⌜ Ready (length (now (buf .entry))) r × ReadOn (take held (now (buf .entry))) (now (buf .exit)) r ⌝ }
 {
     let mut filled = held;
     while filled < buf.len() {
-        let more = fill(fd, buf, filled);
+        let f = fill(fd, buf, filled);
+        if f.failed {
+            return failure();
+        }
+        let more = f.filled;
         if more == filled {
-            return last(filled);
+            return last_line(filled);
         }
         let end = line_end(buf, filled, more);
         if end < more {
@@ -152,8 +173,7 @@ fn read_on(fd: i32, buf: &mut [u8], held: usize) -> Feed
 // The next line: the unread bytes are buf[next..filled], and what follows them is read from the file. A last line needs no newline.
 pub fn next_line(fd: i32, buf: &mut [u8], next: usize, filled: usize) -> Feed
     requires { ⌜ (next ≤ filled) × (filled ≤ length (now buf)) ⌝ }
-    ensures { λ r. ⌜ Ready (length (now (buf .entry))) r ⌝ }
-    ensures { λ r. ⌜ NextLine (now (buf .entry)) next filled (now (buf .exit)) r ⌝ }
+    ensures { λ r. ⌜ Ready (length (now (buf .entry))) r × NextLine (now (buf .entry)) next filled (now (buf .exit)) r ⌝ }
 {
     let end = line_end(buf, next, filled);
     if end < filled {
@@ -161,4 +181,24 @@ pub fn next_line(fd: i32, buf: &mut [u8], next: usize, filled: usize) -> Feed
     }
     move_down(buf, next, filled);
     read_on(fd, buf, filled - next)
+}
+
+// Writes the answer to what was found to standard output, and tells whether there is more to read: not after the input's end, nor where the input can't be
+// read or the output can't be written. Those two are said on standard error.
+pub fn tell(found: Found, text: &[u8]) -> bool
+    ensures { λ r. ⌜ (r && isLast found) ≡ false ⌝ }
+{
+    if !io::write_all(STDOUT_FILENO, text) {
+        io::write_all(STDERR_FILENO, b"the output could not be written\n");
+        return false;
+    }
+    match found {
+        Found::Line => true,
+        Found::TooLong => true,
+        Found::End => false,
+        Found::Failed => {
+            io::write_all(STDERR_FILENO, b"the input could not be read\n");
+            false
+        }
+    }
 }

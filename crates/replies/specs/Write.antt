@@ -2,33 +2,27 @@
 use mathlib.Core.Path.{_≡_}
 use mathlib.Core.Bool.{true, false}
 use mathlib.Core.List.{List, [], _∷_, _++_}
-use Prim.Native.Nat.{ℕ, zero, suc, _+_, _/_, _%_}
+use Prim.Native.Nat.{ℕ, zero, suc, _+_, _-_, _/_, _%_, min}
 use lib.Dec.{ltb}
-use lib.ListN.{length, set}
+use lib.ListN.{length, drop}
+use lib.Seq.{sets}
 use Rattle.text.specs.Ascii.{ascii}
+use Rattle.text.specs.Text.{bytesOf, fieldNo}
+use Rattle.text.specs.declared.Fault.{Fault}
 use Rattle.io.specs.Digits.{digits, glyph}
-use Rattle.lines.specs.declared.read.Fault.{Fault}
 
--- ---- one byte after another from a place on, as long as there is room
+-- ---- writing
 
--- the place after a byte: one further, where there is room for it
-unfoldable pub next : ℕ → ℕ → ℕ
-next at room = elim (ltb at room) [ true ↦ at + 1 | false ↦ at ]
-
--- the place after so many bytes
-unfoldable pub stopAt : ℕ → List ℕ → ℕ → ℕ
-stopAt at [] room = at
-stopAt at (b ∷ s) room = stopAt (next at room) s room
-
--- the buffer with the bytes in it (`set` past its end changes nothing)
-unfoldable pub written : ℕ → List ℕ → List ℕ → List ℕ
-written at [] d = d
-written at (b ∷ s) d = written (next at (length d)) s (set d at b)
-
--- the bytes s are written into d from a place on, one after another as far as d reaches: the place after them is r, and the buffer is d'
+-- the bytes s are stored into d from a place on, one after another as far as d reaches (a store past its end changes nothing): the place after them is r,
+-- and the buffer is d'
 pub record Wrote (at : ℕ) (s d : List ℕ) (r : ℕ) (d' : List ℕ) : Type 0 where
-  pub count : r ≡ stopAt at s (length d)
-  pub bytes : d' ≡ written at s d
+  pub count : r ≡ at + min (length s) (length d - at)
+  pub bytes : d' ≡ sets d at s
+
+-- d' is s, and behind it d as it was
+pub record Whole (s d : List ℕ) (r : ℕ) (d' : List ℕ) : Type 0 where
+  pub count : r ≡ length s
+  pub bytes : d' ≡ s ++ drop (length s) d
 
 -- ---- numbers
 
@@ -61,19 +55,29 @@ idsText (id ∷ l) = idText id ++ idsText l
 
 -- ---- answers
 
--- the word for a fault
+-- the words for faults, in the order of the faults
+unfoldable pub faultWords : List ℕ
+faultWords =
+    ascii "unknown-kind unknown-region missing-field extra-field repeated-option not-a-number too-few-digits too-many-digits too-large bad-byte line-too-long outside-domain read-failed"
+
+-- the place of a fault's word, counted from 0
+abbrev pub placeOf : Fault → ℕ
+placeOf Fault.UnknownKind = 0
+placeOf Fault.UnknownRegion = 1
+placeOf Fault.MissingField = 2
+placeOf Fault.ExtraField = 3
+placeOf Fault.RepeatedOption = 4
+placeOf Fault.NotANumber = 5
+placeOf Fault.TooFewDigits = 6
+placeOf Fault.TooManyDigits = 7
+placeOf Fault.TooLarge = 8
+placeOf Fault.BadByte = 9
+placeOf Fault.LineTooLong = 10
+placeOf Fault.OutsideDomain = 11
+placeOf Fault.ReadFailed = 12
+
 unfoldable pub faultText : Fault → List ℕ
-faultText Fault.UnknownKind = ascii "unknown-kind"
-faultText Fault.UnknownRegion = ascii "unknown-region"
-faultText Fault.MissingField = ascii "missing-field"
-faultText Fault.ExtraField = ascii "extra-field"
-faultText Fault.NotANumber = ascii "not-a-number"
-faultText Fault.TooFewDigits = ascii "too-few-digits"
-faultText Fault.TooManyDigits = ascii "too-many-digits"
-faultText Fault.TooLarge = ascii "too-large"
-faultText Fault.BadByte = ascii "bad-byte"
-faultText Fault.LineTooLong = ascii "line-too-long"
-faultText Fault.OutsideDomain = ascii "outside-domain"
+faultText f = bytesOf faultWords (fieldNo (placeOf f) faultWords 0)
 
 -- error LINE-NUMBER WORD
 unfoldable pub errorText : ℕ → Fault → List ℕ
@@ -82,6 +86,10 @@ errorText line f = ascii "error " ++ (decimalText line ++ (space ++ (faultText f
 -- refused NUMBER
 unfoldable pub refusedText : ℕ → List ℕ
 refusedText number = ascii "refused " ++ (decimalText number ++ newline)
+
+-- end ANSWERED
+unfoldable pub endText : ℕ → List ℕ
+endText answered = ascii "end " ++ (decimalText answered ++ newline)
 
 -- ok STEPS ASIDE COUNT ID...
 unfoldable pub okText : ℕ → ℕ → List ℕ → List ℕ

@@ -1,7 +1,9 @@
 // Answers as bytes of a buffer: each function writes from a place on, as long as there is room, and answers the place after.
+ghost use mathlib.Core.Path.{_≡_};
 ghost use mathlib.Core.List.{_++_};
-ghost use Rattle.replies.specs.Write.{Wrote, decimalText, hexText, idText, idsText, faultText, errorText, refusedText, okText};
-use lines::Fault;
+ghost use Rattle.text.specs.Text.{bytesOf, fieldNo};
+ghost use Rattle.replies.specs.Write.{Wrote, decimalText, hexText, idText, idsText, placeOf, faultText, errorText, refusedText, endText, okText};
+use text::Fault;
 
 // Writes s.
 pub fn put(text: &mut [u8], at: usize, s: &[u8]) -> usize
@@ -30,7 +32,7 @@ pub fn put_decimal(text: &mut [u8], at: usize, n: u64) -> usize
 }
 
 // Writes s, and n in decimal digits.
-fn put_number(text: &mut [u8], at: usize, s: &[u8], n: u64) -> usize
+pub fn put_number(text: &mut [u8], at: usize, s: &[u8], n: u64) -> usize
     ensures { λ r. ⌜ Wrote at (now (s .entry) ++ decimalText n) (now (text .entry)) r (now (text .exit)) ⌝ }
 {
     let next = put(text, at, s);
@@ -67,23 +69,47 @@ pub fn put_ids(text: &mut [u8], at: usize, ids: &[u64]) -> usize
     n
 }
 
+// Writes the k-th of some words, counted from 0, or nothing where there are fewer.
+fn put_word(text: &mut [u8], at: usize, words: &[u8], k: u64) -> usize
+    ensures { λ r. ⌜ Wrote at (bytesOf (now (words .entry)) (fieldNo k (now (words .entry)) 0)) (now (text .entry)) r (now (text .exit)) ⌝ }
+{
+    let word = text::field_no(words, k);
+    let start = word.start;
+    let end = word.end;
+    if start < end {
+        return put(text, at, &words[start..end]);
+    }
+    at
+}
+
+// The place of a fault's word among the words for faults.
+fn fault_place(f: Fault) -> u64
+    ensures { λ r. ⌜ r ≡ placeOf f ⌝ }
+{
+    match f {
+        Fault::UnknownKind => 0,
+        Fault::UnknownRegion => 1,
+        Fault::MissingField => 2,
+        Fault::ExtraField => 3,
+        Fault::RepeatedOption => 4,
+        Fault::NotANumber => 5,
+        Fault::TooFewDigits => 6,
+        Fault::TooManyDigits => 7,
+        Fault::TooLarge => 8,
+        Fault::BadByte => 9,
+        Fault::LineTooLong => 10,
+        Fault::OutsideDomain => 11,
+        Fault::ReadFailed => 12,
+    }
+}
+
 // Writes the word for what is wrong with a line.
 fn put_fault(text: &mut [u8], at: usize, f: Fault) -> usize
     ensures { λ r. ⌜ Wrote at (faultText f) (now (text .entry)) r (now (text .exit)) ⌝ }
 {
-    match f {
-        Fault::UnknownKind => put(text, at, b"unknown-kind"),
-        Fault::UnknownRegion => put(text, at, b"unknown-region"),
-        Fault::MissingField => put(text, at, b"missing-field"),
-        Fault::ExtraField => put(text, at, b"extra-field"),
-        Fault::NotANumber => put(text, at, b"not-a-number"),
-        Fault::TooFewDigits => put(text, at, b"too-few-digits"),
-        Fault::TooManyDigits => put(text, at, b"too-many-digits"),
-        Fault::TooLarge => put(text, at, b"too-large"),
-        Fault::BadByte => put(text, at, b"bad-byte"),
-        Fault::LineTooLong => put(text, at, b"line-too-long"),
-        Fault::OutsideDomain => put(text, at, b"outside-domain"),
-    }
+    let words =
+        b"unknown-kind unknown-region missing-field extra-field repeated-option not-a-number too-few-digits too-many-digits too-large bad-byte line-too-long outside-domain read-failed";
+    put_word(text, at, words, fault_place(f))
 }
 
 // The answer to a line that asks nothing that can be answered: `error LINE-NUMBER WORD`.
@@ -101,6 +127,14 @@ pub fn put_refused(text: &mut [u8], number: u64) -> usize
     ensures { λ r. ⌜ Wrote 0 (refusedText number) (now (text .entry)) r (now (text .exit)) ⌝ }
 {
     let a = put_number(text, 0, b"refused ", number);
+    put(text, a, b"\n")
+}
+
+// What is written after the last answer: `end ANSWERED`.
+pub fn put_end(text: &mut [u8], answered: u64) -> usize
+    ensures { λ r. ⌜ Wrote 0 (endText answered) (now (text .entry)) r (now (text .exit)) ⌝ }
+{
+    let a = put_number(text, 0, b"end ", answered);
     put(text, a, b"\n")
 }
 

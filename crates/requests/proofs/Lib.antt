@@ -1,2 +1,2 @@
-pub mod Laws
-pub mod Lengths
+mod Laws
+mod Reading

@@ -12,8 +12,9 @@ use lib.Dec.{ltb}
 use lib.ListN.{length, getD, drop, drop-of-length-le}
 use lib.Seq.{drop-cons}
 use borrow.Author.Tests.{lt-ltb, le-ltb}
-use Rattle.text.specs.declared.Number.{Number}
-use Rattle.text.specs.Text.{digitOf, allDigits, valueFrom, limited, isBlank, leading}
+use Rattle.text.specs.declared.Fault.{Fault}
+use Rattle.text.specs.declared.Place.{Place}
+use Rattle.text.specs.Text.{digitOf, allDigits, valueFrom, faulty, limited, isBlank, leading}
 
 -- ---- runs
 
@@ -56,13 +57,13 @@ pub digits-end : (base : ℕ) (l : List ℕ) (i : ℕ) → length l ≤ i → al
 unfolding allDigits
 digits-end base l i h = rw (drop-of-length-le l h)
 
-pub limited-over : (limit n : ℕ) → limit < n → limited limit n ≡ Number.TooLarge
+pub limited-over : (limit next n : ℕ) → limit < n → limited limit next n ≡ faulty Fault.TooLarge
 unfolding limited
-limited-over limit n h = rw (limited, lt-ltb limit n h)
+limited-over limit next n h = rw (limited, lt-ltb limit n h)
 
-pub limited-in : (limit n : ℕ) → n ≤ limit → limited limit n ≡ Number.Value n
+pub limited-in : (limit next n : ℕ) → n ≤ limit → limited limit next n ≡ record { value = n; after = Place.At next }
 unfolding limited
-limited-in limit n h = rw (limited, le-ltb limit n h)
+limited-in limit next n h = rw (limited, le-ltb limit n h)
 
 -- the test before a product says what the test after it would
 pub product-over : (limit digit base n : ℕ) → 0 < base → digit ≤ limit → ltb ((limit - digit) / base) n ≡ ltb limit (n * base + digit)
@@ -78,8 +79,8 @@ product-over limit digit base n p d = by-cases (decLt ((limit - digit) / base) n
     le-ltb _ _ g ∙ sym (le-ltb _ _ k))
 
 -- a number that is over the limit with some of its digits is over it with all
-pub value-over : (limit base n : ℕ) (l : List ℕ) (i : ℕ) → 0 < base → i < length l → limit < n * base + digitOf (getD l i 0)
-    → limited limit (valueFrom base n (drop i l)) ≡ Number.TooLarge
-value-over limit base n l i p h o =
+pub value-over : (limit next base n : ℕ) (l : List ℕ) (i : ℕ) → 0 < base → i < length l → limit < n * base + digitOf (getD l i 0)
+    → limited limit next (valueFrom base n (drop i l)) ≡ faulty Fault.TooLarge
+value-over limit next base n l i p h o =
     let g : n * base + digitOf (getD l i 0) ≤ valueFrom base (n * base + digitOf (getD l i 0)) (drop (i + 1) l) = value-grows base _ (drop (i + 1) l) p in
-    limited-over limit _ (omega (arith, g, value-go base n l i h))
+    limited-over limit next _ (omega (arith, g, value-go base n l i h))

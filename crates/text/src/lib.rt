@@ -1,21 +1,35 @@
-// Numbers and fields of a line of text: what the programs read requests with.
-// A number is digits of a base up to 16 and nothing else; a number over its limit is told and never wraps.
-// A field is a run of bytes between blanks.
+// Fields and numbers of a line of text: what the programs read requests with.
+// A line is fields parted by blanks. What is read comes with the place after it; a fault once found is handed on, so a line is read with no
+// branches, and what is wrong with it is the first fault from the left. A number over its limit is told and never wraps.
 ghost use mathlib.Core.Path.{_≡_};
 ghost use mathlib.Core.Bool.{true};
 ghost use Prim.Native.Nat.{_+_, _*_, _≤_, _<_};
 ghost use lib.Dec.{ltb};
 ghost use lib.Ieee.{binary64, ofBits, toBits};
 ghost use lib.ListN.{length, drop};
-ghost use Rattle.text.specs.Text.{digitOf, allDigits, valueFrom, limited, numberOf, isBlank, leading, fieldAt};
+ghost use Rattle.text.specs.Text.{digitOf, allDigits, valueFrom, faulty, limited, numberOf, numberIn, isBlank, leading, until, fieldAt, fieldNo, same, bytesOf, placeAmong, numberAfter, numbersAfter, listAfter, ReadList, choiceAfter, endAfter, allPlain, isSilent, startOf};
 
-// A number that was read, or why there is none.
-pub enum Number {
-    Value(u64),
+// What is wrong with a line.
+pub enum Fault {
+    UnknownKind,
+    UnknownRegion,
+    MissingField,
+    ExtraField,
+    RepeatedOption,
     NotANumber,
     TooFewDigits,
     TooManyDigits,
     TooLarge,
+    BadByte,
+    LineTooLong,
+    OutsideDomain,
+    ReadFailed,
+}
+
+// How a number is written: decimal, in one to twenty digits, or hexadecimal, in sixteen.
+pub enum Base {
+    Ten,
+    Sixteen,
 }
 
 // Where a field begins, and where it ends: an empty one stands where the line has no more.
@@ -23,6 +37,20 @@ pub struct Field {
     pub start: usize,
     pub end: usize,
 }
+
+// A place in a line, or what is wrong before it.
+pub enum Place {
+    At(usize),
+    Bad(Fault),
+}
+
+// A number, and the place after its field. Where a fault was found the number is 0.
+pub struct Read {
+    pub value: u64,
+    pub after: Place,
+}
+
+// ---- numbers
 
 // The value of a digit, 0 to 15; 16 for any other byte.
 fn digit(b: u8) -> u64
@@ -68,43 +96,87 @@ fn is_over(number: u64, base: u64, digit: u64, limit: u64) -> bool
     (limit - digit) / base < number
 }
 
-// The value of a run of digits, where it is within the limit.
-fn value(s: &[u8], base: u64, limit: u64) -> Number
+fn bad(f: Fault) -> Read
+    ensures { λ r. ⌜ r ≡ faulty f ⌝ }
+{
+    Read {
+        value: 0,
+        after: Place::Bad(f),
+    }
+}
+
+// The value of a run of digits, where it is within the limit, and the place after it.
+fn value(s: &[u8], base: u64, limit: u64, next: usize) -> Read
     requires { ⌜ 0 < base ⌝ }
-    ensures { λ r. ⌜ r ≡ limited limit (valueFrom base 0 (now (s .entry))) ⌝ }
+    ensures { λ r. ⌜ r ≡ limited limit next (valueFrom base 0 (now (s .entry))) ⌝ }
 {
     let mut number: u64 = 0;
     let mut i = 0;
     while i < s.len() {
         let d = digit(s[i]);
         if is_over(number, base, d, limit) {
-            return Number::TooLarge;
+            return bad(Fault::TooLarge);
         }
         number = number * base + d;
         i += 1;
     }
-    Number::Value(number)
+    Read {
+        value: number,
+        after: Place::At(next),
+    }
 }
 
 // The number that s spells in the base: `fewest` to `most` digits, at most `limit`. One pass for the digits, one for the value.
-pub fn read_number(s: &[u8], base: u64, fewest: usize, most: usize, limit: u64) -> Number
+fn number(s: &[u8], base: u64, fewest: usize, most: usize, limit: u64, next: usize) -> Read
     requires { ⌜ 0 < base ⌝ }
-    ensures { λ r. ⌜ r ≡ numberOf base fewest most limit (now (s .entry)) ⌝ }
+    ensures { λ r. ⌜ r ≡ numberOf base fewest most limit next (now (s .entry)) ⌝ }
 {
     if s.len() == 0 {
-        return Number::NotANumber;
+        return bad(Fault::NotANumber);
     }
     if all_digits(s, base) {
         if s.len() < fewest {
-            return Number::TooFewDigits;
+            return bad(Fault::TooFewDigits);
         }
         if most < s.len() {
-            return Number::TooManyDigits;
+            return bad(Fault::TooManyDigits);
         }
-        return value(s, base, limit);
+        return value(s, base, limit, next);
     }
-    Number::NotANumber
+    bad(Fault::NotANumber)
 }
+
+// The number, at most `limit`, that the bytes of a field or of a part of it spell; `next` is the place after the field.
+pub fn read_bytes(s: &[u8], base: Base, limit: u64, next: usize) -> Read
+    ensures { λ r. ⌜ r ≡ numberIn base limit next (now (s .entry)) ⌝ }
+{
+    match base {
+        Base::Ten => number(s, 10, 1, 20, limit, next),
+        Base::Sixteen => number(s, 16, 16, 16, limit, next),
+    }
+}
+
+// The float of a bit pattern. Every pattern of a NaN gives a NaN.
+pub fn float_of_bits(b: u64) -> f64
+    ensures { λ r. ⌜ r ≡ ofBits binary64 b ⌝ }
+{
+    if b % 0x8000_0000_0000_0000 > 0x7ff0_0000_0000_0000 {
+        return 0.0 / 0.0;
+    }
+    f64::from_bits(b)
+}
+
+// The bit pattern of a float, 0x7ff8000000000000 for a NaN.
+pub fn bits_of_float(x: f64) -> u64
+    ensures { λ r. ⌜ r ≡ toBits binary64 x ⌝ }
+{
+    if x != x {
+        return 0x7ff8_0000_0000_0000;
+    }
+    f64::to_bits(x)
+}
+
+// ---- fields
 
 // Whether a byte parts fields: a space, a tab or a carriage return.
 fn is_blank(b: u8) -> bool
@@ -144,22 +216,221 @@ pub fn read_field(line: &[u8], at: usize) -> Field
     Field { start, end }
 }
 
-// The float of a bit pattern. Every pattern of a NaN gives a NaN.
-pub fn float_of_bits(b: u64) -> f64
-    ensures { λ r. ⌜ r ≡ ofBits binary64 b ⌝ }
+// The k-th field of the line, counted from 0.
+pub fn field_no(line: &[u8], k: u64) -> Field
+    ensures { λ r. ⌜ r ≡ fieldNo k (now (line .entry)) 0 ⌝ }
+    ensures { λ r. ⌜ (r .start ≤ r .end) × (r .start < r .end → r .end ≤ length (now (line .entry))) ⌝ }
 {
-    if b % 0x8000_0000_0000_0000 > 0x7ff0_0000_0000_0000 {
-        return 0.0 / 0.0;
+    let mut at = 0;
+    let mut left = k;
+    while 0 < left {
+        let f = read_field(line, at);
+        at = f.end;
+        left -= 1;
     }
-    f64::from_bits(b)
+    read_field(line, at)
 }
 
-// The bit pattern of a float, 0x7ff8000000000000 for a NaN.
-pub fn bits_of_float(x: f64) -> u64
-    ensures { λ r. ⌜ r ≡ toBits binary64 x ⌝ }
+// The place of the first byte that is b, or the length.
+pub fn find(s: &[u8], b: u8) -> usize
+    ensures { λ r. ⌜ r ≡ until b (now (s .entry)) ⌝ }
+    ensures { λ r. ⌜ r ≤ length (now (s .entry)) ⌝ }
 {
-    if x != x {
-        return 0x7ff8_0000_0000_0000;
+    let mut i = 0;
+    while i < s.len() {
+        if s[i] == b {
+            return i;
+        }
+        i += 1;
     }
-    f64::to_bits(x)
+    i
+}
+
+// ---- words
+
+// Whether both are the same bytes.
+fn is_same(a: &[u8], b: &[u8]) -> bool
+    ensures { λ r. ⌜ r ≡ same (now (a .entry)) (now (b .entry)) ⌝ }
+{
+    let mut i = 0;
+    while i < a.len() {
+        if b.len() <= i {
+            return false;
+        }
+        if a[i] != b[i] {
+            return false;
+        }
+        i += 1;
+    }
+    b.len() <= i
+}
+
+// Whether the field of the words from `at` on is the word.
+fn is_word(word: &[u8], words: &[u8], at: usize) -> bool
+    ensures { λ r. ⌜ r ≡ same (now (word .entry)) (bytesOf (now (words .entry)) (fieldAt (now (words .entry)) at)) ⌝ }
+{
+    let f = read_field(words, at);
+    let start = f.start;
+    let end = f.end;
+    if start < end {
+        return is_same(word, &words[start..end]);
+    }
+    word.len() == 0
+}
+
+// The place of a word, counted from 0, among the first `count` of some words parted by blanks; `count` where it is none of them.
+pub fn place_among(word: &[u8], words: &[u8], count: u64) -> u64
+    ensures { λ r. ⌜ r ≡ placeAmong count (now (words .entry)) 0 (now (word .entry)) ⌝ }
+{
+    let mut at = 0;
+    let mut k = 0;
+    while k < count {
+        if is_word(word, words, at) {
+            return k;
+        }
+        let f = read_field(words, at);
+        at = f.end;
+        k += 1;
+    }
+    k
+}
+
+// ---- one part of a line after another
+
+// The number, at most `limit`, that the next field is.
+pub fn read_number(line: &[u8], p: Place, base: Base, limit: u64) -> Read
+    ensures { λ r. ⌜ r ≡ numberAfter base limit (now (line .entry)) p ⌝ }
+{
+    match p {
+        Place::At(at) => {
+            let f = read_field(line, at);
+            let start = f.start;
+            let end = f.end;
+            if start < end {
+                read_bytes(&line[start..end], base, limit, end)
+            } else {
+                bad(Fault::MissingField)
+            }
+        }
+        Place::Bad(f) => bad(f),
+    }
+}
+
+// Fills `values` with the numbers of the next fields, and answers the place after them. From a fault on the values are 0.
+pub fn read_numbers(line: &[u8], p: Place, base: Base, values: &mut [u64]) -> Place
+    ensures { λ r. ⌜ (r ≡ numbersAfter base (length (now (values .entry))) (now (line .entry)) p .after) × (now (values .exit) ≡ numbersAfter base (length (now (values .entry))) (now (line .entry)) p .values) ⌝ }
+{
+    let mut after = p;
+    let mut i = 0;
+    while i < values.len() {
+        let n = read_number(line, after, base, u64::MAX);
+        values[i] = n.value;
+        after = n.after;
+        i += 1;
+    }
+    after
+}
+
+// A list `COUNT ID...` of at most as many ids as `ids` has places, into the first of them: how many there are, and the place after them.
+pub fn read_list(line: &[u8], p: Place, ids: &mut [u64]) -> Read
+    ensures { λ r. ⌜ ReadList (listAfter (length (now (ids .entry))) (now (line .entry)) p) r (now (ids .entry)) (now (ids .exit)) ⌝ }
+{
+    let n = read_number(line, p, Base::Ten, ids.len() as u64);
+    let count = n.value as usize;
+    let from = n.after;
+    let after = read_numbers(line, from, Base::Sixteen, &mut ids[..count]);
+    Read {
+        value: n.value,
+        after,
+    }
+}
+
+// Which of the first `count` words, counted from 0, the next field is; `fault` where it is none of them.
+pub fn read_choice(line: &[u8], p: Place, words: &[u8], count: u64, fault: Fault) -> Read
+    ensures { λ r. ⌜ r ≡ choiceAfter (now (words .entry)) count fault (now (line .entry)) p ⌝ }
+{
+    match p {
+        Place::At(at) => {
+            let f = read_field(line, at);
+            let start = f.start;
+            let end = f.end;
+            if start < end {
+                let k = place_among(&line[start..end], words, count);
+                if k < count {
+                    return Read {
+                        value: k,
+                        after: Place::At(end),
+                    };
+                }
+                return bad(fault);
+            }
+            bad(Fault::MissingField)
+        }
+        Place::Bad(f) => bad(f),
+    }
+}
+
+// The place itself, if no field stands after it.
+pub fn read_end(line: &[u8], p: Place) -> Place
+    ensures { λ r. ⌜ r ≡ endAfter (now (line .entry)) p ⌝ }
+{
+    match p {
+        Place::At(at) => {
+            let f = read_field(line, at);
+            let start = f.start;
+            let end = f.end;
+            if start < end {
+                Place::Bad(Fault::ExtraField)
+            } else {
+                Place::At(at)
+            }
+        }
+        Place::Bad(f) => Place::Bad(f),
+    }
+}
+
+// ---- whole lines
+
+// Whether every byte is one of ASCII, and none is 0.
+fn all_plain(line: &[u8]) -> bool
+    ensures { λ r. ⌜ r ≡ allPlain (now (line .entry)) ⌝ }
+{
+    let mut i = 0;
+    while i < line.len() {
+        let b = line[i];
+        if b == 0 {
+            return false;
+        }
+        if b > 127 {
+            return false;
+        }
+        i += 1;
+    }
+    true
+}
+
+// Whether the line asks nothing: it has no field, or begins with #.
+pub fn is_silent(line: &[u8]) -> bool
+    ensures { λ r. ⌜ r ≡ isSilent (now (line .entry)) ⌝ }
+{
+    let f = read_field(line, 0);
+    let start = f.start;
+    let end = f.end;
+    if start < end {
+        if line[0] == b'#' {
+            return all_plain(line);
+        }
+        return false;
+    }
+    all_plain(line)
+}
+
+// The line's beginning, if no byte of it is 0 or over 127.
+pub fn read_start(line: &[u8]) -> Place
+    ensures { λ r. ⌜ r ≡ startOf (now (line .entry)) ⌝ }
+{
+    if all_plain(line) {
+        return Place::At(0);
+    }
+    Place::Bad(Fault::BadByte)
 }

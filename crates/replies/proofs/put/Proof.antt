@@ -1,49 +1,29 @@
 -- `replies::put`: to write the rest from here is to write the whole.
-use Prim.Native.Nat.{_-_, _≤_}
+use mathlib.Core.Path.{_≡_, refl, sym, _∙_}
+use Prim.Native.Nat.{_+_, _-_, _≤_}
 use native.Mathlib.Omega.{arith}
 use lib.ListN.{length, drop, drop-of-length-le}
-use Rattle.replies.proofs.Writing.{Going, going-start, going-byte, going-done, going-full}
+use lib.Seq.{sets}
+use Rattle.replies.proofs.Writing.{sets-out, sets-go}
+use borrow.Author.Needs.{needs}
 use Rattle.replies.proofs.put.Statement.{statement}
 use Rattle.replies.proofs.put.Tie as tie
 
 abbrev Inv-loop : tie.InvT-loop
-Inv-loop text₀ at s n₀ i₀ text n i = (i ≤ length s) × Going at s text₀ n (drop i s) text
+Inv-loop text₀ at s n₀ i₀ text n i =
+    (i ≤ length s) × (i ≤ length text₀ - at) × (n ≡ at + i) × (length text ≡ length text₀) × (sets text₀ at s ≡ sets text n (drop i s))
 
 abbrev μ-loop : tie.MeasureT-loop
 μ-loop text₀ at s n₀ i₀ text n i = length s - i
 
-loop-holds : tie.Need-loop-holds Inv-loop μ-loop
-loop-holds c = (omega arith, going-start _ _ _)
-
-same-length : tie.Need-same-length Inv-loop μ-loop
-same-length c = c .before .before .loop .inv .1 .size
-
 returns : tie.Need-returns Inv-loop μ-loop
-returns c = going-full (c .if1 .taken) (c .before .before .loop .inv .1)
-
-shared-slice-read-text : tie.Need-shared-slice-read-text Inv-loop μ-loop
-shared-slice-read-text c = omega arith
-
-slice-write-text : tie.Need-slice-write-text Inv-loop μ-loop
-slice-write-text c = omega arith
-
-add-n : tie.Need-add-n Inv-loop μ-loop
-add-n c = omega arith
-
-add-i : tie.Need-add-i Inv-loop μ-loop
-add-i c = omega arith
-
-loop-less : tie.Need-loop-less Inv-loop μ-loop
-loop-less c = omega arith
+returns c = record { count = omega arith; bytes = sym (c .before .before .loop .inv .4 ∙ sets-out (drop (c .before .before .loop .i) (c .before .before .before .args .s .now)) _ (c .before .before .loop .n) (c .if1 .taken)) }
 
 loop-again : tie.Need-loop-again Inv-loop μ-loop
-loop-again c = (omega arith, going-byte (c .before .before .before .loop .i) _ (omega arith) (omega arith) (c .before .before .before .loop .inv .1))
-
-same-length-2 : tie.Need-same-length-2 Inv-loop μ-loop
-same-length-2 c = c .before .loop .inv .1 .size
+loop-again c = (omega arith, omega arith, omega arith, search needs, c .before .before .before .loop .inv .4 ∙ sets-go _ _ (c .before .before .before .loop .n) (c .before .before .before .loop .i) (omega arith))
 
 returns-2 : tie.Need-returns-2 Inv-loop μ-loop
-returns-2 c = going-done (drop-of-length-le _ (c .loop-test .left)) (c .before .loop .inv .1)
+returns-2 c = record { count = omega arith; bytes = sym (rw (drop-of-length-le _ (c .loop-test .left)) at (c .before .loop .inv .4)) }
 
 pub put-spec : {M : Type 1} → statement M
 put-spec =
@@ -51,14 +31,14 @@ put-spec =
     (tie.spec
     Inv-loop
     μ-loop
-    loop-holds
-    same-length
+    (λ c. (omega arith, omega arith, omega arith, refl, refl))
+    (λ c. search needs)
     returns
-    shared-slice-read-text
-    slice-write-text
-    add-n
-    add-i
-    loop-less
+    (λ c. omega arith)
+    (λ c. omega arith)
+    (λ c. omega arith)
+    (λ c. omega arith)
+    (λ c. omega arith)
     loop-again
-    same-length-2
+    (λ c. search needs)
     returns-2)

@@ -5,9 +5,6 @@ use borrow.Author.Needs.{needs}
 use Rattle.requests.proofs.allowance_of.Statement.{statement}
 use Rattle.requests.proofs.allowance_of.Tie as tie
 
-cast-result : tie.Need-cast-result
-cast-result c = search needs
-
 returns : tie.Need-returns
 unfolding allowanceOf
 returns c = omega arith
@@ -17,4 +14,4 @@ unfolding allowanceOf
 returns-2 c = omega arith
 
 pub allowance-of-spec : {M : Type 1} → statement M
-allowance-of-spec = tie.close (tie.spec cast-result returns returns-2)
+allowance-of-spec = tie.close (tie.spec (λ c. search needs) returns returns-2)

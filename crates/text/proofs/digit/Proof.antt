@@ -9,9 +9,6 @@ returns : tie.Need-returns
 unfolding digitOf
 returns c = rw (digitOf, lt-ltb _ _ (c .if1 .taken))
 
-sub-result : tie.Need-sub-result
-sub-result c = search needs
-
 returns-2 : tie.Need-returns-2
 unfolding digitOf
 returns-2 c = rw (digitOf, le-ltb _ _ (c .before .if1 .left), le-leb _ _ (c .if2 .taken))
@@ -19,9 +16,6 @@ returns-2 c = rw (digitOf, le-ltb _ _ (c .before .if1 .left), le-leb _ _ (c .if2
 returns-3 : tie.Need-returns-3
 unfolding digitOf
 returns-3 c = rw (digitOf, le-ltb _ _ (c .before .before .if1 .left), lt-leb _ _ (c .before .if2 .left), lt-ltb _ _ (c .if3 .taken))
-
-sub-result-2 : tie.Need-sub-result-2
-sub-result-2 c = search needs
 
 returns-4 : tie.Need-returns-4
 unfolding digitOf
@@ -33,4 +27,4 @@ returns-5 c = rw (digitOf, le-ltb _ _ (c .before .before .before .if1 .left), lt
 
 pub digit-spec : {M : Type 1} → statement M
 digit-spec =
-    tie.close (tie.spec returns sub-result returns-2 returns-3 sub-result-2 returns-4 returns-5)
+    tie.close (tie.spec returns (λ c. search needs) returns-2 returns-3 (λ c. search needs) returns-4 returns-5)

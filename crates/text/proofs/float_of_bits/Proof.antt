@@ -13,8 +13,5 @@ returns c = sym (nan-pattern _ (c .if1 .taken))
 float-from-bits-result : tie.Need-float-from-bits-result
 float-from-bits-result c = number-pattern _ (c .if1 .left)
 
-returns-2 : tie.Need-returns-2
-returns-2 c = search needs
-
 pub float-of-bits-spec : {M : Type 1} → statement M
-float-of-bits-spec = tie.close (tie.spec returns float-from-bits-result returns-2)
+float-of-bits-spec = tie.close (tie.spec returns float-from-bits-result (λ c. search needs))

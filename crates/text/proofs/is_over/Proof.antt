@@ -10,11 +10,8 @@ use Rattle.text.proofs.is_over.Tie as tie
 returns : tie.Need-returns
 returns c = sym (lt-ltb (c .before .args .limit) _ (omega arith))
 
-div-result : tie.Need-div-result
-div-result c = search needs
-
 returns-2 : tie.Need-returns-2
 returns-2 c = product-over _ _ _ _ (c .before .pre) (c .if1 .left)
 
 pub is-over-spec : {M : Type 1} → statement M
-is-over-spec = tie.close (tie.spec returns div-result returns-2)
+is-over-spec = tie.close (tie.spec returns (λ c. search needs) returns-2)

@@ -9,12 +9,6 @@ use borrow.Author.Needs.{needs}
 use Rattle.text.proofs.read_field.Statement.{statement}
 use Rattle.text.proofs.read_field.Tie as tie
 
-past-requires : tie.Need-past-requires
-past-requires c κs = search needs
-
-past-requires-2 : tie.Need-past-requires-2
-past-requires-2 c κs = search needs
-
 returns : tie.Need-returns
 unfolding fieldAt startAt
 returns c =
@@ -22,4 +16,4 @@ returns c =
     (ap₂ (λ (a b : ℕ). record { start = a; end = b }) e (c .past2 .ensures .0 ∙ ap (λ (a : ℕ). a + leading false (drop a (c .before .before .before .args .line .now))) e), (omega arith, c .past2 .ensures .2))
 
 pub read-field-spec : {M : Type 1} → statement M
-read-field-spec = tie.close (tie.spec past-requires past-requires-2 returns)
+read-field-spec = tie.close (tie.spec (λ c κs. search needs) (λ c κs. search needs) returns)

@@ -10,11 +10,11 @@ use Rattle.text.proofs.value.Statement.{statement}
 use Rattle.text.proofs.value.Tie as tie
 
 abbrev Inv-loop : tie.InvT-loop
-Inv-loop s base limit number₀ i₀ number i =
+Inv-loop s base limit next number₀ i₀ number i =
     (i ≤ length s) × (number ≤ limit) × (valueFrom base 0 s ≡ valueFrom base number (drop i s))
 
 abbrev μ-loop : tie.MeasureT-loop
-μ-loop s base limit number₀ i₀ number i = length s - i
+μ-loop s base limit next number₀ i₀ number i = length s - i
 
 -- one digit more is within the limit
 within : (c : tie.Else1 Inv-loop μ-loop)
@@ -26,34 +26,19 @@ within c = ltb-false _ _ (sym (c .before .is-over .ensures) ∙ c .if1 .left)
 loop-holds : tie.Need-loop-holds Inv-loop μ-loop
 loop-holds c = (omega arith, omega arith, refl)
 
-shared-slice-read-digit : tie.Need-shared-slice-read-digit Inv-loop μ-loop
-shared-slice-read-digit c = omega arith
-
-digit-requires : tie.Need-digit-requires Inv-loop μ-loop
-digit-requires c κs = tt
-
-is-over-requires : tie.Need-is-over-requires Inv-loop μ-loop
-is-over-requires c κs = omega arith
-
 returns : tie.Need-returns Inv-loop μ-loop
 returns c =
-    let h = c .before .before .before .before .before in
+    let h = c .before .before .before .before .before .before in
     let s = h .before .before .args .s .now in
     let limit = h .before .before .args .limit in
-    let o : limit < h .loop .number * h .before .before .args .base + c .before .before .digit .result = ltb-true _ _ (sym (c .before .is-over .ensures) ∙ c .if1 .taken) in
-    sym (ap (limited limit) (h .loop .inv .2) ∙ value-over limit _ _ s (h .loop .i) (h .before .before .pre) (omega arith) (omega (arith, c .before .before .digit .ensures)))
+    let o : limit < h .loop .number * h .before .before .args .base + c .before .before .before .digit .result = ltb-true _ _ (sym (c .before .before .is-over .ensures) ∙ c .before .if1 .taken) in
+    c .bad .ensures ∙ sym (ap (limited limit _) (h .loop .inv .2) ∙ value-over limit _ _ _ s (h .loop .i) (h .before .before .pre) (omega arith) (omega (arith, c .before .before .before .digit .ensures)))
 
 mul-number : tie.Need-mul-number Inv-loop μ-loop
 mul-number c = let k = within c in omega arith
 
 add-number : tie.Need-add-number Inv-loop μ-loop
 add-number c = let k = within c in omega arith
-
-add-i : tie.Need-add-i Inv-loop μ-loop
-add-i c = omega arith
-
-loop-less : tie.Need-loop-less Inv-loop μ-loop
-loop-less c = omega arith
 
 loop-again : tie.Need-loop-again Inv-loop μ-loop
 loop-again c =
@@ -65,7 +50,7 @@ loop-again c =
 returns-2 : tie.Need-returns-2 Inv-loop μ-loop
 returns-2 c =
     let limit = c .before .before .before .args .limit in
-    sym (ap (limited limit) (c .before .loop .inv .2 ∙ value-end _ _ _ _ (c .loop-test .left)) ∙ limited-in limit _ (c .before .loop .inv .1))
+    sym (ap (limited limit _) (c .before .loop .inv .2 ∙ value-end _ _ _ _ (c .loop-test .left)) ∙ limited-in limit _ _ (c .before .loop .inv .1))
 
 pub value-spec : {M : Type 1} → statement M
 value-spec =
@@ -74,13 +59,14 @@ value-spec =
     Inv-loop
     μ-loop
     loop-holds
-    shared-slice-read-digit
-    digit-requires
-    is-over-requires
+    (λ c. omega arith)
+    (λ c κs. tt)
+    (λ c κs. omega arith)
+    (λ c κs. tt)
     returns
     mul-number
     add-number
-    add-i
-    loop-less
+    (λ c. omega arith)
+    (λ c. omega arith)
     loop-again
     returns-2)

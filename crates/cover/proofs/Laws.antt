@@ -1,0 +1,35 @@
+-- Laws of `specs/Cover.antt`: what is written for each that is found, whole, and where it ends.
+use mathlib.Core.Path.{_≡_, ap, _∙_}
+use mathlib.Core.List.{List}
+use Prim.Native.Nat.{ℕ, _+_, _*_, _≤_}
+use native.Mathlib.Omega.{arith}
+use lib.ListN.{length, drop, length-append}
+use Rattle.text.specs.declared.Fault.{Fault}
+use Rattle.input.specs.declared.Feed.{Feed}
+use Rattle.input.specs.declared.Found.{Found}
+use Rattle.replies.specs.Write.{Wrote, Whole, errorText, endText}
+use Rattle.replies.proofs.Lengths.{wrote-whole, error-length, end-length}
+use Rattle.requests.specs.Requests.{Replied}
+use Rattle.cover.specs.Cover.{textFor, memoryFor, outputFor, lineOf, Told}
+
+module _ (f : Feed) (number answered : ℕ) (buf mem out page : List ℕ) (r : ℕ) (page' : List ℕ) where
+  pub told-line : (mem' out' : List ℕ) → f .found ≡ Found.Line → Replied number (lineOf f buf) mem mem' out out' page r page' → Told f number answered buf mem mem' out out' page r page'
+  unfolding textFor memoryFor outputFor
+  told-line mem' out' e R = record { wrote = rw e (R .wrote); memory = rw e (R .memory); output = rw e (R .output) }
+
+  module _ (room : 17 * length out + 256 ≤ length page) where
+    pub told-long : f .found ≡ Found.TooLong → Wrote 0 (errorText number Fault.LineTooLong) page r page' → Told f number answered buf mem mem out out page r page'
+    unfolding textFor memoryFor outputFor
+    told-long e w = record { wrote = rw e (wrote-whole (omega (arith, error-length number Fault.LineTooLong)) w); memory = rw e; output = rw e }
+
+    pub told-failed : f .found ≡ Found.Failed → Wrote 0 (errorText number Fault.ReadFailed) page r page' → Told f number answered buf mem mem out out page r page'
+    unfolding textFor memoryFor outputFor
+    told-failed e w = record { wrote = rw e (wrote-whole (omega (arith, error-length number Fault.ReadFailed)) w); memory = rw e; output = rw e }
+
+    pub told-end : f .found ≡ Found.End → Wrote 0 (endText answered) page r page' → Told f number answered buf mem mem out out page r page'
+    unfolding textFor memoryFor outputFor
+    told-end e w = record { wrote = rw e (wrote-whole (omega (arith, end-length answered)) w); memory = rw e; output = rw e }
+
+-- a text that is whole lies in its page
+pub within : (s d : List ℕ) (r : ℕ) (d' : List ℕ) → Whole s d r d' → r ≤ length d'
+within s d r d' w = let n : length d' ≡ length s + length (drop (length s) d) = ap length (w .bytes) ∙ length-append s (drop (length s) d) in omega (arith, w .count)

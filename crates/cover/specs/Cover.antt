@@ -1,0 +1,39 @@
+-- What `cover` writes for what was found in its input, and what stands in the working memory and in the output afterwards.
+use mathlib.Core.Path.{_≡_}
+use mathlib.Core.List.{List}
+use Prim.Native.Nat.{ℕ}
+use Rattle.text.specs.declared.Fault.{Fault}
+use Rattle.input.specs.declared.Feed.{Feed}
+use Rattle.input.specs.declared.Found.{Found}
+use Rattle.input.specs.Feed.{between}
+use Rattle.replies.specs.Write.{Whole, errorText, endText}
+use Rattle.requests.specs.Requests.{textOf, memoryOf, outputOf}
+
+-- a line of some number, after so many answers: its answer; an error for one that is too long, or that could not be read; the number of answers at the end
+unfoldable pub textFor : Found → ℕ → ℕ → List ℕ → List ℕ → List ℕ → List ℕ
+textFor Found.Line number answered line mem out = textOf number line mem out
+textFor Found.TooLong number answered line mem out = errorText number Fault.LineTooLong
+textFor Found.Failed number answered line mem out = errorText number Fault.ReadFailed
+textFor Found.End number answered line mem out = endText answered
+
+unfoldable pub memoryFor : Found → List ℕ → List ℕ → List ℕ → List ℕ
+memoryFor Found.Line line mem out = memoryOf line mem out
+memoryFor Found.TooLong line mem out = mem
+memoryFor Found.Failed line mem out = mem
+memoryFor Found.End line mem out = mem
+
+unfoldable pub outputFor : Found → List ℕ → List ℕ → List ℕ → List ℕ
+outputFor Found.Line line mem out = outputOf line mem out
+outputFor Found.TooLong line mem out = out
+outputFor Found.Failed line mem out = out
+outputFor Found.End line mem out = out
+
+-- the line that was found in a buffer
+abbrev pub lineOf : Feed → List ℕ → List ℕ
+lineOf f buf = between (f .start) (f .end) buf
+
+-- the text is written whole
+pub record Told (f : Feed) (number answered : ℕ) (buf mem mem' out out' page : List ℕ) (r : ℕ) (page' : List ℕ) : Type 0 where
+  pub wrote : Whole (textFor (f .found) number answered (lineOf f buf) mem out) page r page'
+  pub memory : mem' ≡ memoryFor (f .found) (lineOf f buf) mem out
+  pub output : out' ≡ outputFor (f .found) (lineOf f buf) mem out

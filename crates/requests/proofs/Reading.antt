@@ -1,0 +1,125 @@
+-- Laws of `specs/Line.antt`: what was read, part by part, is what the line asks.
+use mathlib.Core.Path.{_≡_, refl}
+use mathlib.Core.List.{List, [], _∷_}
+use Prim.Native.Nat.{ℕ, zero, suc, _+_, _-_, _%_, _≤_, _<_}
+use native.Mathlib.Omega.{arith}
+use lib.Dec.{leb, eqb}
+use lib.ListN.{length, getD, take, drop, set, length-drop}
+use lib.Seq.{take-all}
+use borrow.Author.Tests.{lt-ltb, le-ltb, eq-eqb, ne-eqb}
+use Rattle.text.specs.declared.Base.{Base}
+use Rattle.text.specs.declared.Fault.{Fault}
+use Rattle.text.specs.declared.Field.{Field}
+use Rattle.text.specs.declared.Place.{Place}
+use Rattle.text.specs.declared.Read.{Read}
+use Rattle.text.specs.Text.{until, fieldAt, bytesOf, placeAmong, numberIn, numberAfter, numbersAfter, choiceAfter, endAfter, startOf}
+use Rattle.cell.specs.declared.Cap.{Cap}
+use Rattle.region.specs.declared.Region.{Region}
+use Rattle.covering.specs.declared.Ending.{Ending}
+use Rattle.requests.specs.declared.line.Four.{Four}
+use Rattle.requests.specs.declared.line.CovererRead.{CovererRead}
+use Rattle.requests.specs.declared.line.RegionRead.{RegionRead}
+use Rattle.requests.specs.declared.line.Options.{Options}
+use Rattle.requests.specs.Line.{kinds, endingOf, fourAfter, covererAfter, capOf, capAfter, cellAfter, regions, regionAfter, keys, mostOf, none, valueOr, badOption, optionGiven, optionOf, optionFrom, nextOption, optionsAfter, requestOf}
+
+pub ending-raw : (k : ℕ) → (k % 3 ≡ 0 → ⊥) → (k % 3 ≡ 1 → ⊥) → Ending.Raw ≡ endingOf k
+unfolding endingOf
+ending-raw k a b = third (k % 3) a b
+  where
+    third : (n : ℕ) → (n ≡ 0 → ⊥) → (n ≡ 1 → ⊥) → Ending.Raw ≡ getD (Ending.Covering ∷ Ending.CellUnion ∷ []) n Ending.Raw
+    third zero a b = absurd (a refl)
+    third (suc zero) a b = absurd (b refl)
+    third (suc (suc n)) a b = refl
+
+pub most-mem : (k : ℕ) → (k ≡ 0 → ⊥) → (k ≡ 1 → ⊥) → 8192 ≡ mostOf k
+unfolding mostOf
+most-mem zero a b = absurd (a refl)
+most-mem (suc zero) a b = absurd (b refl)
+most-mem (suc (suc k)) a b = refl
+
+-- ---- the parts of a request
+
+module _ (l : List ℕ) (p : Place) where
+  pub four-read : (base : Base) (v : List ℕ) (after : Place) → (after ≡ numbersAfter base 4 l p .after) × (v ≡ numbersAfter base 4 l p .values) → record { values = v; after = after } ≡ fourAfter base l p
+  unfolding fourAfter
+  four-read base v after h = rw (h .0, h .1)
+
+  pub coverer-read : (n : Four) → n ≡ fourAfter Base.Ten l p
+      → record { coverer = record { «min_level» = getD (n .values) 0 0; «max_level» = getD (n .values) 1 0; «level_mod» = getD (n .values) 2 0; «max_cells» = getD (n .values) 3 0 }; after = n .after } ≡ covererAfter l p
+  unfolding covererAfter
+  coverer-read n e = rw e
+
+  pub cap-read : (n : Four) (c : Cap) → n ≡ fourAfter Base.Sixteen l p → c ≡ capOf (getD (n .values) 0 0) (getD (n .values) 1 0) (getD (n .values) 2 0) (getD (n .values) 3 0)
+      → record { region = Region.Cap c; after = n .after } ≡ capAfter l p
+  unfolding capAfter
+  cap-read n c e d = rw (d, e)
+
+  pub cell-read : (id : Read) → id ≡ numberAfter Base.Sixteen 0xffff_ffff_ffff_ffff l p → record { region = Region.Cell (id .value); after = id .after } ≡ cellAfter l p
+  unfolding cellAfter
+  cell-read id e = rw e
+
+  module _ (which : Read) (e : which ≡ choiceAfter regions 2 Fault.UnknownRegion l p) where
+    pub region-cap : (r : RegionRead) → which .value ≡ 0 → r ≡ capAfter l (which .after) → r ≡ regionAfter l p
+    unfolding regionAfter
+    region-cap r h d = rw (regionAfter, ← e, eq-eqb _ _ h, ← e) d
+
+    pub region-cell : (r : RegionRead) → (which .value ≡ 0 → ⊥) → r ≡ cellAfter l (which .after) → r ≡ regionAfter l p
+    unfolding regionAfter
+    region-cell r h d = rw (regionAfter, ← e, ne-eqb _ _ h, ← e) d
+
+-- ---- options
+
+module _ (k : ℕ) (digits : List ℕ) (next : ℕ) (o : Options) where
+  pub option-first : (most : ℕ) (n : Read) → getD (o .values) k 0 ≡ none → most ≡ mostOf k → n ≡ numberIn Base.Ten most next digits
+      → record { values = set (o .values) k (n .value); after = n .after } ≡ optionGiven k digits next o
+  unfolding optionGiven
+  option-first most n h m e = rw (e, m, optionGiven, eq-eqb _ _ h)
+
+  pub option-again : (r : Options) → (getD (o .values) k 0 ≡ none → ⊥) → r ≡ badOption o Fault.RepeatedOption → r ≡ optionGiven k digits next o
+  unfolding optionGiven
+  option-again r h e = rw (optionGiven, ne-eqb _ _ h) e
+
+rest-is : (k : ℕ) (w : List ℕ) → take (length w - k) (drop k w) ≡ drop k w
+rest-is k w = take-all (length w - k) (drop k w) (simp length-drop (omega arith))
+
+module _ (w : List ℕ) (next : ℕ) (o r : Options) (e : ℕ) (at : e ≡ until 61 w) where
+  pub option-none : length w ≤ e → r ≡ badOption o Fault.ExtraField → r ≡ optionOf w next o
+  unfolding optionOf
+  option-none h d = rw (optionOf, ← at, le-ltb _ _ h) d
+
+  module _ (k : ℕ) (h : e < length w) (i : k ≡ placeAmong 3 keys 0 (take (e + 1) w)) where
+    pub option-other : 3 ≤ k → r ≡ badOption o Fault.ExtraField → r ≡ optionOf w next o
+    unfolding optionOf
+    option-other g d = rw (optionOf, ← at, lt-ltb _ _ h, ← at, ← i, le-ltb _ _ g) d
+
+    pub option-key : k < 3 → r ≡ optionGiven k (take (length w - (e + 1)) (drop (e + 1) w)) next o → r ≡ optionOf w next o
+    unfolding optionOf
+    option-key g d = rw (optionOf, ← at, lt-ltb _ _ h, ← at, ← i, lt-ltb _ _ g, ← at, ← i) (rw (rest-is (e + 1) w) at d)
+
+module _ (l : List ℕ) (p : Place) (o : Options) where
+  module _ (at : ℕ) (f : Field) (here : p ≡ Place.At at) (e : f ≡ fieldAt l at) where
+    pub next-there : (r : Options) → f .start < f .end → r ≡ optionOf (bytesOf l f) (f .end) o → r ≡ optionFrom l p o
+    unfolding optionFrom
+    next-there r h d = rw (here, optionFrom, ← e, lt-ltb _ _ h, ← e) d
+
+    pub next-none : f .end ≤ f .start → o ≡ optionFrom l p o
+    unfolding optionFrom
+    next-none h = rw (here, optionFrom, ← e, le-ltb _ _ h)
+
+  pub next-bad : (f : Fault) → p ≡ Place.Bad f → o ≡ optionFrom l p o
+  unfolding optionFrom
+  next-bad f h = rw h
+
+pub options-read : (l : List ℕ) (p : Place) (a b c d : Options) → a ≡ nextOption l (record { values = none ∷ none ∷ none ∷ []; after = p }) → b ≡ nextOption l a → c ≡ nextOption l b → d ≡ nextOption l c
+    → d ≡ optionsAfter l p
+unfolding optionsAfter
+options-read l p a b c d ea eb ec ed = rw (ed, ec, eb, ea)
+
+-- ---- the request
+
+pub request-read : (l : List ℕ) (start : Place) (kind : Read) (c : CovererRead) (g : RegionRead) (o : Options) (end : Place) (k : Ending) (allowance out mem : ℕ)
+    → start ≡ startOf l → kind ≡ choiceAfter kinds 7 Fault.UnknownKind l start → c ≡ covererAfter l (kind .after) → g ≡ regionAfter l (c .after) → o ≡ optionsAfter l (g .after)
+    → end ≡ endAfter l (o .after) → k ≡ endingOf (kind .value) → allowance ≡ valueOr 4294967295 (getD (o .values) 0 0) → out ≡ valueOr 65536 (getD (o .values) 1 0) → mem ≡ valueOr 4096 (getD (o .values) 2 0)
+    → record { ending = k; inner = leb 3 (kind .value); fast = eqb (kind .value) 6; coverer = c .coverer; region = g .region; allowance = allowance; out = out; mem = mem; after = end } ≡ requestOf l
+unfolding requestOf
+request-read l start kind c g o end k allowance out mem es ek ec eg eo ee e1 e2 e3 e4 = rw (e1, e2, e3, e4, ee, eo, eg, ec, ek, es)

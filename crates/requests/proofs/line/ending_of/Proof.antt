@@ -1,0 +1,19 @@
+-- `requests::line::ending_of`: case by case.
+use Rattle.requests.specs.Line.{endingOf}
+use Rattle.requests.proofs.Reading.{ending-raw}
+use Rattle.requests.proofs.line.ending_of.Statement.{statement}
+use Rattle.requests.proofs.line.ending_of.Tie as tie
+
+returns : tie.Need-returns
+unfolding endingOf
+returns c = rw (c .match .keys1)
+
+returns-2 : tie.Need-returns-2
+unfolding endingOf
+returns-2 c = rw (c .match .keys2)
+
+returns-3 : tie.Need-returns-3
+returns-3 c = ending-raw _ (c .match .rest .0 .1) (c .match .rest .1)
+
+pub ending-of-spec : {M : Type 1} → statement M
+ending-of-spec = tie.close (tie.spec returns returns-2 returns-3)

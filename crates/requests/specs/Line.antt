@@ -1,0 +1,147 @@
+-- A request of `cover` as a line: `KIND MIN MAX MOD MAX_CELLS REGION [allow=N] [out=N] [mem=N]`, the options in any order.
+use mathlib.Core.Bool.{true, false}
+use mathlib.Core.List.{List, [], _∷_}
+use Prim.Native.Nat.{ℕ, _+_, _%_}
+use lib.Dec.{leb, ltb, eqb}
+use lib.Ieee.{Float, binary64, ofBits}
+use lib.ListN.{length, getD, take, drop, set}
+use Rattle.text.specs.Ascii.{ascii}
+use Rattle.text.specs.declared.Base.{Base}
+use Rattle.text.specs.declared.Fault.{Fault}
+use Rattle.text.specs.declared.Place.{Place}
+use Rattle.text.specs.Text.{until, fieldAt, bytesOf, isThere, placeAmong, numberIn, numberAfter, numbersAfter, choiceAfter, endAfter, startOf}
+use Rattle.point.specs.declared.Point.{Point}
+use Rattle.cell.specs.declared.Cap.{Cap}
+use Rattle.region.specs.declared.Region.{Region}
+use Rattle.covering.specs.declared.Ending.{Ending}
+use Rattle.requests.specs.declared.line.CovererRead.{CovererRead}
+use Rattle.requests.specs.declared.line.Four.{Four}
+use Rattle.requests.specs.declared.line.RegionRead.{RegionRead}
+use Rattle.requests.specs.declared.line.Options.{Options}
+use Rattle.requests.specs.declared.line.Request.{Request}
+
+-- ---- KIND: a list of the outer run, the same of the inner run, or the fast covering
+
+abbrev pub kinds : List ℕ
+kinds = ascii "covering cellunion raw interior icellunion iraw fast"
+
+unfoldable pub endingOf : ℕ → Ending
+endingOf k = getD (Ending.Covering ∷ Ending.CellUnion ∷ []) (k % 3) Ending.Raw
+
+-- ---- MIN MAX MOD MAX_CELLS
+
+-- four numbers, and the place after them
+unfoldable pub fourAfter : Base → List ℕ → Place → Four
+fourAfter base l p = let n = numbersAfter base 4 l p in record { values = n .values; after = n .after }
+
+unfoldable pub covererAfter : List ℕ → Place → CovererRead
+covererAfter l p =
+    let n = fourAfter Base.Ten l p in
+    record {
+      coverer =
+          record {
+            «min_level» = getD (n .values) 0 0;
+            «max_level» = getD (n .values) 1 0;
+            «level_mod» = getD (n .values) 2 0;
+            «max_cells» = getD (n .values) 3 0;
+          };
+      after = n .after;
+    }
+
+-- ---- REGION: `cap X Y Z R` or `cell ID`
+
+-- "Floats are the 16 hex digits of their bits"
+abbrev pub float : ℕ → Float
+float b = ofBits binary64 b
+
+unfoldable pub pointOf : ℕ → ℕ → ℕ → Point
+pointOf x y z = record { x = float x; y = float y; z = float z }
+
+unfoldable pub capOf : ℕ → ℕ → ℕ → ℕ → Cap
+capOf x y z r = record { center = pointOf x y z; radius = float r }
+
+unfoldable pub capAfter : List ℕ → Place → RegionRead
+capAfter l p =
+    let v = fourAfter Base.Sixteen l p in
+    record { region = Region.Cap (capOf (getD (v .values) 0 0) (getD (v .values) 1 0) (getD (v .values) 2 0) (getD (v .values) 3 0)); after = v .after }
+
+unfoldable pub cellAfter : List ℕ → Place → RegionRead
+cellAfter l p = let id = numberAfter Base.Sixteen 0xffff_ffff_ffff_ffff l p in record { region = Region.Cell (id .value); after = id .after }
+
+abbrev pub regions : List ℕ
+regions = ascii "cap cell"
+
+unfoldable pub regionAfter : List ℕ → Place → RegionRead
+regionAfter l p =
+    let which = choiceAfter regions 2 Fault.UnknownRegion l p in
+    elim (eqb (which .value) 0) [ true ↦ capAfter l (which .after) | false ↦ cellAfter l (which .after) ]
+
+-- ---- options: the allowance, the places of output, the words of working memory
+
+abbrev pub keys : List ℕ
+keys = ascii "allow= out= mem="
+
+-- the most that each may be
+unfoldable pub mostOf : ℕ → ℕ
+mostOf k = getD (4294967295 ∷ 65536 ∷ []) k 8192
+
+-- what stands for an option that is not given: more than any may be
+abbrev pub none : ℕ
+none = 0xffff_ffff_ffff_ffff
+
+unfoldable pub valueOr : ℕ → ℕ → ℕ
+valueOr default v = elim (eqb v none) [ true ↦ default | false ↦ v ]
+
+-- a fault among the options
+unfoldable pub badOption : Options → Fault → Options
+badOption o f = record { values = o .values; after = Place.Bad f }
+
+-- the k-th option, with the digits that spell its number; it is given once
+unfoldable pub optionGiven : ℕ → List ℕ → ℕ → Options → Options
+optionGiven k digits next o =
+    let n = numberIn Base.Ten (mostOf k) next digits in
+    elim (eqb (getD (o .values) k 0) none) [
+      | true ↦ record { values = set (o .values) k (n .value); after = n .after }
+      | false ↦ badOption o Fault.RepeatedOption
+    ]
+
+-- the option that a field is: a key, which ends with its first = (61), and a number
+unfoldable pub optionOf : List ℕ → ℕ → Options → Options
+optionOf w next o = elim (ltb (until 61 w) (length w)) [
+  | false ↦ badOption o Fault.ExtraField
+  | true ↦
+      let k = placeAmong 3 keys 0 (take (until 61 w + 1) w) in
+      elim (ltb k 3) [ true ↦ optionGiven k (drop (until 61 w + 1) w) next o | false ↦ badOption o Fault.ExtraField ]
+]
+
+-- one option more, if there is one
+unfoldable pub optionFrom : List ℕ → Place → Options → Options
+optionFrom l (Place.Bad f) o = o
+optionFrom l (Place.At at) o = elim (isThere (fieldAt l at)) [ true ↦ optionOf (bytesOf l (fieldAt l at)) (fieldAt l at .end) o | false ↦ o ]
+
+abbrev pub nextOption : List ℕ → Options → Options
+nextOption l o = optionFrom l (o .after) o
+
+-- three options at most; a fourth field is a fault, and which it is is told by its own turn
+unfoldable pub optionsAfter : List ℕ → Place → Options
+optionsAfter l p = nextOption l (nextOption l (nextOption l (nextOption l (record { values = none ∷ none ∷ none ∷ []; after = p }))))
+
+-- ---- a request: one part after another; the place after it is a fault's where the line is no request
+
+unfoldable pub requestOf : List ℕ → Request
+requestOf l =
+    let kind = choiceAfter kinds 7 Fault.UnknownKind l (startOf l) in
+    let c = covererAfter l (kind .after) in
+    let g = regionAfter l (c .after) in
+    let o = optionsAfter l (g .after) in
+    record {
+      ending = endingOf (kind .value);
+      inner = leb 3 (kind .value);
+      fast = eqb (kind .value) 6;
+      coverer = c .coverer;
+      region = g .region;
+      allowance = valueOr 4294967295 (getD (o .values) 0 0);
+      out = valueOr 65536 (getD (o .values) 1 0);
+      mem = valueOr 4096 (getD (o .values) 2 0);
+      after = endAfter l (o .after);
+    }

@@ -1,0 +1,284 @@
+// A request of `cover` as a line: `KIND MIN MAX MOD MAX_CELLS REGION [allow=N] [out=N] [mem=N]`, the options in any order. Any numbers and any bits of
+// floats are taken: whoever answers the request tests its domain.
+ghost use mathlib.Core.Path.{_≡_};
+ghost use Prim.Native.Nat.{_<_};
+ghost use Rattle.text.specs.Text.{choiceAfter};
+ghost use Rattle.text.specs.declared.Fault.{Fault};
+ghost use Rattle.requests.specs.Line.{kinds, regions, endingOf, fourAfter, covererAfter, pointOf, capOf, capAfter, cellAfter, regionAfter, mostOf, valueOr, badOption, optionGiven, optionOf, nextOption, optionsAfter, requestOf};
+use cell::Cap;
+use covering::Ending;
+use fast::RegionCoverer;
+use point::Point;
+use region::Region;
+use text::Base;
+use text::Fault;
+use text::Place;
+use text::Read;
+
+// Four numbers, and the place after them.
+pub struct Four {
+    pub values: [u64; 4],
+    pub after: Place,
+}
+
+// The four numbers of a request, and the place after them.
+pub struct CovererRead {
+    pub coverer: RegionCoverer,
+    pub after: Place,
+}
+
+// A region, and the place after it.
+pub struct RegionRead {
+    pub region: Region,
+    pub after: Place,
+}
+
+// The options that were given, in the order allow, out, mem, and the place after them; u64::MAX stands for one that was not.
+pub struct Options {
+    pub values: [u64; 3],
+    pub after: Place,
+}
+
+// A request: the list that is asked for, of the outer or of the inner run, or the fast covering; and the line's end, or what is wrong with the line.
+pub struct Request {
+    pub ending: Ending,
+    pub inner: bool,
+    pub fast: bool,
+    pub coverer: RegionCoverer,
+    pub region: Region,
+    pub allowance: u64,
+    pub out: u64,
+    pub mem: u64,
+    pub after: Place,
+}
+
+// The word for what is asked, counted from 0.
+fn read_kind(line: &[u8], p: Place) -> Read
+    ensures { λ r. ⌜ r ≡ choiceAfter kinds 7 Fault.UnknownKind (now (line .entry)) p ⌝ }
+{
+    let words = b"covering cellunion raw interior icellunion iraw fast";
+    text::read_choice(line, p, words, 7, Fault::UnknownKind)
+}
+
+// The list that a word asks for.
+fn ending_of(k: u64) -> Ending
+    ensures { λ r. ⌜ r ≡ endingOf k ⌝ }
+{
+    match k % 3 {
+        0 => Ending::Covering,
+        1 => Ending::CellUnion,
+        _ => Ending::Raw,
+    }
+}
+
+fn read_four(line: &[u8], p: Place, base: Base) -> Four
+    ensures { λ r. ⌜ r ≡ fourAfter base (now (line .entry)) p ⌝ }
+{
+    let mut values = [0u64; 4];
+    let after = text::read_numbers(line, p, base, &mut values);
+    Four { values, after }
+}
+
+// `MIN MAX MOD MAX_CELLS`.
+pub fn read_coverer(line: &[u8], p: Place) -> CovererRead
+    ensures { λ r. ⌜ r ≡ covererAfter (now (line .entry)) p ⌝ }
+{
+    let n = read_four(line, p, Base::Ten);
+    let v = n.values;
+    let after = n.after;
+    let coverer = RegionCoverer {
+        min_level: v[0],
+        max_level: v[1],
+        level_mod: v[2],
+        max_cells: v[3],
+    };
+    CovererRead { coverer, after }
+}
+
+// The point of three bit patterns.
+fn point_of(x: u64, y: u64, z: u64) -> Point
+    ensures { λ r. ⌜ r ≡ pointOf x y z ⌝ }
+{
+    Point {
+        x: text::float_of_bits(x),
+        y: text::float_of_bits(y),
+        z: text::float_of_bits(z),
+    }
+}
+
+// The cap of a centre and a squared chord radius.
+pub fn cap_of(x: u64, y: u64, z: u64, r: u64) -> Cap
+    ensures { λ c. ⌜ c ≡ capOf x y z r ⌝ }
+{
+    let center = point_of(x, y, z);
+    Cap {
+        center,
+        radius: text::float_of_bits(r),
+    }
+}
+
+// `X Y Z R`.
+fn read_cap(line: &[u8], p: Place) -> RegionRead
+    ensures { λ r. ⌜ r ≡ capAfter (now (line .entry)) p ⌝ }
+{
+    let n = read_four(line, p, Base::Sixteen);
+    let v = n.values;
+    let after = n.after;
+    let region = Region::Cap(cap_of(v[0], v[1], v[2], v[3]));
+    RegionRead { region, after }
+}
+
+// `ID`.
+fn read_cell(line: &[u8], p: Place) -> RegionRead
+    ensures { λ r. ⌜ r ≡ cellAfter (now (line .entry)) p ⌝ }
+{
+    let id = text::read_number(line, p, Base::Sixteen, u64::MAX);
+    let after = id.after;
+    let region = Region::Cell(id.value);
+    RegionRead { region, after }
+}
+
+// The word for a region, counted from 0.
+fn read_shape(line: &[u8], p: Place) -> Read
+    ensures { λ r. ⌜ r ≡ choiceAfter regions 2 Fault.UnknownRegion (now (line .entry)) p ⌝ }
+{
+    text::read_choice(line, p, b"cap cell", 2, Fault::UnknownRegion)
+}
+
+// `cap X Y Z R` or `cell ID`.
+pub fn read_region(line: &[u8], p: Place) -> RegionRead
+    ensures { λ r. ⌜ r ≡ regionAfter (now (line .entry)) p ⌝ }
+{
+    let which = read_shape(line, p);
+    let after = which.after;
+    if which.value == 0 {
+        return read_cap(line, after);
+    }
+    read_cell(line, after)
+}
+
+// The most that the k-th option may be.
+fn most_of(k: u64) -> u64
+    ensures { λ r. ⌜ r ≡ mostOf k ⌝ }
+{
+    match k {
+        0 => 4294967295,
+        1 => 65536,
+        _ => 8192,
+    }
+}
+
+fn bad_option(o: Options, f: Fault) -> Options
+    ensures { λ r. ⌜ r ≡ badOption o f ⌝ }
+{
+    let values = o.values;
+    Options {
+        values,
+        after: Place::Bad(f),
+    }
+}
+
+// The k-th option, with the digits that spell its number.
+fn option_given(k: u64, digits: &[u8], next: usize, o: Options) -> Options
+    requires { ⌜ k < 3 ⌝ }
+    ensures { λ r. ⌜ r ≡ optionGiven k (now (digits .entry)) next o ⌝ }
+{
+    let mut values = o.values;
+    let i = k as usize;
+    if values[i] == u64::MAX {
+        let n = text::read_bytes(digits, Base::Ten, most_of(k), next);
+        values[i] = n.value;
+        let after = n.after;
+        return Options { values, after };
+    }
+    bad_option(o, Fault::RepeatedOption)
+}
+
+// The option that a field is: a key, which ends with its first `=`, and a number.
+fn option_of(field: &[u8], next: usize, o: Options) -> Options
+    ensures { λ r. ⌜ r ≡ optionOf (now (field .entry)) next o ⌝ }
+{
+    let e = text::find(field, b'=');
+    if e < field.len() {
+        let from = e + 1;
+        let k = text::place_among(&field[..from], b"allow= out= mem=", 3);
+        if k < 3 {
+            return option_given(k, &field[from..], next, o);
+        }
+        return bad_option(o, Fault::ExtraField);
+    }
+    bad_option(o, Fault::ExtraField)
+}
+
+// One option more, if there is one.
+fn next_option(line: &[u8], o: Options) -> Options
+    ensures { λ r. ⌜ r ≡ nextOption (now (line .entry)) o ⌝ }
+{
+    let after = o.after;
+    match after {
+        Place::At(at) => {
+            let f = text::read_field(line, at);
+            let start = f.start;
+            let end = f.end;
+            if start < end {
+                return option_of(&line[start..end], end, o);
+            }
+            o
+        }
+        Place::Bad(_) => o,
+    }
+}
+
+// The options: three at most, each once. A fourth field is a fault, and which it is is told by its own turn.
+fn read_options(line: &[u8], p: Place) -> Options
+    ensures { λ r. ⌜ r ≡ optionsAfter (now (line .entry)) p ⌝ }
+{
+    let none = Options {
+        values: [u64::MAX; 3],
+        after: p,
+    };
+    let one = next_option(line, none);
+    let two = next_option(line, one);
+    let three = next_option(line, two);
+    next_option(line, three)
+}
+
+// An option's value, or its default where it was not given.
+fn value_or(default: u64, v: u64) -> u64
+    ensures { λ r. ⌜ r ≡ valueOr default v ⌝ }
+{
+    if v == u64::MAX {
+        return default;
+    }
+    v
+}
+
+// The request that a line is.
+pub fn read_request(line: &[u8]) -> Request
+    ensures { λ r. ⌜ r ≡ requestOf (now (line .entry)) ⌝ }
+{
+    let start = text::read_start(line);
+    let kind = read_kind(line, start);
+    let pk = kind.after;
+    let c = read_coverer(line, pk);
+    let pc = c.after;
+    let g = read_region(line, pc);
+    let pg = g.after;
+    let o = read_options(line, pg);
+    let po = o.after;
+    let coverer = c.coverer;
+    let region = g.region;
+    let values = o.values;
+    let after = text::read_end(line, po);
+    Request {
+        ending: ending_of(kind.value),
+        inner: 3 <= kind.value,
+        fast: kind.value == 6,
+        coverer,
+        region,
+        allowance: value_or(4294967295, values[0]),
+        out: value_or(65536, values[1]),
+        mem: value_or(4096, values[2]),
+        after,
+    }
+}

@@ -1,0 +1,290 @@
+-- Laws of `specs/Text.antt`: loops over bytes, words and numbers, one after another, and what a field comes to, there or not.
+use mathlib.Core.Path.{_≡_, refl, sym, ap, _∙_}
+use mathlib.Core.Bool.{Bool, true, false, _&&_}
+use mathlib.Core.List.{List, [], _∷_, _++_, append-assoc, append-nil}
+use Prim.Native.Nat.{ℕ, zero, suc, _+_, _-_, _≤_, _<_}
+use native.Mathlib.Omega.{arith}
+use native.Mathlib.Numerals.{add-one}
+use native.Mathlib.Decide.{decLt}
+use mathlib.Core.Logic.{by-cases}
+use native.Mathlib.Nat.{add-zero, zero-add, sub-zero}
+use lib.Dec.{leb, ltb, eqb}
+use lib.ListN.{length, getD, take, drop, set, drop-of-length-le, length-set}
+use lib.Seq.{drop-cons, take-suc-set, take-all, length-take-le}
+use borrow.Author.Tests.{lt-ltb, le-ltb, le-leb, lt-leb, eq-eqb, ne-eqb}
+use Rattle.text.specs.declared.Base.{Base}
+use Rattle.text.specs.declared.Fault.{Fault}
+use Rattle.text.specs.declared.Field.{Field}
+use Rattle.text.specs.declared.Place.{Place}
+use Rattle.text.specs.declared.Read.{Read}
+use Rattle.text.specs.Text.{allDigits, valueFrom, isThere, until, fieldAt, fieldNo, bytesOf, same, placeAmong, faulty, limited, numberOf, numberIn, numberAfter, numbersAfter, listAfter, ReadList, chosen, choiceAfter, endAfter, isPlain, allPlain, isSilent}
+use Rattle.text.proofs.Laws.{limited-over, limited-in}
+
+-- ---- bytes
+
+pub until-stop : (b : ℕ) (l : List ℕ) (i : ℕ) → i < length l → getD l i 0 ≡ b → i + until b (drop i l) ≡ i
+unfolding until
+until-stop b l i h e = rw (drop-cons l i 0 h, until, eq-eqb _ _ e, add-zero)
+
+pub until-on : (b : ℕ) (l : List ℕ) (i : ℕ) → i < length l → (getD l i 0 ≡ b → ⊥) → i + until b (drop i l) ≡ (i + 1) + until b (drop (i + 1) l)
+unfolding until
+until-on b l i h e = rw (drop-cons l i 0 h, until, ne-eqb _ _ e, add-one i) (omega arith)
+
+pub until-end : (b : ℕ) (l : List ℕ) (i : ℕ) → length l ≤ i → i + until b (drop i l) ≡ i
+unfolding until
+until-end b l i h = rw (drop-of-length-le l h, until, add-zero)
+
+plain-go : (l : List ℕ) (i : ℕ) → i < length l → allPlain (drop i l) ≡ (isPlain (getD l i 0) && allPlain (drop (i + 1) l))
+unfolding allPlain
+plain-go l i h = rw (drop-cons l i 0 h, allPlain, add-one i)
+
+pub plain-zero : (l : List ℕ) (i : ℕ) → i < length l → getD l i 0 ≡ 0 → allPlain (drop i l) ≡ false
+unfolding isPlain
+plain-zero l i h e = rw (plain-go l i h, isPlain, e)
+
+pub plain-high : (l : List ℕ) (i : ℕ) → i < length l → 127 < getD l i 0 → allPlain (drop i l) ≡ false
+unfolding isPlain
+plain-high l i h e = rw (plain-go l i h, isPlain, lt-ltb 0 (getD l i 0) (omega arith), lt-leb _ _ e)
+
+pub plain-on : (l : List ℕ) (i : ℕ) → i < length l → (getD l i 0 ≡ 0 → ⊥) → getD l i 0 ≤ 127 → allPlain (drop i l) ≡ allPlain (drop (i + 1) l)
+unfolding isPlain
+plain-on l i h n e = rw (plain-go l i h, isPlain, lt-ltb 0 (getD l i 0) (omega arith), le-leb _ _ e)
+
+pub plain-end : (l : List ℕ) (i : ℕ) → length l ≤ i → allPlain (drop i l) ≡ true
+unfolding allPlain
+plain-end l i h = rw (drop-of-length-le l h)
+
+same-go : (a b : List ℕ) (i : ℕ) → i < length a → i < length b → same (drop i a) (drop i b) ≡ (eqb (getD a i 0) (getD b i 0) && same (drop (i + 1) a) (drop (i + 1) b))
+unfolding same
+same-go a b i h g = rw (drop-cons a i 0 h, drop-cons b i 0 g, same, add-one i)
+
+pub same-on : (a b : List ℕ) (i : ℕ) → i < length a → i < length b → getD a i 0 ≡ getD b i 0 → same (drop i a) (drop i b) ≡ same (drop (i + 1) a) (drop (i + 1) b)
+same-on a b i h g e = rw (same-go a b i h g, eq-eqb _ _ e)
+
+pub same-differ : (a b : List ℕ) (i : ℕ) → i < length a → i < length b → (getD a i 0 ≡ getD b i 0 → ⊥) → same (drop i a) (drop i b) ≡ false
+same-differ a b i h g e = rw (same-go a b i h g, ne-eqb _ _ e)
+
+pub same-short : (a b : List ℕ) (i : ℕ) → i < length a → length b ≤ i → same (drop i a) (drop i b) ≡ false
+unfolding same
+same-short a b i h g = rw (drop-cons a i 0 h, drop-of-length-le b g)
+
+pub same-end : (a b : List ℕ) (i : ℕ) → length a ≤ i → same (drop i a) (drop i b) ≡ leb (length b) i
+unfolding same
+same-end a b i h = by-cases (decLt i (length b))
+    (λ g. rw (drop-of-length-le a h, drop-cons b i 0 g, lt-leb (length b) i g))
+    (λ g.
+    let k : length b ≤ i = omega arith in
+    rw (drop-of-length-le a h, drop-of-length-le b k, le-leb (length b) i k))
+
+same-none : (w : List ℕ) → same w [] ≡ eqb (length w) 0
+unfolding same
+same-none [] = refl
+same-none (x ∷ w) = sym (ne-eqb (suc (length w)) 0 (λ z. omega arith))
+
+-- ---- words
+
+take-none : (n : ℕ) (l : List ℕ) → n ≡ 0 → take n l ≡ []
+take-none n l e = rw e
+
+module _ (w words : List ℕ) (at : ℕ) (f : Field) (e : f ≡ fieldAt words at) where
+  pub word-there : (r : Bool) → r ≡ same w (bytesOf words f) → r ≡ same w (bytesOf words (fieldAt words at))
+  word-there r h = rw (← e) h
+
+  pub word-none : f .end ≤ f .start → eqb (length w) 0 ≡ same w (bytesOf words (fieldAt words at))
+  unfolding bytesOf
+  word-none h = rw (← e, bytesOf, take-none (f .end - f .start) _ (omega arith)) (sym (same-none w))
+
+pub place-start : (count : ℕ) (words w : List ℕ) → placeAmong count words 0 w ≡ 0 + placeAmong (count - 0) words 0 w
+place-start count words w = rw (sub-zero, zero-add)
+
+module _ (words w : List ℕ) (at : ℕ) where
+  first : (n : ℕ) → 0 < n → same w (bytesOf words (fieldAt words at)) ≡ true → placeAmong n words at w ≡ 0
+  unfolding placeAmong
+  first zero h e = absurd (omega arith)
+  first (suc n) h e = rw (placeAmong, e)
+
+  pub place-found : (count k : ℕ) → k < count → same w (bytesOf words (fieldAt words at)) ≡ true → k + placeAmong (count - k) words at w ≡ k
+  place-found count k h e = rw (first (count - k) (omega arith) e, add-zero)
+
+  next : (n : ℕ) → same w (bytesOf words (fieldAt words at)) ≡ false → placeAmong (suc n) words at w ≡ suc (placeAmong n words (fieldAt words at .end) w)
+  unfolding placeAmong
+  next n e = rw (placeAmong, e)
+
+  pub place-on : (count k end : ℕ) → k < count → same w (bytesOf words (fieldAt words at)) ≡ false → end ≡ fieldAt words at .end
+      → k + placeAmong (count - k) words at w ≡ (k + 1) + placeAmong (count - (k + 1)) words end w
+  place-on count k end h e d =
+      let n : count - k ≡ suc (count - (k + 1)) = omega arith in
+      rw (n, next (count - (k + 1)) e, d) (omega arith)
+
+  pub place-end : (count k : ℕ) → count ≤ k → k + placeAmong (count - k) words at w ≡ k
+  unfolding placeAmong
+  place-end count k h =
+      let n : count - k ≡ 0 = omega arith in
+      rw (n, placeAmong, add-zero)
+
+pub field-on : (k : ℕ) (l : List ℕ) (at end : ℕ) → 0 < k → end ≡ fieldAt l at .end → fieldNo k l at ≡ fieldNo (k - 1) l end
+unfolding fieldNo
+field-on zero l at end h e = absurd (omega arith)
+field-on (suc k) l at end h e =
+    let n : suc k - 1 ≡ k = omega arith in
+    rw (n, fieldNo, e)
+
+pub field-here : (k : ℕ) (l : List ℕ) (at : ℕ) (f : Field) → k ≤ 0 → f ≡ fieldAt l at → f ≡ fieldNo k l at
+unfolding fieldNo
+field-here zero l at f h e = e
+field-here (suc k) l at f h e = absurd (omega arith)
+
+-- ---- the next field, there or not
+
+module _ (l : List ℕ) (p : Place) (at : ℕ) (f : Field) (here : p ≡ Place.At at) (e : f ≡ fieldAt l at) where
+  module _ (base : Base) (limit : ℕ) where
+    pub number-there : (r : Read) → f .start < f .end → r ≡ numberIn base limit (f .end) (bytesOf l f) → r ≡ numberAfter base limit l p
+    unfolding numberAfter
+    number-there r h d = rw (here, numberAfter, ← e, lt-ltb _ _ h, ← e) d
+
+    pub number-missing : f .end ≤ f .start → faulty Fault.MissingField ≡ numberAfter base limit l p
+    unfolding numberAfter
+    number-missing h = rw (here, numberAfter, ← e, le-ltb _ _ h)
+
+  pub end-extra : f .start < f .end → Place.Bad Fault.ExtraField ≡ endAfter l p
+  unfolding endAfter
+  end-extra h = rw (here, endAfter, ← e, lt-ltb _ _ h)
+
+  pub end-none : f .end ≤ f .start → Place.At at ≡ endAfter l p
+  unfolding endAfter
+  end-none h = rw (here, endAfter, ← e, le-ltb _ _ h)
+
+  module _ (words : List ℕ) (count : ℕ) (fault : Fault) where
+    choice-there : f .start < f .end → chosen count fault (placeAmong count words 0 (bytesOf l f)) (f .end) ≡ choiceAfter words count fault l p
+    unfolding choiceAfter
+    choice-there h = rw (here, choiceAfter, ← e, lt-ltb _ _ h, ← e)
+
+    pub choice-one : f .start < f .end → (k : ℕ) → k ≡ placeAmong count words 0 (bytesOf l f) → k < count → record { value = k; after = Place.At (f .end) } ≡ choiceAfter words count fault l p
+    unfolding chosen
+    choice-one h k d g = rw (← choice-there h, ← d, chosen, lt-ltb _ _ g, ← d)
+
+    pub choice-other : f .start < f .end → (k : ℕ) → k ≡ placeAmong count words 0 (bytesOf l f) → count ≤ k → faulty fault ≡ choiceAfter words count fault l p
+    unfolding chosen
+    choice-other h k d g = rw (← choice-there h, ← d, chosen, le-ltb _ _ g)
+
+    pub choice-missing : f .end ≤ f .start → faulty Fault.MissingField ≡ choiceAfter words count fault l p
+    unfolding choiceAfter
+    choice-missing h = rw (here, choiceAfter, ← e, le-ltb _ _ h)
+
+-- ---- numbers, one after another
+
+-- the numbers that stand in the first places, with those that are still to be read, are all
+pub record Filling (base : Base) (l : List ℕ) (n : ℕ) (p : Place) (i : ℕ) (at : Place) (m : List ℕ) : Type 0 where
+  pub size : length m ≡ n
+  pub values : take i m ++ numbersAfter base (n - i) l at .values ≡ numbersAfter base n l p .values
+  pub after : numbersAfter base (n - i) l at .after ≡ numbersAfter base n l p .after
+
+module _ (base : Base) (l : List ℕ) where
+  pub filling-start : (p : Place) (m : List ℕ) → Filling base l (length m) p 0 p m
+  filling-start p m = record { size = refl; values = rw sub-zero; after = rw sub-zero }
+
+  module _ (k : ℕ) (at : Place) (r : Read) (e : r ≡ numberAfter base 0xffff_ffff_ffff_ffff l at) where
+    more-values : numbersAfter base (suc k) l at .values ≡ r .value ∷ numbersAfter base k l (r .after) .values
+    unfolding numbersAfter
+    more-values = rw e
+
+    more-after : numbersAfter base (suc k) l at .after ≡ numbersAfter base k l (r .after) .after
+    unfolding numbersAfter
+    more-after = rw e
+
+  pub filling-on : (n : ℕ) (p : Place) (i : ℕ) (at : Place) (m : List ℕ) (r : Read) → i < n → r ≡ numberAfter base 0xffff_ffff_ffff_ffff l at → Filling base l n p i at m
+      → Filling base l n p (i + 1) (r .after) (set m i (r .value))
+  filling-on n p i at m r h e F =
+      let k : n - i ≡ suc (n - (i + 1)) = omega arith in
+      let t : take (i + 1) (set m i (r .value)) ≡ take i m ++ (r .value ∷ []) = rw (add-one i) (take-suc-set m i (r .value) (omega (arith, F .size))) in
+      record {
+        size = length-set m i (r .value) ∙ F .size;
+        values = rw (t, append-assoc, ← more-values (n - (i + 1)) at r e, ← k) (F .values);
+        after = rw (← more-after (n - (i + 1)) at r e, ← k) (F .after);
+      }
+
+  none-left : (k : ℕ) (at : Place) → k ≡ 0 → numbersAfter base k l at ≡ record { values = []; after = at }
+  unfolding numbersAfter
+  none-left k at e = rw (e, numbersAfter)
+
+  pub filling-end : (n : ℕ) (p : Place) (i : ℕ) (at : Place) (m : List ℕ) → n ≤ i → Filling base l n p i at m
+      → (at ≡ numbersAfter base n l p .after) × (m ≡ numbersAfter base n l p .values)
+  filling-end n p i at m h F =
+      let z : numbersAfter base (n - i) l at ≡ record { values = []; after = at } = none-left (n - i) at (omega arith) in
+      let t : take i m ≡ m = take-all i m (omega (arith, F .size)) in
+      (rw z at (F .after), rw (z, append-nil, t) at (F .values))
+
+-- ---- a list
+
+abbrev Most : ℕ → Read → Type 0
+Most k r = r .value ≤ k
+
+pick : (t : Bool) (a b : Read) (k : ℕ) → Most k a → Most k b → Most k (elim t [ true ↦ a | false ↦ b ])
+pick true a b k p q = p
+pick false a b k p q = q
+
+faulty-most : (f : Fault) (k : ℕ) → Most k (faulty f)
+unfolding faulty
+faulty-most f k = omega arith
+
+limited-most : (limit next n : ℕ) → Most limit (limited limit next n)
+limited-most limit next n = by-cases (decLt limit n)
+    (λ h. rw (limited-over limit next n h) (faulty-most Fault.TooLarge limit))
+    (λ h.
+    let g : n ≤ limit = omega arith in
+    rw (limited-in limit next n g) g)
+
+number-most : (base fewest most limit next : ℕ) (l : List ℕ) → Most limit (numberOf base fewest most limit next l)
+unfolding numberOf
+number-most base fewest most limit next l =
+    let bad = faulty-most Fault.NotANumber limit in
+    pick (eqb (length l) 0) _ _ limit bad
+    (pick (allDigits base l) _ _ limit
+    (pick (ltb (length l) fewest) _ _ limit (faulty-most Fault.TooFewDigits limit)
+    (pick (ltb most (length l)) _ _ limit (faulty-most Fault.TooManyDigits limit) (limited-most limit next (valueFrom base 0 l))))
+    bad)
+
+in-most : (base : Base) (limit next : ℕ) (l : List ℕ) → Most limit (numberIn base limit next l)
+unfolding numberIn
+in-most Base.Ten limit next l = number-most 10 1 20 limit next l
+in-most Base.Sixteen limit next l = number-most 16 16 16 limit next l
+
+-- a number that was read is at most its limit
+read-most : (base : Base) (limit : ℕ) (l : List ℕ) (p : Place) → Most limit (numberAfter base limit l p)
+unfolding numberAfter
+read-most base limit l (Place.Bad f) = faulty-most f limit
+read-most base limit l (Place.At at) =
+    pick (isThere (fieldAt l at)) _ _ limit (in-most base limit (fieldAt l at .end) (bytesOf l (fieldAt l at))) (faulty-most Fault.MissingField limit)
+
+-- as many values as are asked for
+numbers-length : (base : Base) (n : ℕ) (l : List ℕ) (p : Place) → length (numbersAfter base n l p .values) ≡ n
+unfolding numbersAfter
+numbers-length base zero l p = refl
+numbers-length base (suc n) l p = ap suc (numbers-length base n l (numberAfter base 0xffff_ffff_ffff_ffff l p .after))
+
+module _ (l : List ℕ) (p : Place) (m : List ℕ) (n : Read) (e : n ≡ numberAfter Base.Ten (length m) l p) where
+  pub list-fits : n .value ≤ length m
+  list-fits = rw e (read-most Base.Ten (length m) l p)
+
+  pub list-read : (part : List ℕ) (after : Place) → (after ≡ numbersAfter Base.Sixteen (length (take (n .value) m)) l (n .after) .after) × (part ≡ numbersAfter Base.Sixteen (length (take (n .value) m)) l (n .after) .values)
+      → ReadList (listAfter (length m) l p) (record { value = n .value; after = after }) m (part ++ drop (n .value) m)
+  unfolding listAfter
+  list-read part after = rw (length-take-le (n .value) m list-fits) (λ h.
+      let w : numbersAfter Base.Sixteen (n .value) l (n .after) ≡ listAfter (length m) l p = rw e in
+      let k : length (listAfter (length m) l p .values) ≡ n .value = rw (← w) (numbers-length Base.Sixteen (n .value) l (n .after)) in
+      record { count = sym k; place = rw (← w) (h .0); words = rw (k, ← w, h .1) })
+
+-- ---- a line that asks nothing
+
+module _ (l : List ℕ) (f : Field) (e : f ≡ fieldAt l 0) where
+  pub silent-remark : f .start < f .end → getD l 0 0 ≡ 35 → allPlain l ≡ isSilent l
+  unfolding isSilent
+  silent-remark h g = rw (isSilent, ← e, lt-ltb _ _ h, eq-eqb _ _ g)
+
+  pub silent-asks : f .start < f .end → (getD l 0 0 ≡ 35 → ⊥) → false ≡ isSilent l
+  unfolding isSilent
+  silent-asks h g = rw (isSilent, ← e, lt-ltb _ _ h, ne-eqb _ _ g)
+
+  pub silent-blank : f .end ≤ f .start → allPlain l ≡ isSilent l
+  unfolding isSilent
+  silent-blank h = rw (isSilent, ← e, le-ltb _ _ h)
