@@ -1,5 +1,5 @@
 -- Laws of candidates and of the machine's masks.
-use mathlib.Core.Path.{_≡_, refl}
+use mathlib.Core.Path.{_≡_}
 use mathlib.Core.Bool.{Bool}
 use Prim.Native.Nat.{ℕ, _+_, _-_, _*_, _%_, _^_, _≤_, _<_}
 use native.Mathlib.Nat.{mul-le-mul-right}
@@ -9,11 +9,10 @@ use lib.Bits.{bitOr, or-shifted-r}
 use Rattle.cellid.specs.CellId.{Cell, levelOf, childOf}
 use Rattle.cellid.proofs.Leaves.{child-cell}
 use Rattle.cellid.proofs.Laws.{cell-pos, level-cell, one-shl}
-use Rattle.run.specs.Run.{Request, Look, fails, none, terminal, divide}
-use Rattle.run.specs.Masks.{foundAt, upTo}
+use Rattle.run.specs.Run.{Request}
+use Rattle.run.specs.Masks.{upTo}
 use Rattle.run.proofs.Masks.{Small, branch, branch-small, found-small, up-small}
-use Rattle.candidate.specs.declared.Candidate.{Candidate}
-use Rattle.candidate.specs.Candidate.{candidateOf, Roomy}
+use Rattle.candidate.specs.Candidate.{Roomy}
 
 pub positive : (id : ℕ) → Cell id → 0 < id
 positive id c = cell-pos id (c .0) (c .1) (c .2)
@@ -24,29 +23,6 @@ child-of id k left c g s h =
     let l : levelOf id ≡ c .0 = level-cell id (c .0) (c .1) (c .2) in
     let d = child-cell k (c .2) (omega arith) g in
     ((c .0 + 1, 4 * c .1 + k, d), omega (arith, level-cell (childOf id k) (c .0 + 1) (4 * c .1 + k) d))
-
--- ---- one cell's sets, from what the candidate is
-
-pub kept-sets : (v : Look) → candidateOf v ≡ Candidate.Kept → foundAt v ≡ record { present = 1; terminal = 1 }
-unfolding candidateOf foundAt
-kept-sets fails e = let z : _≡_ {A = ℕ} 0 1 = cc in absurd (omega arith)
-kept-sets none e = let z : _≡_ {A = ℕ} 0 1 = cc in absurd (omega arith)
-kept-sets terminal e = refl
-kept-sets divide e = let z : _≡_ {A = ℕ} 0 1 = cc in absurd (omega arith)
-
-pub queued-sets : (v : Look) → candidateOf v ≡ Candidate.Queued → foundAt v ≡ record { present = 1; terminal = 0 }
-unfolding candidateOf foundAt
-queued-sets fails e = let z : _≡_ {A = ℕ} 0 1 = cc in absurd (omega arith)
-queued-sets none e = let z : _≡_ {A = ℕ} 0 1 = cc in absurd (omega arith)
-queued-sets terminal e = let z : _≡_ {A = ℕ} 0 1 = cc in absurd (omega arith)
-queued-sets divide e = refl
-
-pub none-sets : (v : Look) → candidateOf v ≡ Candidate.None → foundAt v ≡ record { present = 0; terminal = 0 }
-unfolding candidateOf foundAt
-none-sets fails e = refl
-none-sets none e = refl
-none-sets terminal e = let z : _≡_ {A = ℕ} 0 1 = cc in absurd (omega arith)
-none-sets divide e = let z : _≡_ {A = ℕ} 0 1 = cc in absurd (omega arith)
 
 -- ---- the machine's masks
 

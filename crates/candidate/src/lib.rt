@@ -1,11 +1,11 @@
 // Candidates and their expansion: region.rs's new_candidate and expand_children. Definitions: look, depth and expand of the crate run, and the sets of
 // its specs/Masks.
 ghost use mathlib.Core.Path.{_≡_};
-ghost use Prim.Native.Nat.{ℕ, _+_, _<_, _≤_};
+ghost use Prim.Native.Nat.{_+_, _<_, _≤_};
 ghost use Rattle.cellid.specs.CellId.{Cell, levelOf};
 ghost use Rattle.region.specs.Region.{intersectsCell, containsCell};
 ghost use Rattle.run.specs.Run.{look, depth};
-ghost use Rattle.run.specs.Masks.{placeIn, foundAt, found};
+ghost use Rattle.run.specs.Masks.{placeIn, found};
 ghost use Rattle.candidate.specs.Candidate.{requestOf, Asks, candidateOf, Roomy};
 use region::Region;
 use run::Found;
@@ -59,26 +59,35 @@ pub fn new_candidate(q: Asked, g: Region, id: u64) -> Candidate
     }
 }
 
-// The sets of one cell at the level asked for.
-fn at_level(q: Asked, g: Region, id: u64) -> Found
+// The sets of the four children of a cell, which have one level, so that one rule holds for all four.
+fn children(q: Asked, g: Region, id: u64) -> Found
     requires { ⌜ Asks q g ⌝ }
-    requires { ⌜ Cell id ⌝ }
-    ensures { λ r. ⌜ r ≡ foundAt (look (requestOf q) (intersectsCell g) (containsCell g) id) ⌝ }
+    requires { ⌜ Cell id × (levelOf id < 30) ⌝ }
+    ensures { λ r. ⌜ r ≡ found (requestOf q) (intersectsCell g) (containsCell g) 1 id ⌝ }
 {
-    let c = new_candidate(q, g, id);
-    match c {
-        Candidate::Kept => Found {
-            present: 1,
-            terminal: 1,
-        },
-        Candidate::Queued => Found {
-            present: 1,
+    let l = region::look_children(g, id);
+    let under = cellid::level(id) + 1;
+    if under < q.min_level {
+        return Found {
+            present: l.meets,
             terminal: 0,
-        },
-        Candidate::None => Found {
-            present: 0,
-            terminal: 0,
-        },
+        };
+    }
+    if under + q.level_mod > q.max_level {
+        if q.inner {
+            return Found {
+                present: l.inside,
+                terminal: l.inside,
+            };
+        }
+        return Found {
+            present: l.meets,
+            terminal: l.meets,
+        };
+    }
+    Found {
+        present: l.meets,
+        terminal: l.inside,
     }
 }
 
@@ -93,32 +102,32 @@ fn placed(acc: Found, f: Found, width: u64, k: u64) -> Found
     }
 }
 
-// The children `left` levels under a cell, one level inside another: the cells between are tested for intersects only, each cell once.
+// The children `left` levels under a cell, one level inside another: the cells between are looked at four by four, each cell once.
 fn expand_children(q: Asked, g: Region, id: u64, left: u64) -> Found
     requires { ⌜ Asks q g ⌝ }
     requires { ⌜ (0 < left) × (left ≤ 3) ⌝ }
     requires { ⌜ (Cell id × (levelOf id + left ≤ 30)) ⌝ }
     ensures { λ r. ⌜ r ≡ found (requestOf q) (intersectsCell g) (containsCell g) left id ⌝ }
 {
+    if left == 1 {
+        return children(q, g, id);
+    }
     let less = left - 1;
     let width: u64 = 1 << (2 * less);
+    let l = region::look_children(g, id);
+    let meets = l.meets;
     let mut acc = Found {
         present: 0,
         terminal: 0,
     };
     let mut k: u64 = 0;
     while k < 4 {
-        let c = cellid::child(id, k);
-        let f = if less == 0 {
-            at_level(q, g, c)
+        let f = if (meets >> k) & 1 == 1 {
+            expand_children(q, g, cellid::child(id, k), less)
         } else {
-            if region::intersects_cell(g, c) {
-                expand_children(q, g, c, less)
-            } else {
-                Found {
-                    present: 0,
-                    terminal: 0,
-                }
+            Found {
+                present: 0,
+                terminal: 0,
             }
         };
         acc = placed(acc, f, width, k);
@@ -134,8 +143,12 @@ pub fn expand(q: Asked, g: Region, id: u64) -> Found
     ensures { λ r. ⌜ r ≡ found (requestOf q) (intersectsCell g) (containsCell g) (depth (requestOf q) id) id ⌝ }
 {
     if cellid::level(id) < q.min_level {
-        expand_children(q, g, id, 1)
+        children(q, g, id)
     } else {
-        expand_children(q, g, id, q.level_mod)
+        if q.level_mod == 1 {
+            children(q, g, id)
+        } else {
+            expand_children(q, g, id, q.level_mod)
+        }
     }
 }

@@ -15,7 +15,7 @@ use Rattle.cell.specs.Cell.{vertexAt, edgeAt, vertexOf, verticesOf, cellOf}
 use Rattle.cell.specs.declared.Cell.{Cell}
 use Rattle.cell.specs.declared.Cap.{Cap}
 use Rattle.cap.specs.declared.Verdict.{Verdict}
-use Rattle.cap.specs.Cap.{isEmpty, capHolds, edgeSays, edgesSay, decide, touches, capIntersects, capContains}
+use Rattle.cap.specs.Cap.{isEmpty, capHolds, edgeSays, edgesSay, decide, touches, meetsCell, holdsCell, capIntersects, capContains}
 use Rattle.cap.proofs.Signs.{not-within, chord-plus}
 
 -- the k-th of the four corners
@@ -55,7 +55,7 @@ edge-step center sin2 c edge vs d k v h e f g =
 
 -- containing implies intersecting: the first corner lies in the cap
 pub contains-intersects : (cap : Cap) (id : ℕ) → capContains cap id ≡ true → capIntersects cap id ≡ true
-unfolding capContains capIntersects
+unfolding capContains capIntersects holdsCell meetsCell
 contains-intersects cap id h = let first : capHolds cap (vertexOf id 0) ≡ true = and-true _ _ h .0 in rw first
 
 -- an empty cap has no point in it, intersects nothing and contains nothing
@@ -72,7 +72,7 @@ empty-touches-none cap c h = rw h (either (le (ofBits binary64 0x4000_0000_0000_
     either false = refl
 
 pub empty-intersects-none : (cap : Cap) (id : ℕ) → isEmpty cap ≡ true → capIntersects cap id ≡ false
-unfolding capIntersects
+unfolding capIntersects meetsCell
 empty-intersects-none cap id h =
     rw (
       empty-holds-none cap (vertexOf id 0) h,
@@ -83,5 +83,5 @@ empty-intersects-none cap id h =
     )
 
 pub empty-contains-none : (cap : Cap) (id : ℕ) → isEmpty cap ≡ true → capContains cap id ≡ false
-unfolding capContains
+unfolding capContains holdsCell
 empty-contains-none cap id h = rw (empty-holds-none cap (vertexOf id 0) h)

@@ -2,3 +2,4 @@ pub mod Signs
 pub mod Laws
 pub mod Table
 pub mod BoundLaws
+pub mod Siblings

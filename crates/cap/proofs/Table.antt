@@ -1,7 +1,7 @@
 -- The level table's rule, once for the whole table: it falls and lies above zero, by one computed test each, so a level is reached exactly where the
 -- radius is at most its threshold.
 use mathlib.Core.Path.{_≡_, refl, sym, _∙_}
-use mathlib.Core.Bool.{Bool, true, false, cond, _&&_, _||_, true≢false}
+use mathlib.Core.Bool.{Bool, true, false, cond, _&&_, _||_}
 use mathlib.Core.List.{List, [], _∷_}
 use mathlib.Core.Logic.{_⊎_, inl, inr, ⊎-elim}
 use Prim.Native.Nat.{ℕ, zero, suc, _+_, _*_, _≤_, _<_}
@@ -15,10 +15,8 @@ use lib.Ieee.Fits.{up-pos, down-pos}
 use lib.Ieee.Positive.{positive, through}
 use borrow.Author.Tests.{ltb-true, lt-ltb, eqb-true, eq-eqb}
 use Rattle.cellid.proofs.Laws.{and-true, bool-iff, no-true}
+use Rattle.point.proofs.Laws.{never}
 use Rattle.cap.specs.Bound.{thresholds, levelIn, levelFor, falling}
-
-never : {A : Type 0} → false ≡ true → A
-never h = absurd (true≢false (sym h))
 
 -- ---- what `le` says of two numbers that are not below zero
 or-cases : (a b : Bool) → (a || b) ≡ true → (a ≡ true) ⊎ (b ≡ true)

@@ -7,7 +7,7 @@ use Rattle.point.specs.Floats.{_⊖_, _⊗_, zeroF, oneF}
 use Rattle.point.specs.Vector.{mulOf, dotOf, crossOf, norm2Of}
 use Rattle.point.specs.ChordAngle.{negative, right, straight, chordAngle, sin2Of}
 use Rattle.point.specs.declared.Point.{Point}
-use Rattle.cell.specs.Cell.{cellOf, vertexOf, vertexAt, edgeAt, holdsPoint}
+use Rattle.cell.specs.Cell.{cellOf, vertexAt, edgeAt, holdsPoint}
 use Rattle.cell.specs.declared.Cell.{Cell}
 use Rattle.cell.specs.declared.Cap.{Cap}
 use Rattle.cap.specs.declared.Verdict.{Verdict}
@@ -67,12 +67,18 @@ touches cap c =
 
 -- ---- the two tests
 
+unfoldable pub meetsCell : Cap → Cell → Bool
+meetsCell cap c =
+    capHolds cap (vertexAt c 0) || (capHolds cap (vertexAt c 1) || (capHolds cap (vertexAt c 2) || (capHolds cap (vertexAt c 3) || touches cap c)))
+
+unfoldable pub holdsCell : Cap → Cell → Bool
+holdsCell cap c =
+    capHolds cap (vertexAt c 0)
+    && (capHolds cap (vertexAt c 1) && (capHolds cap (vertexAt c 2) && (capHolds cap (vertexAt c 3) && not (touches (complementOf cap) c))))
+
+-- of an id's cell
 unfoldable pub capIntersects : Cap → ℕ → Bool
-capIntersects cap id =
-    capHolds cap (vertexOf id 0)
-    || (capHolds cap (vertexOf id 1) || (capHolds cap (vertexOf id 2) || (capHolds cap (vertexOf id 3) || touches cap (cellOf id))))
+capIntersects cap id = meetsCell cap (cellOf id)
 
 unfoldable pub capContains : Cap → ℕ → Bool
-capContains cap id =
-    capHolds cap (vertexOf id 0)
-    && (capHolds cap (vertexOf id 1) && (capHolds cap (vertexOf id 2) && (capHolds cap (vertexOf id 3) && not (touches (complementOf cap) (cellOf id)))))
+capContains cap id = holdsCell cap (cellOf id)

@@ -1,2 +1,3 @@
 pub mod Cap
 pub mod Bound
+pub mod Siblings

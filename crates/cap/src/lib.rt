@@ -1,14 +1,21 @@
 // Caps: the Rust's cap.rs, as far as the coverer reaches it. A cap is a centre and the square of the
 // chord to its edge, by value. A test stops at the first corner that decides, computes no corner and no
-// edge twice, and has the answer of the Rust bit for bit, whatever the floats are.
+// edge twice, and has the answer of the Rust bit for bit, whatever the floats are. The four children of a
+// cell are looked at together.
 ghost use mathlib.Core.Path.{_≡_};
-ghost use Prim.Native.Nat.{_<_};
+ghost use Prim.Native.Nat.{ℕ, _*_, _/_, _%_, _^_, _<_, _≤_};
 ghost use Rattle.cellid.specs.CellId as CellId;
 ghost use Rattle.cell.specs.Cell.{verticesOf};
-ghost use Rattle.cap.specs.Bound.{levelFor, unionBound, inSix};
+ghost use Rattle.cell.specs.Siblings.{quarterAt, cornersOf, scaledOf, cellScales};
+ghost use lib.ListN.{getD};
+ghost use lib.Ieee.{nan};
+ghost use Rattle.cap.specs.Bound.{thresholds, levelFor, unionBound, inSix};
 ghost use Rattle.cap.specs.Cap.{isEmpty, isFull, capHolds, capAround, complementOf, edgeSays, edgesSay, touches, capIntersects, capContains};
+ghost use Rattle.cap.specs.Siblings.{bitOf, fourBits, looksOf, heldOf, lookOf, looksAt, heldNine, squareAt, heldAt, turned};
 use cell::Cap;
 use cell::Cell;
+use cell::Quarters;
+use cell::Rect;
 use point::Point;
 
 // What an edge says of a cap that has none of the corners: nothing, or the answer.
@@ -92,15 +99,15 @@ fn edge_says(center: Point, sin2: f64, edge: Point, a: Point, b: Point) -> Verdi
     Verdict::Next
 }
 
-// The four edges of a cell with these corners, in turn: at most four roots and four divisions.
-fn edges_say(center: Point, sin2: f64, c: Cell, vertices: [Point; 4]) -> bool
-    requires { ⌜ c .face < 6 ⌝ }
+// The four edges of a cell with these corners and these scales of its lines, in turn: no root, no division.
+fn edges_say(center: Point, sin2: f64, c: Cell, m: Rect, vertices: [Point; 4]) -> bool
+    requires { ⌜ (c .face < 6) × (m ≡ cellScales c) ⌝ }
     requires { ⌜ vertices ≡ verticesOf c ⌝ }
     ensures { λ r. ⌜ r ≡ edgesSay center sin2 c 4 ⌝ }
 {
     let mut k: usize = 0;
     while k < 4 {
-        let edge = cell::edge(c, k as u64);
+        let edge = cell::edge(c, m, k as u64);
         let says = edge_says(center, sin2, edge, vertices[k], vertices[(k + 1) % 4]);
         match says {
             Verdict::Next => {}
@@ -116,10 +123,10 @@ fn edges_say(center: Point, sin2: f64, c: Cell, vertices: [Point; 4]) -> bool
     false
 }
 
-// Whether the cap has a point of the cell in it, where it has none of its four corners: at most four
-// roots and six divisions.
-fn intersects_cell_vertices(cap: Cap, c: Cell, vertices: [Point; 4]) -> bool
-    requires { ⌜ c .face < 6 ⌝ }
+// Whether the cap has a point of the cell in it, where it has none of its four corners and the scales of the cell's lines are known: two
+// divisions, no root.
+fn touches_by(cap: Cap, c: Cell, m: Rect, vertices: [Point; 4]) -> bool
+    requires { ⌜ (c .face < 6) × (m ≡ cellScales c) ⌝ }
     requires { ⌜ vertices ≡ verticesOf c ⌝ }
     ensures { λ r. ⌜ r ≡ touches cap c ⌝ }
 {
@@ -132,7 +139,19 @@ fn intersects_cell_vertices(cap: Cap, c: Cell, vertices: [Point; 4]) -> bool
     if cell::contains_point(c, cap.center) {
         return true;
     }
-    edges_say(cap.center, point::sin2(cap.radius), c, vertices)
+    edges_say(cap.center, point::sin2(cap.radius), c, m, vertices)
+}
+
+// The same where they are not: four roots and four divisions more, none where the radius decides.
+fn intersects_cell_vertices(cap: Cap, c: Cell, vertices: [Point; 4]) -> bool
+    requires { ⌜ c .face < 6 ⌝ }
+    requires { ⌜ vertices ≡ verticesOf c ⌝ }
+    ensures { λ r. ⌜ r ≡ touches cap c ⌝ }
+{
+    if point::RIGHT <= cap.radius {
+        return false;
+    }
+    touches_by(cap, c, cell::cell_scales(c), vertices)
 }
 
 // Whether the cap and the cell of a valid id have a point in common. At best one root and one division
@@ -187,50 +206,217 @@ pub fn contains_cell(cap: Cap, id: u64) -> bool
     !intersects_cell_vertices(complement(cap), c, [a, b, d, e])
 }
 
-// The largest squared chord radius at which the Rust still takes level 1, 2, .., 30 for a bound.
-const THRESHOLDS: [f64; 30] = [
-    0.21813735837609255,
-    0.05529882973658202,
-    0.013872821226340001,
-    0.003471217644568992,
-    0.000867992764001838,
-    0.00021700996433161429,
-    5.425322693606181e-05,
-    1.356335272514974e-05,
-    3.390841055738201e-06,
-    8.477104435877994e-07,
-    2.119276221252791e-07,
-    5.2981906233090365e-08,
-    1.3245476602133256e-08,
-    3.3113691532746054e-09,
-    8.278422884899819e-10,
-    2.0696057213320368e-10,
-    5.1740143033970174e-11,
-    1.2935035758534373e-11,
-    3.2337589396362076e-12,
-    8.084397349092153e-13,
-    2.0210993372731402e-13,
-    5.052748343182915e-14,
-    1.2631870857957328e-14,
-    3.1579677144893344e-15,
-    7.894919286223338e-16,
-    1.9737298215558345e-16,
-    4.934324553889586e-17,
-    1.2335811384723965e-17,
-    3.0839528461809914e-18,
-    7.709882115452478e-19,
-];
+// The children of a cell that have a point in the cap, and those that lie in it, as sets by place on the curve.
+pub struct Looks {
+    pub meets: u64,
+    pub inside: u64,
+}
+
+// 1 for true, 0 for false.
+pub fn mark(b: bool) -> u64
+    ensures { λ r. ⌜ r ≡ bitOf b ⌝ }
+{
+    if b { 1 } else { 0 }
+}
+
+fn held(cap: Cap, p: Point) -> u64
+    ensures { λ r. ⌜ r ≡ bitOf (capHolds cap p) ⌝ }
+{
+    mark(contains_point(cap, p))
+}
+
+// Which of the nine corners lie in the cap.
+fn held_nine(cap: Cap, p: [Point; 9]) -> [u64; 9]
+    ensures { λ r. ⌜ r ≡ heldNine cap p ⌝ }
+{
+    [
+        held(cap, p[0]),
+        held(cap, p[1]),
+        held(cap, p[2]),
+        held(cap, p[3]),
+        held(cap, p[4]),
+        held(cap, p[5]),
+        held(cap, p[6]),
+        held(cap, p[7]),
+        held(cap, p[8]),
+    ]
+}
+
+// The corners of the square whose lower left one is at `at` of the nine.
+fn square(p: [Point; 9], at: usize) -> [Point; 4]
+    requires { ⌜ at ≤ 4 ⌝ }
+    ensures { λ r. ⌜ r ≡ squareAt p at ⌝ }
+{
+    [p[at], p[at + 3], p[at + 4], p[at + 1]]
+}
+
+// How many of them lie in the cap, where h tells it of each of the nine.
+fn held_square(h: [u64; 9], at: usize) -> u64
+    requires { ⌜ (at ≤ 4) × ((k : ℕ) → getD h k 0 ≤ 1) ⌝ }
+    ensures { λ r. ⌜ r ≡ heldAt h at ⌝ }
+{
+    h[at] + h[at + 3] + h[at + 4] + h[at + 1]
+}
+
+// The scales of the lines, if some quarter has none of its corners in the cap, as four counts of them say: nothing else asks for scales.
+fn scaled_if(a: u64, b: u64, c: u64, d: u64, q: Quarters) -> Quarters
+    requires { ⌜ (a ≤ 4) × (b ≤ 4) × (c ≤ 4) × (d ≤ 4) ⌝ }
+    ensures { λ r. ⌜ (a ≡ 0 → r ≡ scaledOf q) × (b ≡ 0 → r ≡ scaledOf q) × (c ≡ 0 → r ≡ scaledOf q) × (d ≡ 0 → r ≡ scaledOf q) ⌝ }
+{
+    if a * b * c * d == 0 {
+        return cell::scaled(q);
+    }
+    q
+}
+
+// What a cell is to the cap, where `held` of its corners lie in it: 1 where the cap has a point of it, and 16 more where it has all of it.
+// Some corners in and some out decide by themselves; only none or all take the edges, and only none the scales of its lines.
+fn look_part(cap: Cap, c: Cell, m: Rect, vertices: [Point; 4], held: u64) -> u64
+    requires { ⌜ (c .face < 6) × (vertices ≡ verticesOf c) × (held ≡ heldOf cap c) × (held ≡ 0 → m ≡ cellScales c) ⌝ }
+    ensures { λ r. ⌜ r ≡ lookOf cap c ⌝ }
+{
+    if held == 0 {
+        return mark(touches_by(cap, c, m, vertices));
+    }
+    if held == 4 {
+        if intersects_cell_vertices(complement(cap), c, vertices) {
+            return 1;
+        }
+        return 17;
+    }
+    1
+}
+
+// A digit of a table of sixteen, four bits each.
+fn pick(table: u64, set: u64) -> u64
+    requires { ⌜ set < 16 ⌝ }
+    ensures { λ r. ⌜ r ≡ table / 2 ^ (4 * set) % 16 ⌝ }
+{
+    (table >> (4 * set)) % 16
+}
+
+// A set of quarters as a set of places on the curve.
+fn by_place(row: u64, set: u64) -> u64
+    requires { ⌜ (row < 4) × (set < 16) ⌝ }
+    ensures { λ r. ⌜ r ≡ turned row set ⌝ }
+{
+    match row {
+        0 => pick(0xfedc_7654_ba98_3210, set),
+        1 => pick(0xfe76_dc54_ba32_9810, set),
+        2 => pick(0xfb73_d951_ea62_c840, set),
+        _ => pick(0xfbd9_7351_eac8_6240, set),
+    }
+}
+
+// Four numbers of two bits, 1 and 16, as two sets of four.
+pub fn joined(a: u64, b: u64, c: u64, d: u64) -> u64
+    requires { ⌜ (a ≤ 17) × (b ≤ 17) × (c ≤ 17) × (d ≤ 17) ⌝ }
+    ensures { λ r. ⌜ r ≡ fourBits a b c d ⌝ }
+{
+    a + 2 * b + 4 * c + 8 * d
+}
+
+// The four quarters, of whose corners a, b, c and d lie in the cap. What each takes is picked here, at known places: a call that took all of it would copy
+// it, and a call that only decides is none in the machine code.
+fn look_parts(cap: Cap, q: Quarters, p: [Point; 9], a: u64, b: u64, c: u64, d: u64) -> u64
+    requires { ⌜ (q .face < 6) × (p ≡ cornersOf q) ⌝ }
+    requires { ⌜ (a ≡ heldOf cap (quarterAt q 0)) × (b ≡ heldOf cap (quarterAt q 1)) × (c ≡ heldOf cap (quarterAt q 2)) × (d ≡ heldOf cap (quarterAt q 3)) ⌝ }
+    ensures { λ r. ⌜ r ≡ looksAt cap q ⌝ }
+{
+    let s = scaled_if(a, b, c, d, q);
+    let k = cell::quarter(s, 0);
+    let l = cell::quarter(s, 1);
+    let m = cell::quarter(s, 2);
+    let n = cell::quarter(s, 3);
+    joined(
+        look_part(cap, cell::quarter(q, 0), k.uv, square(p, 0), a),
+        look_part(cap, cell::quarter(q, 1), l.uv, square(p, 1), b),
+        look_part(cap, cell::quarter(q, 2), m.uv, square(p, 3), c),
+        look_part(cap, cell::quarter(q, 3), n.uv, square(p, 4), d),
+    )
+}
+
+// The quarters that have a point in the cap, and those that lie in it, as two sets of four in one number: nine corners, and the edges of
+// those quarters alone that have no corner in the cap or all four.
+fn look_quarters(cap: Cap, q: Quarters) -> u64
+    requires { ⌜ q .face < 6 ⌝ }
+    ensures { λ r. ⌜ r ≡ looksAt cap q ⌝ }
+{
+    let p = cell::corners(q);
+    let h = held_nine(cap, p);
+    look_parts(
+        cap,
+        q,
+        p,
+        held_square(h, 0),
+        held_square(h, 1),
+        held_square(h, 3),
+        held_square(h, 4),
+    )
+}
+
+// The four children of a valid id that is no leaf, looked at together: one walk of the curve.
+pub fn look_children(cap: Cap, id: u64) -> Looks
+    requires { ⌜ CellId.Cell id × (CellId.levelOf id < 30) ⌝ }
+    ensures { λ r. ⌜ r ≡ looksOf (capIntersects cap) (capContains cap) id ⌝ }
+{
+    let q = cell::quarters_of(id);
+    let all = look_quarters(cap, q);
+    Looks {
+        meets: by_place(q.orientation, all % 16),
+        inside: by_place(q.orientation, all / 16),
+    }
+}
+
+// The largest squared chord radius at which the Rust still takes level n + 1 for a bound.
+fn threshold(n: u64) -> f64
+    requires { ⌜ n < 30 ⌝ }
+    ensures { λ r. ⌜ r ≡ getD thresholds n nan ⌝ }
+{
+    match n {
+        0 => 0.21813735837609255,
+        1 => 0.05529882973658202,
+        2 => 0.013872821226340001,
+        3 => 0.003471217644568992,
+        4 => 0.000867992764001838,
+        5 => 0.00021700996433161429,
+        6 => 5.425322693606181e-05,
+        7 => 1.356335272514974e-05,
+        8 => 3.390841055738201e-06,
+        9 => 8.477104435877994e-07,
+        10 => 2.119276221252791e-07,
+        11 => 5.2981906233090365e-08,
+        12 => 1.3245476602133256e-08,
+        13 => 3.3113691532746054e-09,
+        14 => 8.278422884899819e-10,
+        15 => 2.0696057213320368e-10,
+        16 => 5.1740143033970174e-11,
+        17 => 1.2935035758534373e-11,
+        18 => 3.2337589396362076e-12,
+        19 => 8.084397349092153e-13,
+        20 => 2.0210993372731402e-13,
+        21 => 5.052748343182915e-14,
+        22 => 1.2631870857957328e-14,
+        23 => 3.1579677144893344e-15,
+        24 => 7.894919286223338e-16,
+        25 => 1.9737298215558345e-16,
+        26 => 4.934324553889586e-17,
+        27 => 1.2335811384723965e-17,
+        28 => 3.0839528461809914e-18,
+        _ => 7.709882115452478e-19,
+    }
+}
 
 // The level of a bound, 0 to 30, for a squared chord radius: what the Rust's metric gives for the angle.
 pub fn level_for(radius: f64) -> u64
     ensures { λ r. ⌜ r ≡ levelFor radius ⌝ }
 {
-    let mut level: usize = 0;
+    let mut level: u64 = 0;
     while level < 30 {
-        if radius <= THRESHOLDS[level] {
+        if radius <= threshold(level) {
             level += 1;
         } else {
-            return level as u64;
+            return level;
         }
     }
     30

@@ -1,19 +1,12 @@
 -- Facts on numbers behind the functions, and what the definitions promise.
-use mathlib.Core.Path.{_≡_, refl, sym, ap, _∙_}
-use Prim.Native.Nat.{ℕ, zero, suc, _+_, _-_, _*_, _/_, _%_, _^_, _≤_, _<_}
+use mathlib.Core.Path.{_≡_, sym, ap, _∙_}
+use Prim.Native.Nat.{ℕ, _+_, _-_, _*_, _/_, _%_, _^_, _≤_, _<_}
 use native.Mathlib.Nat.{div-mul-le-self, mod-eq-of-lt, div-lt-iff-lt-mul, mul-le-mul-right}
 use native.Mathlib.Omega.{arith}
 use lib.Pow.{pow-add, pow-pos}
 use Rattle.cellid.specs.CellId as CellId
 use Rattle.cell.specs.Cell.{cellOf}
 use Rattle.hilbert.proofs.Laws.{face-ij-in}
-
--- of 0 to 3, what is none of 0, 1 and 2
-pub three : (k : ℕ) → k < 4 → (k ≡ 0 → ⊥) → (k ≡ 1 → ⊥) → (k ≡ 2 → ⊥) → k ≡ 3
-three zero h p q r = absurd (p refl)
-three (suc zero) h p q r = absurd (q refl)
-three (suc (suc zero)) h p q r = absurd (r refl)
-three (suc (suc (suc n))) h p q r = omega arith
 
 -- a shift down and up again
 pub first-is : (i s : ℕ) → i < 2 ^ 30 → i / 2 ^ s * 2 ^ s % 2 ^ 64 ≡ i / 2 ^ s * 2 ^ s

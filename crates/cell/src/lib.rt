@@ -1,10 +1,16 @@
 // Cells as pieces of the sphere: the Rust's cell.rs, as far as the coverer reaches it. A cell is its face
-// and its bounds in (u, v), made from an id once; a corner or an edge costs one root and one division,
-// and each can be had by itself. Every float step is the Rust's, in its order, rounded once.
+// and its bounds in (u, v), made from an id once; a corner costs one root and one division and can be had
+// by itself, the normals of the edges cost as much for each line. The four children of a cell have six
+// lines and nine corners between them. Every corner and every normal is the Rust's, bit for bit.
 ghost use mathlib.Core.Path.{_≡_};
 ghost use Prim.Native.Nat.{_^_, _≤_, _<_};
+ghost use lib.Ieee.{neg};
 ghost use Rattle.cellid.specs.CellId as CellId;
-ghost use Rattle.cell.specs.Cell.{ijToStMin, lineAt, spanAt, boundUv, cellOf, unitAt, vertexAt, verticesOf, edgeAt, expandedOf, inInterval, centerOf, holdsPoint, maxOf, addPoint, capBound};
+ghost use Rattle.point.specs.Floats.{oneF};
+ghost use Rattle.point.specs.Vector.{mulOf, normalizeOf};
+ghost use Rattle.stuv.specs.Projection.{uNorm, vNorm};
+ghost use Rattle.cell.specs.Cell.{ijToStMin, lineAt, spanAt, boundUv, cellOf, unitAt, vertexAt, edgeAt, expandedOf, inInterval, centerOf, holdsPoint, maxOf, addPoint, capBound};
+ghost use Rattle.cell.specs.Siblings.{linesAt, quartersOf, halfOf, cellBetween, quarterAt, cornersOf, scaleOf, scalesOf, scaledOf, cellScales};
 use point::Point;
 
 // A closed interval of floats; empty where lo is above hi.
@@ -32,12 +38,12 @@ pub struct Cap {
 
 const DBL_EPSILON: f64 = 2.220446049250313e-16;
 
-// A line of the leaves' grid in (s, t).
+// A line of the leaves' grid in (s, t). A signed number becomes a float in one instruction, an unsigned one in six.
 fn ij_to_stmin(i: u64) -> f64
     requires { ⌜ i ≤ 2 ^ 30 ⌝ }
     ensures { λ r. ⌜ r ≡ ijToStMin i ⌝ }
 {
-    (i as u32) as f64 / 1073741824.0
+    (i as i32) as f64 / 1073741824.0
 }
 
 // A line of the leaves' grid in (u, v).
@@ -100,27 +106,6 @@ pub fn vertex(c: Cell, k: u64) -> Point
         1 => unit_at(c.face, c.uv.x.hi, c.uv.y.lo),
         2 => unit_at(c.face, c.uv.x.hi, c.uv.y.hi),
         _ => unit_at(c.face, c.uv.x.lo, c.uv.y.hi),
-    }
-}
-
-// The four corners.
-pub fn vertices(c: Cell) -> [Point; 4]
-    requires { ⌜ c .face < 6 ⌝ }
-    ensures { λ r. ⌜ r ≡ verticesOf c ⌝ }
-{
-    [vertex(c, 0), vertex(c, 1), vertex(c, 2), vertex(c, 3)]
-}
-
-// The inward normal, at unit length, of the edge from the k-th corner to the next, k from 0 to 3.
-pub fn edge(c: Cell, k: u64) -> Point
-    requires { ⌜ (c .face < 6) × (k < 4) ⌝ }
-    ensures { λ r. ⌜ r ≡ edgeAt c k ⌝ }
-{
-    match k {
-        0 => point::normalize(stuv::vnorm(c.face, c.uv.y.lo)),
-        1 => point::normalize(stuv::unorm(c.face, c.uv.x.hi)),
-        2 => point::normalize(point::mul(stuv::vnorm(c.face, c.uv.y.hi), -1.0)),
-        _ => point::normalize(point::mul(stuv::unorm(c.face, c.uv.x.lo), -1.0)),
     }
 }
 
@@ -205,4 +190,188 @@ pub fn cap_bound(c: Cell) -> Cap
     let b = add_point(a, vertex(c, 1));
     let d = add_point(b, vertex(c, 2));
     add_point(d, vertex(c, 3))
+}
+
+// Three lines of u, or of v: the first, the middle and the last of a cell.
+pub struct Lines {
+    pub a: f64,
+    pub b: f64,
+    pub c: f64,
+}
+
+// The lines between which the four children of a cell lie, and the order in which the curve passes them.
+pub struct Quarters {
+    pub face: u64,
+    pub orientation: u64,
+    pub x: Lines,
+    pub y: Lines,
+}
+
+fn lines_at(i: u64, level: u64) -> Lines
+    requires { ⌜ (i < 2 ^ 30) × (level < 30) ⌝ }
+    ensures { λ r. ⌜ r ≡ linesAt i level ⌝ }
+{
+    let half = 29 - level;
+    let shift = 30 - level;
+    let first = (i >> shift) << shift;
+    Lines {
+        a: line_at(first),
+        b: line_at(first + (1 << half)),
+        c: line_at(first + (1 << shift)),
+    }
+}
+
+// The lines of a valid id that is no leaf: thirty turns of the curve for all four children, and no root.
+pub fn quarters_of(id: u64) -> Quarters
+    requires { ⌜ CellId.Cell id × (CellId.levelOf id < 30) ⌝ }
+    ensures { λ r. ⌜ r ≡ quartersOf id ⌝ }
+{
+    let f = hilbert::face_ij_orientation(id);
+    let level = cellid::level(id);
+    let x = lines_at(f.i, level);
+    let y = lines_at(f.j, level);
+    Quarters {
+        face: f.face,
+        orientation: f.orientation,
+        x,
+        y,
+    }
+}
+
+fn lower(l: Lines) -> Interval
+    ensures { λ r. ⌜ r ≡ halfOf l 0 ⌝ }
+{
+    Interval { lo: l.a, hi: l.b }
+}
+
+fn upper(l: Lines) -> Interval
+    ensures { λ r. ⌜ r ≡ halfOf l 1 ⌝ }
+{
+    Interval { lo: l.b, hi: l.c }
+}
+
+fn between(face: u64, x: Interval, y: Interval) -> Cell
+    ensures { λ r. ⌜ r ≡ cellBetween face x y ⌝ }
+{
+    let uv = Rect { x, y };
+    Cell { face, uv }
+}
+
+// The quarter 0 to 3, i's bit over j's.
+pub fn quarter(q: Quarters, n: u64) -> Cell
+    requires { ⌜ n < 4 ⌝ }
+    ensures { λ r. ⌜ r ≡ quarterAt q n ⌝ }
+{
+    match n {
+        0 => between(q.face, lower(q.x), lower(q.y)),
+        1 => between(q.face, lower(q.x), upper(q.y)),
+        2 => between(q.face, upper(q.x), lower(q.y)),
+        _ => between(q.face, upper(q.x), upper(q.y)),
+    }
+}
+
+// The nine corners of the four children, the one on the i-th line of u and the j-th of v at 3 * i + j.
+pub fn corners(q: Quarters) -> [Point; 9]
+    requires { ⌜ q .face < 6 ⌝ }
+    ensures { λ r. ⌜ r ≡ cornersOf q ⌝ }
+{
+    [
+        unit_at(q.face, q.x.a, q.y.a),
+        unit_at(q.face, q.x.a, q.y.b),
+        unit_at(q.face, q.x.a, q.y.c),
+        unit_at(q.face, q.x.b, q.y.a),
+        unit_at(q.face, q.x.b, q.y.b),
+        unit_at(q.face, q.x.b, q.y.c),
+        unit_at(q.face, q.x.c, q.y.a),
+        unit_at(q.face, q.x.c, q.y.b),
+        unit_at(q.face, q.x.c, q.y.c),
+    ]
+}
+
+// What brings the normals of a line to unit length: one root, one division.
+fn scale(w: f64) -> f64
+    ensures { λ r. ⌜ r ≡ scaleOf w ⌝ }
+{
+    1.0 / root::root(1.0 + w * w)
+}
+
+fn scales(l: Lines) -> Lines
+    ensures { λ r. ⌜ r ≡ scalesOf l ⌝ }
+{
+    Lines {
+        a: scale(l.a),
+        b: scale(l.b),
+        c: scale(l.c),
+    }
+}
+
+// The scales of six lines, in their places.
+pub fn scaled(q: Quarters) -> Quarters
+    ensures { λ r. ⌜ r ≡ scaledOf q ⌝ }
+{
+    let x = scales(q.x);
+    let y = scales(q.y);
+    Quarters {
+        face: q.face,
+        orientation: q.orientation,
+        x,
+        y,
+    }
+}
+
+// The scales of a cell's four lines.
+pub fn cell_scales(c: Cell) -> Rect
+    ensures { λ r. ⌜ r ≡ cellScales c ⌝ }
+{
+    let x = Interval {
+        lo: scale(c.uv.x.lo),
+        hi: scale(c.uv.x.hi),
+    };
+    let y = Interval {
+        lo: scale(c.uv.y.lo),
+        hi: scale(c.uv.y.hi),
+    };
+    Rect { x, y }
+}
+
+// The normals of the lines of a face, and their opposites, at unit length, where the scale is known: no root, no division.
+fn v_edge(face: u64, w: f64, m: f64) -> Point
+    requires { ⌜ (face < 6) × (m ≡ scaleOf w) ⌝ }
+    ensures { λ r. ⌜ r ≡ normalizeOf (vNorm face w) ⌝ }
+{
+    point::mul(stuv::vnorm(face, w), m)
+}
+
+fn u_edge(face: u64, w: f64, m: f64) -> Point
+    requires { ⌜ (face < 6) × (m ≡ scaleOf w) ⌝ }
+    ensures { λ r. ⌜ r ≡ normalizeOf (uNorm face w) ⌝ }
+{
+    point::mul(stuv::unorm(face, w), m)
+}
+
+fn v_back(face: u64, w: f64, m: f64) -> Point
+    requires { ⌜ (face < 6) × (m ≡ scaleOf w) ⌝ }
+    ensures { λ r. ⌜ r ≡ normalizeOf (mulOf (vNorm face w) (neg oneF)) ⌝ }
+{
+    point::mul(point::mul(stuv::vnorm(face, w), -1.0), m)
+}
+
+fn u_back(face: u64, w: f64, m: f64) -> Point
+    requires { ⌜ (face < 6) × (m ≡ scaleOf w) ⌝ }
+    ensures { λ r. ⌜ r ≡ normalizeOf (mulOf (uNorm face w) (neg oneF)) ⌝ }
+{
+    point::mul(point::mul(stuv::unorm(face, w), -1.0), m)
+}
+
+// The k-th edge's inward normal, at unit length, where the scales of the cell's lines are known.
+pub fn edge(c: Cell, m: Rect, k: u64) -> Point
+    requires { ⌜ (c .face < 6) × (k < 4) × (m ≡ cellScales c) ⌝ }
+    ensures { λ r. ⌜ r ≡ edgeAt c k ⌝ }
+{
+    match k {
+        0 => v_edge(c.face, c.uv.y.lo, m.y.lo),
+        1 => u_edge(c.face, c.uv.x.hi, m.x.hi),
+        2 => v_back(c.face, c.uv.y.hi, m.y.hi),
+        _ => u_back(c.face, c.uv.x.lo, m.x.lo),
+    }
 }

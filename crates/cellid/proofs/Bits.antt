@@ -2,7 +2,7 @@
 use mathlib.Core.Path.{_≡_, refl, sym, ap, ap₂, _∙_}
 use mathlib.Core.Logic.{⊎-elim}
 use mathlib.Core.Bool.{Bool, true, false, _&&_, Bool·beq}
-use Prim.Native.Nat.{ℕ, zero, suc, _+_, _-_, _*_, _/_, _%_, _^_, _<_, min, max}
+use Prim.Native.Nat.{ℕ, zero, suc, _+_, _-_, _*_, _/_, _%_, _^_, _≤_, _<_, min, max}
 use native.Mathlib.Nat.{add-zero, mul-one, one-mul, zero-lt-suc, pow-suc, mul-sub, mul-comm, mul-assoc, add-mul, lt-of-mul-lt-mul-right, div-div-eq-div-mul, mod-eq-of-lt, div-eq-of-lt, eq-or-lt-of-le, le-of-suc-le-suc, not-suc-le-zero, lt-div-mul-add}
 use native.Mathlib.Omega.{arith}
 use lib.Arith.{bin-ind}
@@ -46,6 +46,24 @@ every-at zero f e k h = absurd (not-suc-le-zero h)
 every-at (suc n) f e k h =
     let r = and-true (f n) (every n f) e in
     ⊎-elim (λ (q : k ≡ n). rw q (r .0)) (λ (q : k < n). every-at n f (r .1) k q) (eq-or-lt-of-le (le-of-suc-le-suc h))
+
+-- what the last arm of a `match` is left with: n is none of the numbers below k, so it is k where it is at most k
+abbrev pub NoneOf : ℕ → ℕ → Type 0
+NoneOf n zero = Unit
+NoneOf n (suc k) = NoneOf n k × (n ≡ k → ⊥)
+
+pub last-arm : (n k : ℕ) → n ≤ k → NoneOf n k → n ≡ k
+last-arm n k h r = least (at-least n k r)
+  where
+    at-least : (n k : ℕ) → NoneOf n k → k ≤ n
+    at-least n zero r = omega arith
+    at-least n (suc k) (r, h) = next (at-least n k r)
+      where
+        next : k ≤ n → suc k ≤ n
+        next l = omega (arith, l, h)
+
+    least : k ≤ n → n ≡ k
+    least l = omega arith
 
 -- ---- products and powers
 

@@ -3,10 +3,11 @@ use mathlib.Core.Path.{_≡_, refl, sym, ap, _∙_, subst}
 use mathlib.Core.Bool.{Bool, true, false}
 use mathlib.Core.List.{List, _++_, append-nil}
 use Prim.Native.Nat.{ℕ, _+_, _-_, _≤_, _<_}
+use native.Mathlib.Nat.{sub-zero}
 use native.Mathlib.Omega.{arith}
 use lib.Dec.{leb, eqb}
 use lib.ListN.{length, take, drop, length-drop, length-map, drop-of-length-le}
-use lib.Seq.{take-all, take-at, drop-drop, drop-append-add, length-take-le}
+use lib.Seq.{take-all, take-at, drop-at, drop-drop, drop-append-add, length-take-le}
 use borrow.Author.Tests.{le-leb, lt-leb, ne-eqb}
 use Rattle.cellid.specs.CellId.{Cell}
 use Rattle.order.specs.Order.{All}
@@ -14,8 +15,8 @@ use Rattle.region.specs.declared.Region.{Region}
 use Rattle.region.specs.Region.{boundOf}
 use Rattle.cellunion.specs.declared.Laid.{Laid}
 use Rattle.cellunion.specs.CellUnion.{normalise, denormalise}
-use Rattle.cellunion.specs.Memory.{laid, normalised, roomFor, laidOver}
-use Rattle.cellunion.proofs.Memory.{laid-start, drop-more}
+use Rattle.cellunion.specs.Memory.{zeros, laid, normalised, roomFor, laidOver}
+use Rattle.cellunion.proofs.Memory.{laid-start, drop-more, length-zeros, zeros-add}
 use Rattle.cellunion.proofs.Norm.{normalise-normal}
 use Rattle.cellunion.proofs.Results.{take-normalised, drop-normalised, length-normal}
 use Rattle.fast.specs.declared.RegionCoverer.{RegionCoverer}
@@ -27,7 +28,7 @@ use Rattle.coverer.specs.declared.Ran.{Ran}
 use Rattle.coverer.specs.Coverer.{cleared, holding, outcomeOf, memoryOf}
 use Rattle.coverer.specs.Coverer as Coverer
 use Rattle.coverer.specs.Engine.{wordsAt, past}
-use Rattle.coverer.proofs.Memory.{cleared-front, holding-words, holding-room, holding-past}
+use Rattle.coverer.proofs.Memory.{words-length, cleared-front, holding-words, holding-room, holding-past}
 use Rattle.covering.specs.declared.Answer.{Answer}
 use Rattle.covering.specs.declared.Ending.{Ending}
 use Rattle.covering.specs.Covering.{earlyOf, Result, refused, done, fitted, checked, listOf, leftBy, endedAs, ranOf, resultOf, fastResultOf, answerOf, outputAfter, memoryAfter, Answered, laidAs}
@@ -143,6 +144,32 @@ module _ (a k : ℕ) (m : List ℕ) (K : k ≡ length m - a) where
       ∙ ap (λ (j : ℕ). drop j (take a m ++ l)) (sym z ∙ ap (λ (j : ℕ). j + (b - a)) (sym t))
       ∙ drop-append-add (take a m) l (b - a) ∙ e ∙ ap (drop (b - a)) part ∙ drop-drop (b - a) a m ∙ ap (λ (j : ℕ). drop j m) z
 
+-- m has zeros in its first b words, but for the k words from a on; so m′, which differs from it in those k alone, has zeros in all once they are cleared
+module _ (a b k : ℕ) (m m′ : List ℕ) (h : a + k ≤ b) (g : b ≤ length m) (H : m ≡ holding a b (wordsAt a k m) m) where
+  zeros-first : take a m ≡ zeros a
+  unfolding holding
+  zeros-first = ap (take a) H ∙ take-at (zeros a) _ a (length-zeros a)
+
+  zeros-after : drop (a + k) m ≡ zeros (b - (a + k)) ++ drop b m
+  zeros-after =
+      let l = wordsAt a k m in
+      let n : length l ≡ k = words-length a k m (omega arith) in
+      sym (drop-drop k a m) ∙ ap (λ (x : List ℕ). drop k (drop a x)) H ∙ ap (drop k) (holding-words a b l m) ∙ drop-at l _ k n ∙ ap (λ (j : ℕ). zeros (b - (a + j)) ++ drop b m) n
+
+  pub wiped : take a m′ ≡ take a m → past (a + k) m′ ≡ past (a + k) m → laid a (zeros ((a + k) - a)) m′ ≡ cleared 0 b m
+  unfolding laid past
+  wiped t d =
+      let x : (a + k) - a ≡ k = omega arith in
+      let y : a + (k + (b - (a + k))) ≡ b = omega arith in
+      ap (λ (j : ℕ). take a m′ ++ (zeros j ++ drop (a + length (zeros j)) m′)) x
+      ∙ ap (λ (j : ℕ). take a m′ ++ (zeros k ++ drop (a + j) m′)) (length-zeros k)
+      ∙ ap (λ (v : List ℕ). v ++ (zeros k ++ drop (a + k) m′)) (t ∙ zeros-first)
+      ∙ ap (λ (v : List ℕ). zeros a ++ (zeros k ++ v)) (d ∙ zeros-after)
+      ∙ ap (λ (v : List ℕ). zeros a ++ v) (zeros-add k (b - (a + k)) (drop b m))
+      ∙ zeros-add a (k + (b - (a + k))) (drop b m)
+      ∙ ap (λ (j : ℕ). zeros j ++ drop b m) y
+      ∙ sym (laid-start (zeros (b - 0)) m ∙ rw (length-zeros (b - 0), sub-zero))
+
 -- the raw list in the memory from the word 3,072 on
 module _ (e : Ending) (c : RegionCoverer) (n : ℕ) (m : List ℕ) (P : (4096 ≤ length m) × (n ≤ 1024) × All Cell (wordsAt 3072 n m) × (c .«min_level» ≤ 30) × (0 < c .«level_mod»)) where
   abbrev ids : List ℕ
@@ -154,13 +181,16 @@ module _ (e : Ending) (c : RegionCoverer) (n : ℕ) (m : List ℕ) (P : (4096 �
   pub lay-asks : (n ≤ length ids) × All Cell (take n ids) × (c .«min_level» ≤ 30) × (0 < c .«level_mod»)
   lay-asks = (omega (arith, P .0, P .1, ap length (part 3072 (length m - 3072) m refl), length-drop 3072 m), subst (All Cell) (sym words) (P .2), P .3, P .4)
 
-  pub finish-gives : (steps aside : ℕ) (o : List ℕ) (w : Laid) (r : Answer) (l m₂ o₂ : List ℕ)
+  pub finish-gives : m ≡ holding 3072 4096 (wordsAt 3072 n m) m → (steps aside : ℕ) (o : List ℕ) (w : Laid) (r : Answer) (l m₂ o₂ : List ℕ)
       → (w ≡ roomFor (listOf e c (take n ids)) o) × (o₂ ≡ laidOver (listOf e c (take n ids)) o) × (l ≡ leftBy e n ids) → r ≡ laidAs w steps aside
-      → m₂ ≡ cleared 0 4096 (take 3072 m ++ (l ++ drop (length m - 3072) (drop 3072 m))) → Answered (fitted (length o) (listOf e c (wordsAt 3072 n m)) steps aside) r m m₂ o o₂
-  finish-gives steps aside o w r l m₂ o₂ L R M =
+      → m₂ ≡ laid 3072 (zeros ((3072 + n) - 3072)) (take 3072 m ++ (l ++ drop (length m - 3072) (drop 3072 m))) → Answered (fitted (length o) (listOf e c (wordsAt 3072 n m)) steps aside) r m m₂ o o₂
+  finish-gives H steps aside o w r l m₂ o₂ L R M =
+      let j = (3072 + n) - 3072 in
       answered-as refl (answered-laid (listOf e c (wordsAt 3072 n m)) m o steps aside)
       (R ∙ ap (λ (v : Laid). laidAs v steps aside) (L .0 ∙ ap (λ (x : List ℕ). roomFor (listOf e c x) o) words))
-      (M ∙ cleared-front 4096 m _ (put-past 3072 (length m - 3072) m refl 4096 l (omega arith) (P .0) (ap (drop 1024) (L .2) ∙ left-past e n 1024 ids (P .1) (lay-asks .0) (lay-asks .1))))
+      (M ∙ wiped 3072 4096 n m _ (omega (arith, P .1)) (P .0) H
+      (take-at (take 3072 m) _ 3072 (length-take-le 3072 m (omega (arith, P .0))))
+      (put-past 3072 (length m - 3072) m refl (3072 + n) l (omega arith) (omega (arith, P .0, P .1)) (ap (drop j) (L .2) ∙ left-past e n j ids (omega arith) (lay-asks .0) (lay-asks .1))))
       (L .1 ∙ ap (λ (x : List ℕ). laidOver (listOf e c x) o) words)
 
 -- the run's answer tells its outcome
@@ -215,6 +245,10 @@ module _ (e : Ending) (inner : Bool) (c : RegionCoverer) (g : Region) (allowance
       omega (arith, valid .order, valid .deep),
       valid .«mod» .0,
     )
+
+    pub finish-holds : m₁ ≡ holding 3072 4096 (wordsAt 3072 count m₁) m₁
+    unfolding holding
+    finish-holds = ended ∙ sym (ap (λ (x : List ℕ). holding 3072 4096 x m₁) kept-words ∙ ap (λ (x : List ℕ). zeros 3072 ++ (rawIds (D .state) ++ (zeros (4096 - (3072 + length (rawIds (D .state)))) ++ x))) (ap (drop 4096) ended ∙ holding-past 3072 4096 (rawIds (D .state)) m few))
 
     -- a success, or 10
     pub respond-done : (r : Answer) (m₂ o₂ : List ℕ) → Answered (fitted (length o) (listOf e c (wordsAt 3072 count m₁)) steps aside) r m₁ m₂ o o₂ → Answered (resultOf e inner c g allowance (length m) (length o)) r m m₂ o o₂

@@ -8,7 +8,7 @@ ghost use Rattle.cellid.specs.CellId.{Cell};
 ghost use Rattle.order.specs.Order.{All};
 ghost use Rattle.cellunion.specs.Memory.{roomFor, laidOver};
 ghost use Rattle.covering.specs.Covering.{earlyOf, fitted, listOf, ranOf, leftBy, laidAs, resultOf, fastResultOf, Answered};
-ghost use Rattle.coverer.specs.Coverer.{cleared, answerOf, memoryOf};
+ghost use Rattle.coverer.specs.Coverer.{cleared, holding, answerOf, memoryOf};
 ghost use Rattle.coverer.specs.Engine.{wordsAt};
 use candidate::Asked;
 use cellunion::Laid;
@@ -111,7 +111,7 @@ fn run_from_starts(inner: bool, c: RegionCoverer, g: Region, allowance: u32, mem
 }
 
 // Ends a request whose raw list stands in the memory from the word 3,072 on: lays the list that is asked for over the output, if it has room, and clears
-// the first 4,096 words.
+// the raw list's words. The others of the first 4,096 are zero already.
 fn finish(
     e: Ending,
     c: RegionCoverer,
@@ -122,10 +122,11 @@ fn finish(
     out: &mut [u64],
 ) -> Answer
     requires { ⌜ (4096 ≤ length (now mem)) × (count ≤ 1024) × All Cell (wordsAt 3072 count (now mem)) × (c .«min_level» ≤ 30) × (0 < c .«level_mod») ⌝ }
+    requires { ⌜ now mem ≡ holding 3072 4096 (wordsAt 3072 count (now mem)) (now mem) ⌝ }
     ensures { λ r. ⌜ Answered (fitted (length (now (out .entry))) (listOf e c (wordsAt 3072 count (now (mem .entry)))) steps aside) r (now (mem .entry)) (now (mem .exit)) (now (out .entry)) (now (out .exit)) ⌝ }
 {
     let laid = lay_list(e, c, &mut mem[3072..], count, out);
-    clear_front(mem);
+    cellunion::clear(mem, 3072, 3072 + count);
     laid_answer(laid, steps, aside)
 }
 

@@ -144,7 +144,7 @@ fn number_of(k: u64, a: u64, g: Cap, id: u64, c: Cell, i: u64) -> u64
         11 => grid_number(hilbert::face_ij_orientation(id), i),
         12 => cap_number(cell::cap_bound(c), i),
         13 => axis(cell::vertex(c, i / 3), i % 3),
-        14 => axis(cell::edge(c, i / 3), i % 3),
+        14 => axis(cell::edge(c, cell::cell_scales(c), i / 3), i % 3),
         _ => of_numbers(k, a, g),
     }
 }

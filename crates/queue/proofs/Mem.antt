@@ -1,5 +1,6 @@
 -- The memory of three-word records keeps what is written, and the records' order decides every pair: so the heap's laws hold of it.
-use mathlib.Core.Path.{_≡_, ap, _∙_}
+use mathlib.Core.Path.{_≡_, sym, ap, _∙_}
+use mathlib.Core.Bool.{Bool}
 use mathlib.Core.Logic.{_≢_}
 use mathlib.Core.List.{List}
 use Prim.Native.Nat.{ℕ, _+_, _*_, _<_}
@@ -8,10 +9,11 @@ use lib.ListN.{length, getD, set, length-set}
 use lib.Seq.{getD-set-same, getD-set-other}
 use Rattle.order.specs.Order.{Order}
 use Rattle.order.specs.Heap.{Store}
+use Rattle.order.specs.Lex.{lexb}
 use Rattle.order.proofs.LexLaws.{by-key}
 use Rattle.queue.specs.declared.Rec.{Rec}
 use Rattle.queue.specs.declared.Rule.{Rule}
-use Rattle.queue.specs.Queue.{getR, putR, capR, before, key}
+use Rattle.queue.specs.Queue.{getR, putR, capR, costR, keyAt, before, key}
 
 pub length-putR : (m : List ℕ) (i : ℕ) (r : Rec) → length (putR m i r) ≡ length m
 unfolding putR
@@ -72,3 +74,9 @@ key-inj w x y e = λ k. record { id = a k; present = b k; terminal = d k }
 pub order : (w : Rule) → Order (before w)
 unfolding before
 order w = by-key (key w) (key-inj w)
+
+-- ---- the order, by two records' costs
+pub priced : (w : Rule) (x y : Rec) (a b : ℕ) (t v : Bool) → a ≡ costR (w .full) x → b ≡ costR (w .full) y → t ≡ lexb (keyAt a x) (keyAt b y) → t ≡ v → before w x y ≡ v
+unfolding before key
+priced w x y a b t v ea eb et ev =
+    ap (λ (n : ℕ). lexb (keyAt n x) (keyAt (costR (w .full) y) y)) (sym ea) ∙ ap (λ (n : ℕ). lexb (keyAt a x) (keyAt n y)) (sym eb) ∙ sym et ∙ ev

@@ -17,8 +17,11 @@ abbrev pub costR : ℕ → Rec → ℕ
 costR full r = costOf full (levelOf (r .id)) (ones (r .present)) (ones (r .terminal))
 
 -- "A step takes the least cost; equal costs, the smaller id." The sets follow, so that the order decides every pair of records.
+abbrev pub keyAt : ℕ → Rec → List ℕ
+keyAt cost r = cost ∷ r .id ∷ r .present ∷ r .terminal ∷ []
+
 unfoldable pub key : Rule → Rec → List ℕ
-key w r = costR (w .full) r ∷ r .id ∷ r .present ∷ r .terminal ∷ []
+key w r = keyAt (costR (w .full) r) r
 
 -- whether x goes before y by the rule w
 unfoldable pub before : Rule → Rec → Rec → Bool

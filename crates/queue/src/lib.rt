@@ -3,8 +3,8 @@
 ghost use mathlib.Core.Path.{_≡_};
 ghost use Prim.Native.Nat.{_+_, _*_, _/_, _<_, _≤_};
 ghost use lib.Count.{ones};
-ghost use Rattle.order.specs.Lex.{first};
-ghost use Rattle.queue.specs.Queue.{costR, before, getR, putR, capR, pushR, popR, lesserR};
+ghost use Rattle.order.specs.Lex.{lexb};
+ghost use Rattle.queue.specs.Queue.{costR, keyAt, getR, putR, capR, pushR, popR, lesserR};
 
 // A candidate: its cell, the Hilbert places of its children, and of those that are terminal.
 pub struct Rec {
@@ -18,11 +18,14 @@ pub struct Rule {
     pub full: u64,
 }
 
-// How many places a set has.
+// How many places a set has. A set of four places is counted by a table of 16 digits.
 pub fn count(x: u64) -> u64
     ensures { λ r. ⌜ r ≡ ones x ⌝ }
     ensures { λ r. ⌜ r ≤ 64 ⌝ }
 {
+    if x < 16 {
+        return (0x4332_3221_3221_2110 >> (4 * x)) % 16;
+    }
     u64::count_ones(x) as u64
 }
 
@@ -34,26 +37,20 @@ fn cost(r: Rec, full: u64) -> u64
     (cellid::level(r.id) * full + count(r.present)) * full + count(r.terminal)
 }
 
-// Whether a goes before b, and where they are equal whether the rest does.
-fn ahead(a: u64, b: u64, rest: bool) -> bool
-    ensures { λ r. ⌜ r ≡ first a b rest ⌝ }
+// Whether x, of the cost a, goes before y, of the cost b.
+fn less(a: u64, x: Rec, b: u64, y: Rec) -> bool
+    ensures { λ r. ⌜ r ≡ lexb (keyAt a x) (keyAt b y) ⌝ }
 {
-    if a < b {
-        return true;
+    if a != b {
+        return a < b;
     }
-    if b < a {
-        return false;
+    if x.id != y.id {
+        return x.id < y.id;
     }
-    rest
-}
-
-// Whether x goes before y.
-fn less(x: Rec, y: Rec, w: Rule) -> bool
-    requires { ⌜ w .full ≤ 64 ⌝ }
-    ensures { λ b. ⌜ b ≡ before w x y ⌝ }
-{
-    let sets = ahead(x.present, y.present, ahead(x.terminal, y.terminal, false));
-    ahead(cost(x, w.full), cost(y, w.full), ahead(x.id, y.id, sets))
+    if x.present != y.present {
+        return x.present < y.present;
+    }
+    x.terminal < y.terminal
 }
 
 fn get(m: &[u64], i: usize) -> Rec
@@ -82,11 +79,13 @@ pub fn push(m: &mut [u64], n: usize, r: Rec, w: Rule)
     requires { ⌜ w .full ≤ 64 ⌝ }
     ensures { λ _. ⌜ now (m .exit) ≡ pushR w (now (m .entry)) n r ⌝ }
 {
+    let full = w.full;
+    let own = cost(r, full);
     let mut i = n;
     while 0 < i {
         let p = (i - 1) / 2;
         let x = get(m, p);
-        if less(r, x, w) {
+        if less(own, r, cost(x, full), x) {
             put(m, i, x);
             i = p;
         } else {
@@ -96,22 +95,41 @@ pub fn push(m: &mut [u64], n: usize, r: Rec, w: Rule)
     put(m, i, r);
 }
 
-// The place of the lesser of the records under place i, of which there is at least one, in a heap of n.
-fn lesser(m: &[u64], n: usize, i: usize, w: Rule) -> usize
+// A record's place, the record and its cost.
+struct Placed {
+    at: usize,
+    record: Rec,
+    cost: u64,
+}
+
+// The lesser of the records under place i, of which there is at least one, in a heap of n.
+fn lesser(m: &[u64], n: usize, i: usize, w: Rule) -> Placed
     requires { ⌜ 2 * i + 1 < n ⌝ }
     requires { ⌜ n ≤ capR (now m) ⌝ }
     requires { ⌜ w .full ≤ 64 ⌝ }
-    ensures { λ r. ⌜ r ≡ lesserR w (now (m .entry)) n i ⌝ }
-    ensures { λ r. ⌜ (i < r) × (r < n) ⌝ }
+    ensures { λ p. ⌜ (p .at ≡ lesserR w (now (m .entry)) n i) × (p .record ≡ getR (now (m .entry)) (p .at)) × (p .cost ≡ costR (w .full) (p .record)) × (i < p .at) × (p .at < n) ⌝ }
 {
+    let full = w.full;
     let l = 2 * i + 1;
     let r = 2 * i + 2;
+    let x = get(m, l);
+    let a = cost(x, full);
     if r < n {
-        if less(get(m, r), get(m, l), w) {
-            return r;
+        let y = get(m, r);
+        let b = cost(y, full);
+        if less(b, y, a, x) {
+            return Placed {
+                at: r,
+                record: y,
+                cost: b,
+            };
         }
     }
-    l
+    Placed {
+        at: l,
+        record: x,
+        cost: a,
+    }
 }
 
 // Takes the least of the first n + 1 records, which stands first. The last one moves down from there, two comparisons a place.
@@ -122,15 +140,17 @@ pub fn pop(m: &mut [u64], n: usize, w: Rule) -> Rec
     ensures { λ r. ⌜ r ≡ getR (now (m .entry)) 0 ⌝ }
     ensures { λ _. ⌜ now (m .exit) ≡ popR w (now (m .entry)) n ⌝ }
 {
+    let full = w.full;
     let least = get(m, 0);
     let a = get(m, n);
+    let own = cost(a, full);
     let mut i = 0;
     while i < n / 2 {
         let c = lesser(m, n, i, w);
-        let x = get(m, c);
-        if less(x, a, w) {
+        let x = c.record;
+        if less(c.cost, x, own, a) {
             put(m, i, x);
-            i = c;
+            i = c.at;
         } else {
             break;
         }

@@ -2,20 +2,22 @@
 use mathlib.Core.Path.{_≡_, refl, _∙_}
 use mathlib.Core.Bool.{Bool, true, false, _&&_, _||_}
 use mathlib.Core.Logic.{_⊎_, inl, inr, ⊎-elim}
-use Prim.Native.Nat.{ℕ, _^_, _≤_, _<_}
+use Prim.Native.Nat.{ℕ, _+_, _*_, _/_, _%_, _^_, _≤_, _<_}
 use native.Mathlib.Omega.{arith}
 use lib.Dec.{leb}
 use lib.ListN.{length}
 use lib.Ieee.{Float, nan, inf, fin, lt}
 use borrow.Author.Tests.{le-leb, leb-true}
-use Rattle.cellid.specs.CellId.{Cell, validId, holds, meets, firstLeaf, lastLeaf}
-use Rattle.cellid.proofs.Laws.{and-true, bool-iff, valid-cell, cell-pos}
-use Rattle.cellid.proofs.Leaves.{meets-sym, intersects-leaves, nested-or-apart}
+use Rattle.cellid.specs.CellId.{Cell, validId, levelOf, childOf, holds, meets, firstLeaf, lastLeaf}
+use Rattle.cellid.proofs.Laws.{and-true, bool-iff, valid-cell, cell-pos, level-cell}
+use Rattle.cellid.proofs.Leaves.{child-cell, meets-sym, intersects-leaves, nested-or-apart}
 use Rattle.order.specs.Order.{All}
 use Rattle.neighbors.specs.Neighbors.{AtLevel}
 use Rattle.cell.specs.Cell.{cellOf, capBound}
 use Rattle.cell.specs.declared.Cap.{Cap}
 use Rattle.cap.specs.Cap.{isEmpty}
+use Rattle.cap.specs.Siblings.{fourBits, setBy}
+use Rattle.cap.proofs.Siblings.{bit-le, both, two-sets}
 use Rattle.cap.proofs.Laws as CapLaws
 use Rattle.cap.proofs.BoundLaws as BoundLaws
 use Rattle.region.specs.declared.Region.{Region}
@@ -102,3 +104,14 @@ pub bound-level : (g : Region) → inDomain g ≡ true → (L : ℕ) × All (AtL
 unfolding boundOf
 bound-level (Region.Cap cap) h = (_, BoundLaws.bound-level cap)
 bound-level (Region.Cell own) h = (_, BoundLaws.bound-level (capBound (cellOf own)))
+
+-- ---- the four children
+pub child-valid : (id k x : ℕ) → Cell id → levelOf id < 30 → k < 4 → x ≡ childOf id k → Cell x
+child-valid id k x (L, p, c) h g e = rw e (L + 1, 4 * p + k, child-cell k c (omega (arith, level-cell id L p c)) g)
+
+pub look-small : (f g : ℕ → Bool) (k r : ℕ) → r ≡ both f g k → r ≤ 17
+look-small f g k r e = omega (arith, bit-le (f k), bit-le (g k))
+
+-- four looks joined have the sets of both tests
+pub looks-joined : (f g : ℕ → Bool) (a b c d all : ℕ) → a ≡ both f g 0 → b ≡ both f g 1 → c ≡ both f g 2 → d ≡ both f g 3 → all ≡ fourBits a b c d → (all % 16 ≡ setBy f) × (all / 16 ≡ setBy g)
+looks-joined f g a b c d all ea eb ec ed e = rw (e, ea, eb, ec, ed) (two-sets f g)

@@ -3,13 +3,15 @@
 ghost use mathlib.Core.Path.{_≡_};
 ghost use mathlib.Core.Bool.{true, _||_};
 ghost use mathlib.Core.List.{_++_};
-ghost use Prim.Native.Nat.{_-_};
+ghost use Prim.Native.Nat.{ℕ, _+_, _-_, _*_, _<_};
 ghost use lib.ListN.{length, replicate};
-ghost use Rattle.cellid.specs.CellId.{Cell, validId, holds};
+ghost use Rattle.cellid.specs.CellId.{Cell, validId, levelOf, childOf, holds};
 ghost use Rattle.cell.specs.Cell.{cellOf, capBound};
 ghost use Rattle.cap.specs.Bound.{unionBound, inSix};
+ghost use Rattle.cap.specs.Siblings.{bitOf, looksOf};
 ghost use Rattle.region.specs.Region.{isFinite, capInDomain, inDomain, intersectsCell, containsCell, boundOf};
 use cap::Bound;
+use cap::Looks;
 use cell::Cap;
 
 pub enum Region {
@@ -93,6 +95,42 @@ pub fn contains_cell(g: Region, id: u64) -> bool
     match g {
         Region::Cap(c) => cap::contains_cell(c, id),
         Region::Cell(own) => cell_contains(own, id),
+    }
+}
+
+// What the k-th child of a valid id that is no leaf is to a cell: 1 where they share a leaf, and 16 more where it lies in the cell.
+fn cell_look(own: u64, id: u64, k: u64) -> u64
+    requires { ⌜ (validId own ≡ true) × Cell id × (levelOf id < 30) × (k < 4) ⌝ }
+    ensures { λ r. ⌜ r ≡ bitOf (holds own (childOf id k) || holds (childOf id k) own) + 16 * bitOf (holds own (childOf id k)) ⌝ }
+{
+    let c = cellid::child(id, k);
+    cap::mark(cell_intersects(own, c)) + 16 * cap::mark(cell_contains(own, c))
+}
+
+fn cell_looks(own: u64, id: u64) -> Looks
+    requires { ⌜ (validId own ≡ true) × Cell id × (levelOf id < 30) ⌝ }
+    ensures { λ r. ⌜ r ≡ looksOf (λ (x : ℕ). holds own x || holds x own) (holds own) id ⌝ }
+{
+    let all = cap::joined(
+        cell_look(own, id, 0),
+        cell_look(own, id, 1),
+        cell_look(own, id, 2),
+        cell_look(own, id, 3),
+    );
+    Looks {
+        meets: all % 16,
+        inside: all / 16,
+    }
+}
+
+// Both tests of the four children of a valid id that is no leaf, as sets by place on the curve.
+pub fn look_children(g: Region, id: u64) -> Looks
+    requires { ⌜ (inDomain g ≡ true) × Cell id × (levelOf id < 30) ⌝ }
+    ensures { λ r. ⌜ r ≡ looksOf (intersectsCell g) (containsCell g) id ⌝ }
+{
+    match g {
+        Region::Cap(c) => cap::look_children(c, id),
+        Region::Cell(own) => cell_looks(own, id),
     }
 }
 

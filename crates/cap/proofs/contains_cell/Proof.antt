@@ -1,5 +1,5 @@
 -- `cap::contains_cell` meets its contract.
-use Rattle.cap.specs.Cap.{capContains}
+use Rattle.cap.specs.Cap.{holdsCell, capContains}
 use mathlib.Core.Path.{_∙_}
 use native.Mathlib.Omega.{arith}
 use Rattle.cell.specs.Cell.{verticesOf}
@@ -18,7 +18,7 @@ contains-point-requires : tie.Need-contains-point-requires
 contains-point-requires c κs = search needs
 
 returns : tie.Need-returns
-unfolding capContains
+unfolding capContains holdsCell
 returns c = rw (corner-held _ _ _ _ _ _ (c .before .before .before .from-id .ensures) (c .before .before .vertex .ensures) (c .before .contains-point .ensures) ∙ denied _ (c .if1 .taken))
 
 vertex-requires-2 : tie.Need-vertex-requires-2
@@ -28,7 +28,7 @@ contains-point-requires-2 : tie.Need-contains-point-requires-2
 contains-point-requires-2 c κs = search needs
 
 returns-2 : tie.Need-returns-2
-unfolding capContains
+unfolding capContains holdsCell
 returns-2 c =
     rw (
       corner-held _ _ _ _ _ _ (c .before .before .before .before .before .before .from-id .ensures) (c .before .before .before .before .before .vertex .ensures) (c .before .before .before .before .contains-point .ensures) ∙ granted _ (c .before .before .before .if1 .left),
@@ -42,7 +42,7 @@ contains-point-requires-3 : tie.Need-contains-point-requires-3
 contains-point-requires-3 c κs = search needs
 
 returns-3 : tie.Need-returns-3
-unfolding capContains
+unfolding capContains holdsCell
 returns-3 c =
     rw (
       corner-held _ _ _ _ _ _ (c .before .before .before .before .before .before .before .before .before .from-id .ensures) (c .before .before .before .before .before .before .before .before .vertex .ensures) (c .before .before .before .before .before .before .before .contains-point .ensures) ∙ granted _ (c .before .before .before .before .before .before .if1 .left),
@@ -57,7 +57,7 @@ contains-point-requires-4 : tie.Need-contains-point-requires-4
 contains-point-requires-4 c κs = search needs
 
 returns-4 : tie.Need-returns-4
-unfolding capContains
+unfolding capContains holdsCell
 returns-4 c =
     rw (
       corner-held _ _ _ _ _ _ (c .before .before .before .before .before .before .before .before .before .before .before .before .from-id .ensures) (c .before .before .before .before .before .before .before .before .before .before .before .vertex .ensures) (c .before .before .before .before .before .before .before .before .before .before .contains-point .ensures) ∙ granted _ (c .before .before .before .before .before .before .before .before .before .if1 .left),
@@ -75,7 +75,7 @@ intersects-cell-vertices-requires c κs =
     (face-of _ _ (c .before .before .before .before .before .before .before .before .before .before .before .before .before .before .pre) (c .before .before .before .before .before .before .before .before .before .before .before .before .before .from-id .ensures), rw (c .before .before .before .before .before .before .before .before .before .before .before .before .vertex .ensures, c .before .before .before .before .before .before .before .before .before .vertex2 .ensures, c .before .before .before .before .before .before .vertex3 .ensures, c .before .before .before .vertex4 .ensures))
 
 returns-5 : tie.Need-returns-5
-unfolding capContains
+unfolding capContains holdsCell
 returns-5 c =
     rw (
       corner-held _ _ _ _ _ _ (c .before .before .before .before .before .before .before .before .before .before .before .before .before .before .from-id .ensures) (c .before .before .before .before .before .before .before .before .before .before .before .before .before .vertex .ensures) (c .before .before .before .before .before .before .before .before .before .before .before .before .contains-point .ensures) ∙ granted _ (c .before .before .before .before .before .before .before .before .before .before .before .if1 .left),

@@ -5,6 +5,7 @@ use Prim.Native.Nat.{_+_, _-_, _≤_}
 use lib.ListN.{drop}
 use native.Mathlib.Omega.{arith}
 use Rattle.cap.proofs.BoundLaws.{level-first, level-up, level-here, level-last}
+use borrow.Author.Needs.{needs}
 use Rattle.cap.proofs.level_for.Statement.{statement}
 use Rattle.cap.proofs.level_for.Tie as tie
 
@@ -17,12 +18,6 @@ abbrev μ-loop : tie.MeasureT-loop
 loop-holds : tie.Need-loop-holds Inv-loop μ-loop
 loop-holds c = (omega arith, level-first _)
 
-mul-if1 : tie.Need-mul-if1 Inv-loop μ-loop
-mul-if1 c = omega arith
-
-array-read-if1 : tie.Need-array-read-if1 Inv-loop μ-loop
-array-read-if1 c = omega arith
-
 add-level : tie.Need-add-level Inv-loop μ-loop
 add-level c = omega arith
 
@@ -30,12 +25,10 @@ loop-less : tie.Need-loop-less Inv-loop μ-loop
 loop-less c = omega arith
 
 loop-again : tie.Need-loop-again Inv-loop μ-loop
-unfolding thresholds
-loop-again c = (omega arith, level-up _ _ (c .before .loop-test .taken) (c .before .before .loop .inv .1) (c .if1 .taken))
+loop-again c = (omega arith, level-up _ _ (c .before .before .loop-test .taken) (c .before .before .before .loop .inv .1) (rw (c .before .threshold .ensures) at (c .if1 .taken)))
 
 returns : tie.Need-returns Inv-loop μ-loop
-unfolding thresholds
-returns c = sym (level-here _ _ (c .before .loop-test .taken) (c .before .before .loop .inv .1) (c .if1 .left))
+returns c = sym (level-here _ _ (c .before .before .loop-test .taken) (c .before .before .before .loop .inv .1) (rw (c .before .threshold .ensures) at (c .if1 .left)))
 
 returns-2 : tie.Need-returns-2 Inv-loop μ-loop
 returns-2 c = let e : c .before .loop .level ≡ 30 = omega arith in sym (level-last _ (rw e at (c .before .loop .inv .1)))
@@ -47,8 +40,7 @@ level-for-spec =
     Inv-loop
     μ-loop
     loop-holds
-    mul-if1
-    array-read-if1
+    (λ c κs. search needs)
     add-level
     loop-less
     loop-again

@@ -1,70 +1,51 @@
 -- `cell::edge` meets its contract.
 use Rattle.cell.specs.Cell.{edgeAt}
-use Rattle.cell.proofs.Laws.{three}
-use borrow.Author.Needs.{needs}
+use Rattle.cell.specs.Siblings.{cellScales}
+use native.Mathlib.Omega.{arith}
+use Rattle.cellid.proofs.Laws.{last-arm}
 use Rattle.cell.proofs.edge.Statement.{statement}
 use Rattle.cell.proofs.edge.Tie as tie
 
-vnorm-requires : tie.Need-vnorm-requires
-vnorm-requires c κs = search needs
+v-edge-requires : tie.Need-v-edge-requires
+unfolding cellScales
+v-edge-requires c κs = (c .before .pre .0, rw (c .before .pre .2))
 
-normalize-requires : tie.Need-normalize-requires
-normalize-requires c κs = search needs
+u-edge-requires : tie.Need-u-edge-requires
+unfolding cellScales
+u-edge-requires c κs = (c .before .pre .0, rw (c .before .pre .2))
 
-unorm-requires : tie.Need-unorm-requires
-unorm-requires c κs = search needs
+v-back-requires : tie.Need-v-back-requires
+unfolding cellScales
+v-back-requires c κs = (c .before .pre .0, rw (c .before .pre .2))
 
-normalize-requires-2 : tie.Need-normalize-requires-2
-normalize-requires-2 c κs = search needs
-
-vnorm-requires-2 : tie.Need-vnorm-requires-2
-vnorm-requires-2 c κs = search needs
-
-mul-requires : tie.Need-mul-requires
-mul-requires c κs = search needs
-
-normalize-requires-3 : tie.Need-normalize-requires-3
-normalize-requires-3 c κs = search needs
-
-unorm-requires-2 : tie.Need-unorm-requires-2
-unorm-requires-2 c κs = search needs
-
-mul-requires-2 : tie.Need-mul-requires-2
-mul-requires-2 c κs = search needs
-
-normalize-requires-4 : tie.Need-normalize-requires-4
-normalize-requires-4 c κs = search needs
+u-back-requires : tie.Need-u-back-requires
+unfolding cellScales
+u-back-requires c κs = (c .before .pre .0, rw (c .before .pre .2))
 
 returns : tie.Need-returns
 unfolding edgeAt
-returns c = rw (c .before .before .match .keys1, ← c .before .vnorm .ensures) (c .normalize .ensures)
+returns c = rw (c .before .match .keys1) (c .v-edge .ensures)
 
 returns-2 : tie.Need-returns-2
 unfolding edgeAt
-returns-2 c = rw (c .before .before .match .keys2, ← c .before .unorm .ensures) (c .normalize2 .ensures)
+returns-2 c = rw (c .before .match .keys2) (c .u-edge .ensures)
 
 returns-3 : tie.Need-returns-3
 unfolding edgeAt
-returns-3 c = rw (c .before .before .before .match .keys3, ← c .before .before .vnorm2 .ensures, ← c .before .mul .ensures) (c .normalize3 .ensures)
+returns-3 c = rw (c .before .match .keys3) (c .v-back .ensures)
 
 returns-4 : tie.Need-returns-4
 unfolding edgeAt
-returns-4 c = rw (three _ (c .before .before .before .before .pre .1) (c .before .before .before .match .rest .0 .0 .1) (c .before .before .before .match .rest .0 .1) (c .before .before .before .match .rest .1), ← c .before .before .unorm2 .ensures, ← c .before .mul2 .ensures) (c .normalize4 .ensures)
+returns-4 c = rw (last-arm _ 3 (omega (arith, c .before .before .pre .1)) (c .before .match .rest)) (c .u-back .ensures)
 
 pub edge-spec : {M : Type 1} → statement M
 edge-spec =
     tie.close
     (tie.spec
-    vnorm-requires
-    normalize-requires
-    unorm-requires
-    normalize-requires-2
-    vnorm-requires-2
-    mul-requires
-    normalize-requires-3
-    unorm-requires-2
-    mul-requires-2
-    normalize-requires-4
+    v-edge-requires
+    u-edge-requires
+    v-back-requires
+    u-back-requires
     returns
     returns-2
     returns-3

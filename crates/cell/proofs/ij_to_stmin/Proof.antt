@@ -1,19 +1,14 @@
 -- `cell::ij_to_stmin` meets its contract.
-use Rattle.cell.specs.Cell.{ijToStMin}
-use mathlib.Core.Path.{refl}
+use native.Mathlib.Omega.{arith}
 use borrow.Author.Needs.{needs}
+use borrow.Author.Tests.{lt-ltb}
+use Rattle.cell.specs.Cell.{ijToStMin}
 use Rattle.cell.proofs.ij_to_stmin.Statement.{statement}
 use Rattle.cell.proofs.ij_to_stmin.Tie as tie
 
-cast-result : tie.Need-cast-result
-cast-result c = search needs
-
-int-to-float-result : tie.Need-int-to-float-result
-int-to-float-result c = search needs
-
 returns : tie.Need-returns
 unfolding ijToStMin
-returns c = refl
+returns c = rw (lt-ltb (c .before .args .i) 0x8000_0000 (omega (arith, c .before .pre)))
 
 pub ij-to-stmin-spec : {M : Type 1} → statement M
-ij-to-stmin-spec = tie.close (tie.spec cast-result int-to-float-result returns)
+ij-to-stmin-spec = tie.close (tie.spec (λ c. search needs) (λ c. search needs) returns)

@@ -1,6 +1,7 @@
 -- `cell::vertex` meets its contract.
 use Rattle.cell.specs.Cell.{vertexAt}
-use Rattle.cell.proofs.Laws.{three}
+use native.Mathlib.Omega.{arith}
+use Rattle.cellid.proofs.Laws.{last-arm}
 use borrow.Author.Needs.{needs}
 use Rattle.cell.proofs.vertex.Statement.{statement}
 use Rattle.cell.proofs.vertex.Tie as tie
@@ -31,7 +32,7 @@ returns-3 c = rw (c .before .match .keys3) (c .unit-at3 .ensures)
 
 returns-4 : tie.Need-returns-4
 unfolding vertexAt
-returns-4 c = rw (three _ (c .before .before .pre .1) (c .before .match .rest .0 .0 .1) (c .before .match .rest .0 .1) (c .before .match .rest .1)) (c .unit-at4 .ensures)
+returns-4 c = rw (last-arm _ 3 (omega (arith, c .before .before .pre .1)) (c .before .match .rest)) (c .unit-at4 .ensures)
 
 pub vertex-spec : {M : Type 1} → statement M
 vertex-spec =

@@ -1,13 +1,10 @@
 -- `covering::respond` meets its contract: the refusals 1 to 6, then those of the run, then what its end gives. Assumes nothing.
 use mathlib.Core.Path.{sym, _∙_}
 use Rattle.covering.specs.Covering.{resultOf}
-use Rattle.covering.proofs.Answers.{checked-refused, ran-done, respond-late, finish-asks, respond-done}
+use Rattle.covering.proofs.Answers.{checked-refused, ran-done, respond-late, finish-asks, finish-holds, respond-done}
 use borrow.Author.Needs.{needs}
 use Rattle.covering.proofs.respond.Statement.{statement}
 use Rattle.covering.proofs.respond.Tie as tie
-
-first-refusal-requires : tie.Need-first-refusal-requires
-first-refusal-requires c κs = search needs
 
 returns : tie.Need-returns
 unfolding resultOf
@@ -16,33 +13,20 @@ returns c = checked-refused _ _ _ _ _ _ (c .before .first-refusal .ensures) (c .
 run-from-starts-requires : tie.Need-run-from-starts-requires
 run-from-starts-requires c κs = sym (c .before .before .first-refusal .ensures) ∙ c .before .if1 .left
 
-enum-known-ran : tie.Need-enum-known-ran
-enum-known-ran c = search needs
-
-enum-known-ran-2 : tie.Need-enum-known-ran-2
-enum-known-ran-2 c = search needs
-
 finish-requires : tie.Need-finish-requires
 finish-requires c κs =
     let r = c .before .before .before .before .before .before .before in
     let n = r .before .before .before in
     let a = n .before .before .before .args in
     let d = ran-done _ _ _ _ (sym (c .before .before .before .ran2 .given .1) ∙ r .run-from-starts .ensures .0) in
-    finish-asks (a .e) _ _ _ _ _ (a .out .now) (sym (n .first-refusal .ensures) ∙ r .before .before .if1 .left) _ (r .run-from-starts .ensures .1) _ _ _ d (r .run-from-starts .kept .1 .1 .1 .1 .0)
-
-same-length : tie.Need-same-length
-same-length c = search needs
+    let none = sym (n .first-refusal .ensures) ∙ r .before .before .if1 .left in
+    let same = r .run-from-starts .kept .1 .1 .1 .1 .0 in
+    (finish-asks (a .e) _ _ _ _ _ (a .out .now) none _ (r .run-from-starts .ensures .1) _ _ _ d same, finish-holds (a .e) _ _ _ _ _ (a .out .now) none _ (r .run-from-starts .ensures .1) _ _ _ d same)
 
 returns-2 : tie.Need-returns-2
 returns-2 c =
     let r = c .before .before .before .before .before in
     respond-late _ _ _ _ _ _ _ (sym (r .before .before .before .first-refusal .ensures) ∙ r .before .before .if1 .left) _ (r .run-from-starts .ensures .1) _ (sym (c .before .ran .given .1) ∙ r .run-from-starts .ensures .0)
-
-same-length-2 : tie.Need-same-length-2
-same-length-2 c = search needs
-
-same-length-3 : tie.Need-same-length-3
-same-length-3 c = search needs
 
 returns-3 : tie.Need-returns-3
 returns-3 c =
@@ -55,14 +39,14 @@ pub respond-spec : {M : Type 1} → statement M
 respond-spec =
     tie.close
     (tie.spec
-    first-refusal-requires
+    (λ c κs. search needs)
     returns
     run-from-starts-requires
-    enum-known-ran
-    enum-known-ran-2
+    (λ c. search needs)
+    (λ c. search needs)
     finish-requires
-    same-length
+    (λ c. search needs)
     returns-2
-    same-length-2
-    same-length-3
+    (λ c. search needs)
+    (λ c. search needs)
     returns-3)

@@ -1,6 +1,6 @@
 -- `queue::pop` meets its contract. The invariant: the rest of the defined move ends in what the contract says.
 use mathlib.Core.Path.{_≡_, refl, sym, ap, _∙_}
-use mathlib.Core.Bool.{Bool, true}
+use mathlib.Core.Bool.{true}
 use mathlib.Core.Logic.{⊎-elim}
 use mathlib.Core.List.{List}
 use Prim.Native.Nat.{ℕ, _+_, _*_, _-_, _<_}
@@ -10,7 +10,7 @@ use Rattle.order.proofs.HeapRun.{Down, Down-start, Down-turn, Down-leaf, Down-s
 use Rattle.queue.specs.declared.Rec.{Rec}
 use Rattle.queue.specs.declared.Rule.{Rule}
 use Rattle.queue.specs.Queue.{getR, putR, capR, before, popR, lesserR}
-use Rattle.queue.proofs.Mem.{length-putR}
+use Rattle.queue.proofs.Mem.{length-putR, priced}
 use Rattle.queue.proofs.pop.Statement.{statement}
 use Rattle.queue.proofs.pop.Tie as tie
 
@@ -20,20 +20,20 @@ record Inv (m₀ : List ℕ) (n : ℕ) (w : Rule) (a : Rec) (m : List ℕ) (i : 
   len : length m ≡ length m₀
   run : Down getR putR (before w) (popR w m₀ n) n a m i
 
-turn : (m₀ : List ℕ) (n : ℕ) (w : Rule) (a : Rec) (m : List ℕ) (i c : ℕ) (x : Rec) (b : Bool) (m′ : List ℕ) → 2 * i + 1 < n
-    → c ≡ lesserR w m n i → (i < c) × (c < n) → x ≡ getR m c → b ≡ before w x a → b ≡ true → m′ ≡ putR m i x → Inv m₀ n w a m i → Inv m₀ n w a m′ c
-turn m₀ n w a m i c x b m′ p ec bounds ex eb t em I = record {
+turn : (m₀ : List ℕ) (n : ℕ) (w : Rule) (a : Rec) (m : List ℕ) (i c : ℕ) (x : Rec) (m′ : List ℕ) → 2 * i + 1 < n
+    → c ≡ lesserR w m n i → i < c → c < n → x ≡ getR m c → before w x a ≡ true → m′ ≡ putR m i x → Inv m₀ n w a m i → Inv m₀ n w a m′ c
+turn m₀ n w a m i c x m′ p ec lo hi ex t em I = record {
   room = I .room;
   within = omega arith;
   len = ap length em ∙ length-putR m i x ∙ I .len;
-  run = rw (em, ex) (Down-turn getR putR (before w) ec p (bounds .0) (ap (λ (y : Rec). before w y a) (sym ex) ∙ sym eb ∙ t) (I .run));
+  run = rw (em, ex) (Down-turn getR putR (before w) ec p lo (ap (λ (y : Rec). before w y a) (sym ex) ∙ t) (I .run));
 }
 
 abbrev Inv-loop : tie.InvT-loop
-Inv-loop m₀ n w least a i₀ m i = Inv m₀ n w a m i
+Inv-loop m₀ n w full least a own i₀ m i = Inv m₀ n w a m i
 
 abbrev μ-loop : tie.MeasureT-loop
-μ-loop m₀ n w least a i₀ m i = n - i
+μ-loop m₀ n w full least a own i₀ m i = n - i
 
 get-requires : tie.Need-get-requires Inv-loop μ-loop
 get-requires c κs = omega arith
@@ -41,17 +41,17 @@ get-requires c κs = omega arith
 get-requires-2 : tie.Need-get-requires-2 Inv-loop μ-loop
 get-requires-2 c κs = omega arith
 
+cost-requires : tie.Need-cost-requires Inv-loop μ-loop
+cost-requires c κs = omega arith
+
 loop-holds : tie.Need-loop-holds Inv-loop μ-loop
-loop-holds c = record { room = omega arith; within = omega arith; len = refl; run = rw (c .get2 .ensures) (Down-start getR putR _ _ _) }
+loop-holds c = record { room = omega arith; within = omega arith; len = refl; run = rw (c .before .get2 .ensures) (Down-start getR putR _ _ _) }
 
 lesser-requires : tie.Need-lesser-requires Inv-loop μ-loop
 lesser-requires c κs = omega arith
 
-get-requires-3 : tie.Need-get-requires-3 Inv-loop μ-loop
-get-requires-3 c κs = omega arith
-
 less-requires : tie.Need-less-requires Inv-loop μ-loop
-less-requires c κs = omega arith
+less-requires c κs = tt
 
 put-requires : tie.Need-put-requires Inv-loop μ-loop
 put-requires c κs = omega arith
@@ -64,10 +64,11 @@ loop-again c =
     let after-put = c .before .before in
     let then = after-put .before .before in
     let after-less = then .before in
-    let after-get = after-less .before in
-    let after-lesser = after-get .before .before in
+    let after-lesser = after-less .before .before in
     let in-loop = after-lesser .before .before in
-    turn _ _ _ _ _ _ _ _ _ _ (omega arith) (after-lesser .lesser .ensures .0) (after-lesser .lesser .ensures .1) (after-get .get3 .ensures) (after-less .less .ensures) (then .if1 .taken) (after-put .put .ensures) (in-loop .before .loop .inv)
+    let own = in-loop .before .before .cost .ensures in
+    let l = after-lesser .lesser .ensures in
+    turn _ _ _ _ _ _ _ _ _ (omega arith) (l .0) (l .3) (l .4) (l .1) (priced _ _ _ _ _ _ _ (l .2) own (after-less .less .ensures) (then .if1 .taken)) (after-put .put .ensures) (in-loop .before .loop .inv)
 
 put-requires-2 : tie.Need-put-requires-2 Inv-loop μ-loop
 put-requires-2 c κs = omega arith
@@ -81,10 +82,11 @@ returns : tie.Need-returns Inv-loop μ-loop
 returns c =
     let after-put = c .before .before in
     let left = after-put .before .before in
-    let run = left .before .loop .inv .run in (
-      left .before .before .before .before .get .ensures,
+    let run = left .before .loop .inv .run in
+    let after-cost = left .before .before in (
+      after-cost .before .before .before .get .ensures,
       after-put .put2 .ensures ∙ ⊎-elim (λ w. Down-leaf getR putR _ (omega (arith, w .left)) run)
-          (λ w. Down-stop getR putR _ (w .2 .ensures .0) (ap (λ (y : Rec). before _ y _) (sym (w .4 .ensures)) ∙ sym (w .5 .ensures) ∙ w .6 .left) run) (left .loop-test .came),
+          (λ w. Down-stop getR putR _ (w .2 .ensures .0) (ap (λ (y : Rec). before _ y _) (sym (w .2 .ensures .1)) ∙ priced _ _ _ _ _ _ _ (w .2 .ensures .2) (after-cost .cost .ensures) (w .4 .ensures) (w .5 .left)) run) (left .loop-test .came),
     )
 
 pub pop-spec : {M : Type 1} → statement M
@@ -95,9 +97,9 @@ pop-spec =
     μ-loop
     get-requires
     get-requires-2
+    cost-requires
     loop-holds
     lesser-requires
-    get-requires-3
     less-requires
     put-requires
     loop-less

@@ -1,5 +1,5 @@
 -- `queue::push` meets its contract. The invariant: the rest of the defined move ends in what the contract says.
-use mathlib.Core.Path.{_≡_, refl, sym, ap, _∙_}
+use mathlib.Core.Path.{_≡_, refl, ap, _∙_}
 use mathlib.Core.Bool.{Bool, true}
 use mathlib.Core.Logic.{⊎-elim}
 use mathlib.Core.List.{List}
@@ -7,11 +7,12 @@ use Prim.Native.Nat.{ℕ, _≤_, _<_}
 use native.Mathlib.Omega.{arith}
 use lib.ListN.{length}
 use Rattle.order.specs.Heap.{above}
+use Rattle.order.specs.Lex.{lexb}
 use Rattle.order.proofs.HeapRun.{Up, Up-start, Up-turn, Up-top, Up-stop}
 use Rattle.queue.specs.declared.Rec.{Rec}
 use Rattle.queue.specs.declared.Rule.{Rule}
-use Rattle.queue.specs.Queue.{getR, putR, before, pushR}
-use Rattle.queue.proofs.Mem.{length-putR}
+use Rattle.queue.specs.Queue.{getR, putR, costR, keyAt, before, pushR}
+use Rattle.queue.proofs.Mem.{length-putR, priced}
 use Rattle.queue.proofs.push.Statement.{statement}
 use Rattle.queue.proofs.push.Tie as tie
 
@@ -20,19 +21,26 @@ record Inv (m₀ : List ℕ) (n : ℕ) (r : Rec) (w : Rule) (m : List ℕ) (i : 
   len : length m ≡ length m₀
   run : Up getR putR (before w) (pushR w m₀ n r) r m i
 
-turn : (m₀ : List ℕ) (n : ℕ) (r : Rec) (w : Rule) (m : List ℕ) (i : ℕ) (x : Rec) (b : Bool) (m′ : List ℕ) → 0 < i
-    → x ≡ getR m (above i) → b ≡ before w r x → b ≡ true → m′ ≡ putR m i x → Inv m₀ n r w m i → Inv m₀ n r w m′ (above i)
-turn m₀ n r w m i x b m′ p ex eb t em I = record {
+-- the test, of the record's own cost a and the cost b of the one above it
+test : (w : Rule) (r x : Rec) (m : List ℕ) (i a b : ℕ) (t v : Bool) → x ≡ getR m i → a ≡ costR (w .full) r → b ≡ costR (w .full) x → t ≡ lexb (keyAt a r) (keyAt b x) → t ≡ v → before w r (getR m i) ≡ v
+test w r x m i a b t v ex ea eb et ev = rw (← ex) (priced w r x a b t v ea eb et ev)
+
+turn : (m₀ : List ℕ) (n : ℕ) (r : Rec) (w : Rule) (m : List ℕ) (i : ℕ) (x : Rec) (m′ : List ℕ) → 0 < i
+    → x ≡ getR m (above i) → before w r (getR m (above i)) ≡ true → m′ ≡ putR m i x → Inv m₀ n r w m i → Inv m₀ n r w m′ (above i)
+turn m₀ n r w m i x m′ p ex t em I = record {
   within = omega arith;
   len = ap length em ∙ length-putR m i x ∙ I .len;
-  run = rw (em, ex) (Up-turn getR putR (before w) p (ap (before w r) (sym ex) ∙ sym eb ∙ t) (I .run));
+  run = rw (em, ex) (Up-turn getR putR (before w) p t (I .run));
 }
 
 abbrev Inv-loop : tie.InvT-loop
-Inv-loop m₀ n r w i₀ m i = Inv m₀ n r w m i
+Inv-loop m₀ n r full own i₀ m i = Inv m₀ n r (record { full = full }) m i
 
 abbrev μ-loop : tie.MeasureT-loop
-μ-loop m₀ n r w i₀ m i = i
+μ-loop m₀ n r full own i₀ m i = i
+
+cost-requires : tie.Need-cost-requires Inv-loop μ-loop
+cost-requires c κs = omega arith
 
 loop-holds : tie.Need-loop-holds Inv-loop μ-loop
 loop-holds c = record { within = omega arith; len = refl; run = Up-start getR putR _ _ _ _ }
@@ -43,8 +51,11 @@ sub-p c = omega arith
 get-requires : tie.Need-get-requires Inv-loop μ-loop
 get-requires c κs = omega arith
 
+cost-requires-2 : tie.Need-cost-requires-2 Inv-loop μ-loop
+cost-requires-2 c κs = omega arith
+
 less-requires : tie.Need-less-requires Inv-loop μ-loop
-less-requires c κs = omega arith
+less-requires c κs = tt
 
 put-requires : tie.Need-put-requires Inv-loop μ-loop
 put-requires c κs = omega arith
@@ -57,9 +68,11 @@ loop-again c =
     let after-put = c .before .before in
     let then = after-put .before .before in
     let after-less = then .before in
-    let after-get = after-less .before in
+    let after-cost = after-less .before in
+    let after-get = after-cost .before in
     let in-loop = after-get .before .before in
-    turn _ _ _ _ _ _ _ _ _ (in-loop .loop-test .taken) (after-get .get .ensures) (after-less .less .ensures) (then .if1 .taken) (after-put .put .ensures) (in-loop .before .loop .inv)
+    let own = in-loop .before .before .cost .ensures in
+    turn _ _ _ _ _ _ _ _ (in-loop .loop-test .taken) (after-get .get .ensures) (test _ _ _ _ _ _ _ _ _ (after-get .get .ensures) own (after-cost .cost2 .ensures) (after-less .less .ensures) (then .if1 .taken)) (after-put .put .ensures) (in-loop .before .loop .inv)
 
 put-requires-2 : tie.Need-put-requires-2 Inv-loop μ-loop
 put-requires-2 c κs = omega arith
@@ -74,7 +87,8 @@ returns c =
     let after-put = c .before .before in
     let left = after-put .before .before in
     let run = left .before .loop .inv .run in
-    after-put .put2 .ensures ∙ ⊎-elim (λ w. Up-top getR putR _ (w .left) run) (λ w. Up-stop getR putR _ (ap (before _ _) (sym (w .2 .ensures)) ∙ sym (w .3 .ensures) ∙ w .4 .left) run) (left .loop-test .came)
+    let own = left .before .before .cost .ensures in
+    after-put .put2 .ensures ∙ ⊎-elim (λ w. Up-top getR putR _ (w .left) run) (λ w. Up-stop getR putR _ (test _ _ _ _ _ _ _ _ _ (w .2 .ensures) own (w .3 .ensures) (w .4 .ensures) (w .5 .left)) run) (left .loop-test .came)
 
 pub push-spec : {M : Type 1} → statement M
 push-spec =
@@ -82,9 +96,11 @@ push-spec =
     (tie.spec
     Inv-loop
     μ-loop
+    cost-requires
     loop-holds
     sub-p
     get-requires
+    cost-requires-2
     less-requires
     put-requires
     loop-less
