@@ -1,16 +1,17 @@
 -- Laws of `specs/Cover.antt`: what is written for each that is found, whole, and where it ends.
 use mathlib.Core.Path.{_≡_, ap, _∙_}
-use mathlib.Core.List.{List}
-use Prim.Native.Nat.{ℕ, _+_, _*_, _≤_}
+use mathlib.Core.List.{List, [], _++_, append-nil}
+use Prim.Native.Nat.{ℕ, _+_, _-_, _*_, _≤_}
 use native.Mathlib.Omega.{arith}
-use lib.ListN.{length, drop, length-append}
+use lib.ListN.{length, take, drop, length-append, length-drop, drop-of-length-le}
+use lib.Seq.{length-take-le, take-all, take-at, drop-at}
 use Rattle.text.specs.declared.Fault.{Fault}
 use Rattle.input.specs.declared.Feed.{Feed}
 use Rattle.input.specs.declared.Found.{Found}
 use Rattle.replies.specs.Write.{Wrote, Whole, errorText, endText}
 use Rattle.replies.proofs.Lengths.{wrote-whole, error-length, end-length}
 use Rattle.requests.specs.Requests.{Replied}
-use Rattle.cover.specs.Cover.{textFor, memoryFor, outputFor, lineOf, Told}
+use Rattle.cover.specs.Cover.{textFor, memoryFor, outputFor, lineOf, Told, ToldAt}
 
 module _ (f : Feed) (number answered : ℕ) (buf mem out page : List ℕ) (r : ℕ) (page' : List ℕ) where
   pub told-line : (mem' out' : List ℕ) → f .found ≡ Found.Line → Replied number (lineOf f buf) mem mem' out out' page r page' → Told f number answered buf mem mem' out out' page r page'
@@ -33,3 +34,19 @@ module _ (f : Feed) (number answered : ℕ) (buf mem out page : List ℕ) (r : �
 -- a text that is whole lies in its page
 pub within : (s d : List ℕ) (r : ℕ) (d' : List ℕ) → Whole s d r d' → r ≤ length d'
 within s d r d' w = let n : length d' ≡ length s + length (drop (length s) d) = ap length (w .bytes) ∙ length-append s (drop (length s) d) in omega (arith, w .count)
+
+-- an answer in the part of a page behind its first bytes
+module _ (f : Feed) (number answered : ℕ) (buf mem mem' out out' : List ℕ) (at : ℕ) (page : List ℕ) (r : ℕ) (part : List ℕ) where
+  pub told-at : at ≤ length page → Told f number answered buf mem mem' out out' (take (length page - at) (drop at page)) r part
+      → ToldAt f number answered buf mem mem' out out' at page (at + r) (take at page ++ (part ++ drop (length page - at) (drop at page)))
+  told-at room T =
+      let k : length (drop at page) ≤ length page - at = simp length-drop (omega arith) in
+      let n : length (take at page) ≡ at = length-take-le at page room in
+      let e : drop (length page - at) (drop at page) ≡ [] = drop-of-length-le (drop at page) k in
+      let s : (at + r) - at ≡ r = omega arith in
+      rw (e, append-nil part) (record {
+        after = omega arith;
+        within = rw (length-append (take at page) part, n) (omega (arith, within _ _ _ _ (T .wrote)));
+        kept = take-at (take at page) part at n;
+        told = rw (s, drop-at (take at page) part at n) (rw (take-all (length page - at) (drop at page) k) at T);
+      })

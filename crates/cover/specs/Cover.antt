@@ -1,7 +1,8 @@
 -- What `cover` writes for what was found in its input, and what stands in the working memory and in the output afterwards.
 use mathlib.Core.Path.{_≡_}
 use mathlib.Core.List.{List}
-use Prim.Native.Nat.{ℕ}
+use Prim.Native.Nat.{ℕ, _-_, _≤_}
+use lib.ListN.{length, take, drop}
 use Rattle.text.specs.declared.Fault.{Fault}
 use Rattle.input.specs.declared.Feed.{Feed}
 use Rattle.input.specs.declared.Found.{Found}
@@ -37,3 +38,10 @@ pub record Told (f : Feed) (number answered : ℕ) (buf mem mem' out out' page :
   pub wrote : Whole (textFor (f .found) number answered (lineOf f buf) mem out) page r page'
   pub memory : mem' ≡ memoryFor (f .found) (lineOf f buf) mem out
   pub output : out' ≡ outputFor (f .found) (lineOf f buf) mem out
+
+-- the text is written whole behind the page's first bytes, which stay as they are
+pub record ToldAt (f : Feed) (number answered : ℕ) (buf mem mem' out out' : List ℕ) (at : ℕ) (page : List ℕ) (r : ℕ) (page' : List ℕ) : Type 0 where
+  pub after : at ≤ r
+  pub within : r ≤ length page'
+  pub kept : take at page' ≡ take at page
+  pub told : Told f number answered buf mem mem' out out' (drop at page) (r - at) (drop at page')

@@ -5,7 +5,7 @@ ghost use mathlib.Core.Path.{_≡_};
 ghost use Prim.Native.Nat.{_+_, _*_, _≤_};
 ghost use lib.ListN.{length};
 ghost use Rattle.input.specs.Feed.{Ready};
-ghost use Rattle.cover.specs.Cover.{Told};
+ghost use Rattle.cover.specs.Cover.{Told, ToldAt};
 use input::Feed;
 use input::Found;
 use libc::STDIN_FILENO;
@@ -25,11 +25,11 @@ fn places() -> [u64; 65536]
     [0; 65536]
 }
 
-// Room for the longest answer: 65,536 ids of 17 bytes each, and what stands before and after them.
-fn blank_page() -> [u8; 1114368]
-    ensures { λ r. ⌜ 1114368 ≡ length r ⌝ }
+// Room for the longest answer, 65,536 ids of 17 bytes each and what stands before and after them, behind 65,536 bytes of answers that wait to be written.
+fn blank_page() -> [u8; 1179904]
+    ensures { λ r. ⌜ 1179904 ≡ length r ⌝ }
 {
-    [0; 1114368]
+    [0; 1179904]
 }
 
 // The answer to what was found, whole, from the first byte of the page on, and how long it is.
@@ -58,28 +58,54 @@ fn answer(
     }
 }
 
-// Line after line, numbered from 1 on, until the input ends or fails, or the output can't be written.
+// The answer behind the first bytes of the page, which stay as they are, and the place after it.
+fn answer_at(
+    f: Feed,
+    number: u64,
+    answered: u64,
+    buf: &[u8],
+    mem: &mut [u64],
+    out: &mut [u64],
+    page: &mut [u8],
+    at: usize,
+) -> usize
+    requires { ⌜ Ready (length (now buf)) f × (at + (17 * length (now out) + 256) ≤ length (now page)) ⌝ }
+    ensures { λ r. ⌜ ToldAt f number answered (now (buf .entry)) (now (mem .entry)) (now (mem .exit)) (now (out .entry)) (now (out .exit)) at (now (page .entry)) r (now (page .exit)) ⌝ }
+{
+    at + answer(f, number, answered, buf, mem, out, &mut page[at..])
+}
+
+// Line after line, numbered from 1 on, until the input ends or fails, or the output can't be written. Answers wait in the page as long as nothing has to be
+// read for the next line, and one more has room.
 fn run(buf: &mut [u8], mem: &mut [u64], out: &mut [u64], page: &mut [u8])
     requires { ⌜ 17 * length (now out) + 256 ≤ length (now page) ⌝ }
 {
+    let longest = 17 * out.len() + 256;
     let mut next = 0;
     let mut filled = 0;
     let mut number: u64 = 0;
     let mut answered: u64 = 0;
+    let mut waiting = 0;
     while number < u64::MAX {
-        let f = input::next_line(STDIN_FILENO, buf, next, filled);
-        number += 1;
-        let n = answer(f, number, answered, buf, mem, out, page);
-        let found = f.found;
-        if !input::tell(found, &page[..n]) {
+        let t = input::read_line(STDIN_FILENO, buf, next, filled, page, waiting, longest);
+        if t.failed {
             return;
         }
-        if 0 < n {
+        let at = t.waiting;
+        let f = t.feed;
+        number += 1;
+        waiting = answer_at(f, number, answered, buf, mem, out, page, at);
+        let found = f.found;
+        if !input::goes_on(found, page, waiting) {
+            return;
+        }
+        if at < waiting {
             answered += 1;
         }
         next = f.next;
         filled = f.filled;
     }
+    input::tell_waiting(Found::Line, page, waiting);
 }
 
 fn main() {

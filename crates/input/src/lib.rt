@@ -2,7 +2,7 @@
 // that neither a newline nor the true end of the input closes is never answered.
 ghost use mathlib.Core.Path.{_≡_};
 ghost use mathlib.Core.Bool.{false, _&&_};
-ghost use Prim.Native.Nat.{_-_, _≤_, _<_};
+ghost use Prim.Native.Nat.{_+_, _-_, _≤_, _<_};
 ghost use lib.ListN.{length, take};
 ghost use Rattle.input.specs.Feed.{between, lineEnd, lineTo, lastLine, tooLong, failure, isLast, Ready, NoLine, ReadOn, NextLine};
 use libc::STDERR_FILENO;
@@ -29,6 +29,19 @@ pub struct Feed {
 struct Filled {
     filled: usize,
     failed: bool,
+}
+
+// How many bytes of answers wait in a page, and whether the output failed.
+struct Page {
+    waiting: usize,
+    failed: bool,
+}
+
+// What was found, with what then waits in the page. Where the output failed, nothing was looked for.
+pub struct Turn {
+    pub feed: Feed,
+    pub waiting: usize,
+    pub failed: bool,
 }
 
 // Room for a line of 262,144 bytes and its newline.
@@ -170,17 +183,33 @@ fn read_on(fd: i32, buf: &mut [u8], held: usize) -> Feed
     skip_line(fd, buf)
 }
 
-// The next line: the unread bytes are buf[next..filled], and what follows them is read from the file. A last line needs no newline.
-pub fn next_line(fd: i32, buf: &mut [u8], next: usize, filled: usize) -> Feed
-    requires { ⌜ (next ≤ filled) × (filled ≤ length (now buf)) ⌝ }
+// The next line: the unread bytes are buf[next..filled], and their first newline stands at `end`, or there is none and `end` is `filled`. Then what follows
+// them is read from the file, and no answer may wait to be written: who asks may wait for it before they send more. A last line needs no newline.
+fn line_from(
+    fd: i32,
+    buf: &mut [u8],
+    next: usize,
+    end: usize,
+    filled: usize,
+    waiting: usize,
+) -> Feed
+    requires { ⌜ (next ≤ filled) × (filled ≤ length (now buf)) × (end ≡ lineEnd next filled (now buf)) × (end ≤ filled) × (filled ≤ end → waiting ≡ 0) ⌝ }
     ensures { λ r. ⌜ Ready (length (now (buf .entry))) r × NextLine (now (buf .entry)) next filled (now (buf .exit)) r ⌝ }
 {
-    let end = line_end(buf, next, filled);
     if end < filled {
         return line_to(next, end, filled);
     }
     move_down(buf, next, filled);
     read_on(fd, buf, filled - next)
+}
+
+// The next line, where no answer waits.
+pub fn next_line(fd: i32, buf: &mut [u8], next: usize, filled: usize) -> Feed
+    requires { ⌜ (next ≤ filled) × (filled ≤ length (now buf)) ⌝ }
+    ensures { λ r. ⌜ Ready (length (now (buf .entry))) r × NextLine (now (buf .entry)) next filled (now (buf .exit)) r ⌝ }
+{
+    let end = line_end(buf, next, filled);
+    line_from(fd, buf, next, end, filled, 0)
 }
 
 // Writes the answer to what was found to standard output, and tells whether there is more to read: not after the input's end, nor where the input can't be
@@ -200,5 +229,80 @@ pub fn tell(found: Found, text: &[u8]) -> bool
             io::write_all(STDERR_FILENO, b"the input could not be read\n");
             false
         }
+    }
+}
+
+// Writes the answers that wait in the first bytes of a page, as `tell` does.
+pub fn tell_waiting(found: Found, page: &[u8], waiting: usize) -> bool
+    requires { ⌜ waiting ≤ length (now page) ⌝ }
+    ensures { λ r. ⌜ (r && isLast found) ≡ false ⌝ }
+{
+    tell(found, &page[..waiting])
+}
+
+// Makes room in a page for an answer of `longest` bytes behind those that wait. They go on waiting where there is room, and where the next line is held, its
+// newline at `end`, before `filled`. Else they are written.
+fn make_room(page: &[u8], waiting: usize, longest: usize, end: usize, filled: usize) -> Page
+    requires { ⌜ (waiting ≤ length (now page)) × (longest ≤ length (now page)) ⌝ }
+    ensures { λ r. ⌜ (r .waiting + longest ≤ length (now (page .entry))) × (filled ≤ end → r .waiting ≡ 0) ⌝ }
+{
+    if end < filled {
+        if longest <= page.len() - waiting {
+            return Page {
+                waiting,
+                failed: false,
+            };
+        }
+    }
+    let told = tell_waiting(Found::Line, page, waiting);
+    Page {
+        waiting: 0,
+        failed: !told,
+    }
+}
+
+// The next line, as `next_line` finds it, where answers wait in the first bytes of a page: before anything is read they are written, and `longest` bytes have
+// room behind those that still wait.
+pub fn read_line(
+    fd: i32,
+    buf: &mut [u8],
+    next: usize,
+    filled: usize,
+    page: &[u8],
+    waiting: usize,
+    longest: usize,
+) -> Turn
+    requires { ⌜ (next ≤ filled) × (filled ≤ length (now buf)) × (waiting ≤ length (now page)) × (longest ≤ length (now page)) ⌝ }
+    ensures { λ r. ⌜ Ready (length (now (buf .entry))) (r .feed) × (r .waiting + longest ≤ length (now (page .entry))) × (r .failed ≡ false → NextLine (now (buf .entry)) next filled (now (buf .exit)) (r .feed)) ⌝ }
+{
+    let end = line_end(buf, next, filled);
+    let p = make_room(page, waiting, longest, end, filled);
+    let left = p.waiting;
+    if p.failed {
+        let feed = failure();
+        return Turn {
+            feed,
+            waiting: left,
+            failed: true,
+        };
+    }
+    let feed = line_from(fd, buf, next, end, filled, left);
+    Turn {
+        feed,
+        waiting: left,
+        failed: false,
+    }
+}
+
+// Whether a line follows what was found. Where none does, the answers that wait in a page are written.
+pub fn goes_on(found: Found, page: &[u8], waiting: usize) -> bool
+    requires { ⌜ waiting ≤ length (now page) ⌝ }
+    ensures { λ r. ⌜ (r && isLast found) ≡ false ⌝ }
+{
+    match found {
+        Found::Line => true,
+        Found::TooLong => true,
+        Found::End => tell_waiting(found, page, waiting),
+        Found::Failed => tell_waiting(found, page, waiting),
     }
 }

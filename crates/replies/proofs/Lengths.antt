@@ -32,7 +32,7 @@ pub decimal-length : (n : ℕ) → length (decimalText n) ≤ 20
 unfolding decimalText
 decimal-length n = spelled-length 20 n
 
-digits-length : (base k n : ℕ) → length (digits base k n) ≡ k
+pub digits-length : (base k n : ℕ) → length (digits base k n) ≡ k
 digits-length base zero n = refl
 digits-length base (suc k) n = rw (length-append (digits base k (n / base)) _, digits-length base k (n / base)) (omega arith)
 

@@ -1,6 +1,10 @@
 // Answers as bytes of a buffer: each function writes from a place on, as long as there is room, and answers the place after.
 ghost use mathlib.Core.Path.{_≡_};
 ghost use mathlib.Core.List.{_++_};
+ghost use Prim.Native.Nat.{_+_, _≤_, _<_};
+ghost use lib.ListN.{length};
+ghost use lib.Seq.{sets};
+ghost use Rattle.io.specs.Digits.{glyph as Digits·glyph};
 ghost use Rattle.text.specs.Text.{bytesOf, fieldNo};
 ghost use Rattle.replies.specs.Write.{Wrote, decimalText, hexText, idText, idsText, placeOf, faultText, errorText, refusedText, endText, okText};
 use text::Fault;
@@ -39,10 +43,55 @@ pub fn put_number(text: &mut [u8], at: usize, s: &[u8], n: u64) -> usize
     put_decimal(text, next, n)
 }
 
+// The digit of a number below 16.
+fn glyph(d: u64) -> u8
+    requires { ⌜ d < 16 ⌝ }
+    ensures { λ r. ⌜ r ≡ Digits·glyph d ⌝ }
+{
+    match d {
+        0 => 48,
+        1 => 49,
+        2 => 50,
+        3 => 51,
+        4 => 52,
+        5 => 53,
+        6 => 54,
+        7 => 55,
+        8 => 56,
+        9 => 57,
+        10 => 97,
+        11 => 98,
+        12 => 99,
+        13 => 100,
+        14 => 101,
+        _ => 102,
+    }
+}
+
+// Writes n in sixteen hexadecimal digits where there is room for them, from the last on.
+fn spell(text: &mut [u8], at: usize, n: u64)
+    requires { ⌜ at + 16 ≤ length (now text) ⌝ }
+    ensures { λ _. ⌜ now (text .exit) ≡ sets (now (text .entry)) at (hexText n) ⌝ }
+{
+    let mut rest = n;
+    let mut k = 16;
+    while 0 < k {
+        k -= 1;
+        text[at + k] = glyph(rest % 16);
+        rest /= 16;
+    }
+}
+
 // Writes n in sixteen hexadecimal digits.
 pub fn put_hex(text: &mut [u8], at: usize, n: u64) -> usize
     ensures { λ r. ⌜ Wrote at (hexText n) (now (text .entry)) r (now (text .exit)) ⌝ }
 {
+    if 16 <= text.len() {
+        if at <= text.len() - 16 {
+            spell(text, at, n);
+            return at + 16;
+        }
+    }
     let mut digits = [0u8; 16];
     let k = io::hex(n, 16, &mut digits);
     put(text, at, &digits[..k])

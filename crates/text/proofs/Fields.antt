@@ -1,24 +1,24 @@
 -- Laws of `specs/Text.antt`: loops over bytes, words and numbers, one after another, and what a field comes to, there or not.
 use mathlib.Core.Path.{_≡_, refl, sym, ap, _∙_}
-use mathlib.Core.Bool.{Bool, true, false, _&&_}
+use mathlib.Core.Bool.{Bool, true, false, not, cond, _&&_, and-assoc}
 use mathlib.Core.List.{List, [], _∷_, _++_, append-assoc, append-nil}
-use Prim.Native.Nat.{ℕ, zero, suc, _+_, _-_, _≤_, _<_}
+use Prim.Native.Nat.{ℕ, zero, suc, _+_, _-_, _*_, _^_, _≤_, _<_}
 use native.Mathlib.Omega.{arith}
 use native.Mathlib.Numerals.{add-one}
-use native.Mathlib.Decide.{decLt}
+use native.Mathlib.Decide.{decLt, ℕ-discrete}
 use mathlib.Core.Logic.{by-cases}
-use native.Mathlib.Nat.{add-zero, zero-add, sub-zero}
+use native.Mathlib.Nat.{add-zero, zero-add, sub-zero, suc-mul, mul-le-mul, pow-suc, pow-le-pow-right, lt-of-lt-of-le}
 use lib.Dec.{leb, ltb, eqb}
-use lib.ListN.{length, getD, take, drop, set, drop-of-length-le, length-set}
-use lib.Seq.{drop-cons, take-suc-set, take-all, length-take-le}
+use lib.ListN.{length, getD, take, drop, set, drop-of-length-le, length-set, length-drop}
+use lib.Seq.{drop-cons, getD-drop, take-suc, take-suc-set, take-all, length-take-le}
 use borrow.Author.Tests.{lt-ltb, le-ltb, le-leb, lt-leb, eq-eqb, ne-eqb}
 use Rattle.text.specs.declared.Base.{Base}
 use Rattle.text.specs.declared.Fault.{Fault}
 use Rattle.text.specs.declared.Field.{Field}
 use Rattle.text.specs.declared.Place.{Place}
 use Rattle.text.specs.declared.Read.{Read}
-use Rattle.text.specs.Text.{allDigits, valueFrom, isThere, until, fieldAt, fieldNo, bytesOf, same, placeAmong, faulty, limited, numberOf, numberIn, numberAfter, numbersAfter, listAfter, ReadList, chosen, choiceAfter, endAfter, isPlain, allPlain, isSilent}
-use Rattle.text.proofs.Laws.{limited-over, limited-in}
+use Rattle.text.specs.Text.{digitOf, allDigits, valueFrom, isBlank, leading, Spells, numberAt, isThere, until, startAt, fieldAt, fieldNo, bytesOf, same, placeAmong, faulty, limited, numberOf, numberIn, numberAfter, numbersAfter, listAfter, ReadList, chosen, choiceAfter, endAfter, isPlain, allPlain, isSilent}
+use Rattle.text.proofs.Laws.{leading-end, leading-go, limited-over, limited-in}
 
 -- ---- bytes
 
@@ -38,21 +38,13 @@ plain-go : (l : List ℕ) (i : ℕ) → i < length l → allPlain (drop i l) ≡
 unfolding allPlain
 plain-go l i h = rw (drop-cons l i 0 h, allPlain, add-one i)
 
-pub plain-zero : (l : List ℕ) (i : ℕ) → i < length l → getD l i 0 ≡ 0 → allPlain (drop i l) ≡ false
-unfolding isPlain
-plain-zero l i h e = rw (plain-go l i h, isPlain, e)
+pub plain-on : (seen : Bool) (l : List ℕ) (i : ℕ) (t : Bool) → i < length l → t ≡ isPlain (getD l i 0) → (seen && allPlain (drop i l)) ≡ ((seen && t) && allPlain (drop (i + 1) l))
+plain-on seen l i t h e = rw (plain-go l i h, ← e) (sym (and-assoc seen t (allPlain (drop (i + 1) l))))
 
-pub plain-high : (l : List ℕ) (i : ℕ) → i < length l → 127 < getD l i 0 → allPlain (drop i l) ≡ false
-unfolding isPlain
-plain-high l i h e = rw (plain-go l i h, isPlain, lt-ltb 0 (getD l i 0) (omega arith), lt-leb _ _ e)
-
-pub plain-on : (l : List ℕ) (i : ℕ) → i < length l → (getD l i 0 ≡ 0 → ⊥) → getD l i 0 ≤ 127 → allPlain (drop i l) ≡ allPlain (drop (i + 1) l)
-unfolding isPlain
-plain-on l i h n e = rw (plain-go l i h, isPlain, lt-ltb 0 (getD l i 0) (omega arith), le-leb _ _ e)
-
-pub plain-end : (l : List ℕ) (i : ℕ) → length l ≤ i → allPlain (drop i l) ≡ true
+pub plain-end : (seen : Bool) (l : List ℕ) (i : ℕ) → length l ≤ i → (seen && allPlain (drop i l)) ≡ seen
 unfolding allPlain
-plain-end l i h = rw (drop-of-length-le l h)
+plain-end true l i h = rw (drop-of-length-le l h)
+plain-end false l i h = refl
 
 same-go : (a b : List ℕ) (i : ℕ) → i < length a → i < length b → same (drop i a) (drop i b) ≡ (eqb (getD a i 0) (getD b i 0) && same (drop (i + 1) a) (drop (i + 1) b))
 unfolding same
@@ -134,18 +126,102 @@ unfolding fieldNo
 field-here zero l at f h e = e
 field-here (suc k) l at f h e = absurd (omega arith)
 
+-- ---- digits
+
+digits-then : (base : ℕ) (a b : List ℕ) → allDigits base (a ++ b) ≡ (allDigits base a && allDigits base b)
+unfolding allDigits
+digits-then base [] b = refl
+digits-then base (x ∷ a) b = rw (allDigits, digits-then base a b) (sym (and-assoc (ltb (digitOf x) base) (allDigits base a) (allDigits base b)))
+
+value-then : (base n : ℕ) (a b : List ℕ) → valueFrom base n (a ++ b) ≡ valueFrom base (valueFrom base n a) b
+unfolding valueFrom
+value-then base n [] b = refl
+value-then base n (x ∷ a) b = value-then base (n * base + digitOf x) a b
+
+-- no digit is a blank
+digit-whole : (x : ℕ) → digitOf x < 16 → isBlank x ≡ false
+unfolding digitOf isBlank
+digit-whole x h = by-cases (ℕ-discrete x 32)
+    (λ e. absurd (omega (arith, rw e at h)))
+    (λ a.
+    by-cases (ℕ-discrete x 9)
+    (λ e. absurd (omega (arith, rw e at h)))
+    (λ b.
+    by-cases (ℕ-discrete x 13)
+    (λ e. absurd (omega (arith, rw e at h)))
+    (λ c. rw (isBlank, ne-eqb x 32 a, ne-eqb x 9 b, ne-eqb x 13 c))))
+
+-- one digit more of at most sixteen still fits
+grown : (n base d k : ℕ) → base ≤ 16 → d < base → n < 16 ^ k → n * base + d < 16 ^ suc k
+grown n base d k h g s =
+    let a : suc n * base ≤ 16 ^ k * 16 = mul-le-mul s h in
+    rw pow-suc (omega (arith, a, suc-mul n base))
+
+pub spells-none : (base : ℕ) (l : List ℕ) (from : ℕ) → from ≤ length l → Spells base l from from 0
+unfolding allDigits valueFrom
+spells-none base l from h =
+    let z : from - from ≡ 0 = omega arith in
+    record { order = omega arith; within = h; few = omega arith; size = rw z (omega arith); digits = rw z; value = rw z; parted = refl }
+
+module _ (base : ℕ) (l : List ℕ) (from to n d : ℕ) (small : base ≤ 16) (S : Spells base l from to n) (e : d ≡ digitOf (getD l to 0)) (g : d < base) where
+  pub spells-fits : to < from + 16 → n * base + d < 2 ^ 64
+  spells-fits h =
+      let k : suc (to - from) ≤ 16 = omega (arith, S .order) in
+      let p : 16 ^ suc (to - from) ≤ 16 ^ 16 = pow-le-pow-right {n = 16} (omega arith) {i = suc (to - from)} {j = 16} k in
+      lt-of-lt-of-le (grown n base d (to - from) small g (S .size)) p
+
+  pub spells-more : to < length l → to < from + 16 → Spells base l from (to + 1) (n * base + d)
+  unfolding allDigits valueFrom
+  spells-more h m =
+      let k : (to + 1) - from ≡ suc (to - from) = omega (arith, S .order) in
+      let q : from + (to - from) ≡ to = omega (arith, S .order) in
+      let x : getD (drop from l) (to - from) 0 ≡ getD l to 0 = rw q at (getD-drop from l (to - from) 0) in
+      let t : take (suc (to - from)) (drop from l) ≡ take (to - from) (drop from l) ++ (getD l to 0 ∷ []) = rw x at (take-suc (drop from l) (to - from) 0 (simp length-drop (omega (arith, S .order)))) in
+      let w : digitOf (getD l to 0) < base = rw e at g in
+      record {
+        order = omega (arith, S .order);
+        within = omega arith;
+        few = omega arith;
+        size = rw k (grown n base d (to - from) small g (S .size));
+        digits = rw (k, t, digits-then base (take (to - from) (drop from l)) _, S .digits, lt-ltb _ _ w);
+        value = rw (k, t, value-then base 0 (take (to - from) (drop from l)) _, S .value, e);
+        parted = S .parted ∙ rw (leading-go false l to h (rw (digit-whole (getD l to 0) (omega arith)) refl)) (omega arith);
+      }
+
 -- ---- the next field, there or not
 
+module _ (base fewest most limit : ℕ) (l : List ℕ) (at : ℕ) where
+  module _ (f : Field) (e : f ≡ fieldAt l at) where
+    pub at-there : (r : Read) → f .start < f .end → r ≡ numberOf base fewest most limit (f .end) (bytesOf l f) → r ≡ numberAt base fewest most limit l at
+    unfolding numberAt
+    at-there r h d = rw (numberAt, ← e, lt-ltb _ _ h, ← e) d
+
+    pub at-missing : f .end ≤ f .start → faulty Fault.MissingField ≡ numberAt base fewest most limit l at
+    unfolding numberAt
+    at-missing h = rw (numberAt, ← e, le-ltb _ _ h)
+
+  number-within : (next : ℕ) (b : List ℕ) (n : ℕ) → 0 < length b → allDigits base b ≡ true → fewest ≤ length b → length b ≤ most → valueFrom base 0 b ≡ n → n ≤ limit
+      → record { value = n; after = Place.At next } ≡ numberOf base fewest most limit next b
+  unfolding numberOf
+  number-within next b n z d f m v h = rw (numberOf, ne-eqb (length b) 0 (λ e. omega arith), d, le-ltb _ _ f, le-ltb _ _ m, v, limited-in limit next n h)
+
+  -- digits that a blank or the line's end follows are the next field
+  module _ (start end n : ℕ) (S : Spells base l start end n) where
+    short-field : start ≡ at + leading true (drop at l) → end + leading false (drop end l) ≡ end → record { start = start; end = end } ≡ fieldAt l at
+    unfolding fieldAt startAt
+    short-field s e = let g : start + leading false (drop start l) ≡ end = S .parted ∙ e in rw (fieldAt, startAt, ← s, g)
+
+    short-number : 0 < fewest → 16 ≤ most → fewest ≤ end - start → n ≤ limit → record { value = n; after = Place.At end } ≡ numberOf base fewest most limit end (bytesOf l (record { start = start; end = end }))
+    unfolding bytesOf
+    short-number p q f h =
+        let k : length (take (end - start) (drop start l)) ≡ end - start = length-take-le (end - start) (drop start l) (simp length-drop (omega (arith, S .within))) in
+        number-within end (take (end - start) (drop start l)) n (omega (arith, k)) (S .digits) (omega (arith, k)) (omega (arith, k, S .few)) (S .value) h
+
+    pub at-short : 0 < fewest → 16 ≤ most → start ≡ at + leading true (drop at l) → fewest ≤ end - start → end + leading false (drop end l) ≡ end → n ≤ limit
+        → record { value = n; after = Place.At end } ≡ numberAt base fewest most limit l at
+    at-short p q s f e h = at-there _ (short-field s e) _ (omega arith) (short-number p q f h)
+
 module _ (l : List ℕ) (p : Place) (at : ℕ) (f : Field) (here : p ≡ Place.At at) (e : f ≡ fieldAt l at) where
-  module _ (base : Base) (limit : ℕ) where
-    pub number-there : (r : Read) → f .start < f .end → r ≡ numberIn base limit (f .end) (bytesOf l f) → r ≡ numberAfter base limit l p
-    unfolding numberAfter
-    number-there r h d = rw (here, numberAfter, ← e, lt-ltb _ _ h, ← e) d
-
-    pub number-missing : f .end ≤ f .start → faulty Fault.MissingField ≡ numberAfter base limit l p
-    unfolding numberAfter
-    number-missing h = rw (here, numberAfter, ← e, le-ltb _ _ h)
-
   pub end-extra : f .start < f .end → Place.Bad Fault.ExtraField ≡ endAfter l p
   unfolding endAfter
   end-extra h = rw (here, endAfter, ← e, lt-ltb _ _ h)
@@ -276,15 +352,35 @@ module _ (l : List ℕ) (p : Place) (m : List ℕ) (n : Read) (e : n ≡ numberA
 
 -- ---- a line that asks nothing
 
-module _ (l : List ℕ) (f : Field) (e : f ≡ fieldAt l 0) where
-  pub silent-remark : f .start < f .end → getD l 0 0 ≡ 35 → allPlain l ≡ isSilent l
-  unfolding isSilent
-  silent-remark h g = rw (isSilent, ← e, lt-ltb _ _ h, eq-eqb _ _ g)
+stops-at : (x : ℕ) (l : List ℕ) → (leading true l < length l → 0 < leading false (drop (leading true l) l)) → (t : Bool) → isBlank x ≡ t
+    → leading true (x ∷ l) < suc (length l) → 0 < leading false (drop (leading true (x ∷ l)) (x ∷ l))
+unfolding leading
+stops-at x l ih true e = rw (leading, e) (λ h. ih (omega arith))
+stops-at x l ih false e = rw (leading, e, leading, e) (λ h. omega arith)
 
-  pub silent-asks : f .start < f .end → (getD l 0 0 ≡ 35 → ⊥) → false ≡ isSilent l
-  unfolding isSilent
-  silent-asks h g = rw (isSilent, ← e, lt-ltb _ _ h, ne-eqb _ _ g)
+-- where the blanks end before the line does, a field begins
+stops : (l : List ℕ) → leading true l < length l → 0 < leading false (drop (leading true l) l)
+unfolding leading
+stops [] h = absurd (omega arith)
+stops (x ∷ l) h = stops-at x l (stops l) (isBlank x) refl h
 
-  pub silent-blank : f .end ≤ f .start → allPlain l ≡ isSilent l
+remark : (t p : Bool) → (t && p) ≡ cond (not t) false p
+remark true p = refl
+remark false p = refl
+
+module _ (l : List ℕ) (start : ℕ) (e : start ≡ 0 + leading true (drop 0 l)) where
+  begins : start < length l → fieldAt l 0 .start < fieldAt l 0 .end
+  unfolding fieldAt startAt
+  begins h = rw (zero-add (leading true l)) (omega (arith, stops l (omega arith)))
+
+  begins-none : length l ≤ start → fieldAt l 0 .end ≤ fieldAt l 0 .start
+  unfolding fieldAt startAt
+  begins-none h = rw (zero-add (leading true l), leading-end false l (leading true l) (omega arith)) (omega arith)
+
+  pub silent-asks : start < length l → isSilent l ≡ cond (not (eqb (getD l 0 0) 35)) false (allPlain l)
   unfolding isSilent
-  silent-blank h = rw (isSilent, ← e, le-ltb _ _ h)
+  silent-asks h = rw (isSilent, lt-ltb _ _ (begins h)) (remark (eqb (getD l 0 0) 35) (allPlain l))
+
+  pub silent-blank : length l ≤ start → isSilent l ≡ allPlain l
+  unfolding isSilent
+  silent-blank h = rw (isSilent, le-ltb _ _ (begins-none h))

@@ -2,7 +2,7 @@
 use mathlib.Core.Path.{_≡_, sym, _∙_}
 use mathlib.Core.Bool.{Bool, true, false, _&&_, Bool·beq}
 use mathlib.Core.List.{List, [], _∷_}
-use Prim.Native.Nat.{ℕ, suc, _+_, _-_, _*_, _/_, _≤_, _<_}
+use Prim.Native.Nat.{ℕ, suc, _+_, _-_, _*_, _/_, _%_, _^_, _≤_, _<_}
 use native.Mathlib.Omega.{arith}
 use native.Mathlib.Numerals.{add-one}
 use mathlib.Core.Logic.{by-cases}
@@ -11,7 +11,7 @@ use native.Mathlib.Nat.{le-mul-of-pos-right, div-lt-iff-lt-mul, le-div-iff-mul-l
 use lib.Dec.{ltb}
 use lib.ListN.{length, getD, drop, drop-of-length-le}
 use lib.Seq.{drop-cons}
-use borrow.Author.Tests.{lt-ltb, le-ltb}
+use borrow.Author.Tests.{lt-ltb, le-ltb, le-leb, lt-leb}
 use Rattle.text.specs.declared.Fault.{Fault}
 use Rattle.text.specs.declared.Place.{Place}
 use Rattle.text.specs.Text.{digitOf, allDigits, valueFrom, faulty, limited, isBlank, leading}
@@ -32,6 +32,32 @@ unfolding leading
 leading-go blank l i h e = rw (drop-cons l i 0 h, leading, e, add-one i)
 
 -- ---- numbers
+
+-- a byte less the first of a run of digits, as a number of 64 bits, tells whether it is in the run
+pub digit-ten : (b n : ℕ) → (n + 48) % 2 ^ 64 ≡ b → n < 10 → n ≡ digitOf b
+unfolding digitOf
+digit-ten b n e h =
+    let k : b ≡ n + 48 = omega arith in
+    rw (digitOf, le-ltb b 48 (omega arith), le-leb b 57 (omega arith)) (omega arith)
+
+module _ (b n m : ℕ) (e : (n + 48) % 2 ^ 64 ≡ b) (d : (m + 49) % 2 ^ 64 ≡ n) where
+  pub digit-six : m < 6 → m + 10 ≡ digitOf b
+  unfolding digitOf
+  digit-six h =
+      let k : b ≡ m + 97 = omega arith in
+      rw (digitOf, le-ltb b 48 (omega arith), lt-leb b 57 (omega arith), le-ltb b 97 (omega arith), le-leb b 102 (omega arith)) (omega arith)
+
+  pub digit-none : 10 ≤ n → 6 ≤ m → n < 2 ^ 64 → m < 2 ^ 64 → 16 ≡ digitOf b
+  unfolding digitOf
+  digit-none h g f k = by-cases (decLt b 48)
+      (λ a. rw (digitOf, lt-ltb b 48 a))
+      (λ a.
+      let ten : 57 < b = omega arith in
+      by-cases (decLt b 97)
+      (λ c. rw (digitOf, le-ltb b 48 (omega arith), lt-leb b 57 ten, lt-ltb b 97 c))
+      (λ c.
+      let six : 102 < b = omega arith in
+      rw (digitOf, le-ltb b 48 (omega arith), lt-leb b 57 ten, le-ltb b 97 (omega arith), lt-leb b 102 six)))
 
 -- a number is no less than what its first digits make
 pub value-grows : (base n : ℕ) (l : List ℕ) → 0 < base → n ≤ valueFrom base n l

@@ -2,7 +2,7 @@
 use mathlib.Core.Path.{_≡_}
 use mathlib.Core.Bool.{Bool, true, false, _&&_, _||_, Bool·beq}
 use mathlib.Core.List.{List, [], _∷_, _++_}
-use Prim.Native.Nat.{ℕ, zero, suc, _+_, _-_, _*_}
+use Prim.Native.Nat.{ℕ, zero, suc, _+_, _-_, _*_, _^_, _≤_, _<_}
 use lib.Dec.{leb, ltb, eqb}
 use lib.ListN.{length, getD, take, drop}
 use Rattle.text.specs.declared.Base.{Base}
@@ -114,6 +114,23 @@ placeAmong (suc n) words at w = elim (same w (bytesOf words (fieldAt words at)))
 ]
 
 -- ---- one part of a line after another: a fault once found is handed on
+
+-- the bytes from a place on and before another, sixteen at most, are digits that spell a number, and none is a blank
+pub record Spells (base : ℕ) (l : List ℕ) (from to n : ℕ) : Type 0 where
+  pub order : from ≤ to
+  pub within : to ≤ length l
+  pub few : to ≤ from + 16
+  pub size : n < 16 ^ (to - from)
+  pub digits : allDigits base (take (to - from) (drop from l)) ≡ true
+  pub value : valueFrom base 0 (take (to - from) (drop from l)) ≡ n
+  pub parted : from + leading false (drop from l) ≡ to + leading false (drop to l)
+
+-- the number that the next field spells in a base
+unfoldable pub numberAt : ℕ → ℕ → ℕ → ℕ → List ℕ → ℕ → Read
+numberAt base fewest most limit l at = elim (isThere (fieldAt l at)) [
+  | true ↦ numberOf base fewest most limit (fieldAt l at .end) (bytesOf l (fieldAt l at))
+  | false ↦ faulty Fault.MissingField
+]
 
 -- the number that the next field is, at most a limit
 unfoldable pub numberAfter : Base → ℕ → List ℕ → Place → Read

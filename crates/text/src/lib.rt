@@ -2,12 +2,12 @@
 // A line is fields parted by blanks. What is read comes with the place after it; a fault once found is handed on, so a line is read with no
 // branches, and what is wrong with it is the first fault from the left. A number over its limit is told and never wraps.
 ghost use mathlib.Core.Path.{_≡_};
-ghost use mathlib.Core.Bool.{true};
+ghost use mathlib.Core.Bool.{true, false, cond};
 ghost use Prim.Native.Nat.{_+_, _*_, _≤_, _<_};
 ghost use lib.Dec.{ltb};
 ghost use lib.Ieee.{binary64, ofBits, toBits};
 ghost use lib.ListN.{length, drop};
-ghost use Rattle.text.specs.Text.{digitOf, allDigits, valueFrom, faulty, limited, numberOf, numberIn, isBlank, leading, until, fieldAt, fieldNo, same, bytesOf, placeAmong, numberAfter, numbersAfter, listAfter, ReadList, choiceAfter, endAfter, allPlain, isSilent, startOf};
+ghost use Rattle.text.specs.Text.{digitOf, allDigits, valueFrom, faulty, limited, numberOf, numberIn, isBlank, leading, until, fieldAt, fieldNo, same, bytesOf, placeAmong, Spells, numberAt, numberAfter, numbersAfter, listAfter, ReadList, choiceAfter, endAfter, isPlain, allPlain, isSilent, startOf};
 
 // What is wrong with a line.
 pub enum Fault {
@@ -52,21 +52,17 @@ pub struct Read {
 
 // ---- numbers
 
-// The value of a digit, 0 to 15; 16 for any other byte.
+// The value of a digit, 0 to 15; 16 for any other byte. A byte before `0` or `a` wraps to a large number, so one test tells each run of digits.
 fn digit(b: u8) -> u64
     ensures { λ r. ⌜ r ≡ digitOf b ⌝ }
 {
-    if b < 48 {
-        return 16;
+    let n = std::num::wrapping_sub_u64(b as u64, 48);
+    if n < 10 {
+        return n;
     }
-    if b <= 57 {
-        return b as u64 - 48;
-    }
-    if b < 97 {
-        return 16;
-    }
-    if b <= 102 {
-        return b as u64 - 87;
+    let m = std::num::wrapping_sub_u64(n, 49);
+    if m < 6 {
+        return m + 10;
     }
     16
 }
@@ -297,21 +293,82 @@ pub fn place_among(word: &[u8], words: &[u8], count: u64) -> u64
 
 // ---- one part of a line after another
 
+// Digits of a line: the place after them, and the number that they spell.
+struct Digits {
+    end: usize,
+    value: u64,
+}
+
+// The place sixteen bytes behind `start`, or the line's end.
+fn sixteen_on(start: usize, end: usize) -> usize
+    requires { ⌜ start ≤ end ⌝ }
+    ensures { λ r. ⌜ (r ≤ end) × (r ≤ start + 16) ⌝ }
+{
+    if 16 < end - start {
+        return start + 16;
+    }
+    end
+}
+
+// The digits of the base from `start` on, sixteen at most: no number of so many is too large.
+fn read_digits(line: &[u8], start: usize, base: u64) -> Digits
+    requires { ⌜ (base ≤ 16) × (start ≤ length (now line)) ⌝ }
+    ensures { λ r. ⌜ Spells base (now (line .entry)) start (r .end) (r .value) ⌝ }
+{
+    let stop = sixteen_on(start, line.len());
+    let mut value = 0;
+    let mut i = start;
+    while i < stop {
+        let d = digit(line[i]);
+        if base <= d {
+            return Digits { end: i, value };
+        }
+        value = value * base + d;
+        i += 1;
+    }
+    Digits { end: i, value }
+}
+
+// The number that the next field from `at` on spells in the base. Where it has sixteen digits at most and nothing is wrong, one pass tells its end and its
+// value.
+fn read_at(line: &[u8], at: usize, base: u64, fewest: usize, most: usize, limit: u64) -> Read
+    requires { ⌜ (0 < base) × (base ≤ 16) × (0 < fewest) × (16 ≤ most) ⌝ }
+    ensures { λ r. ⌜ r ≡ numberAt base fewest most limit (now (line .entry)) at ⌝ }
+{
+    let start = past(line, at, true);
+    if start < line.len() {
+        let digits = read_digits(line, start, base);
+        let end = digits.end;
+        let value = digits.value;
+        if fewest <= end - start {
+            if past(line, end, false) == end {
+                if value <= limit {
+                    return Read {
+                        value,
+                        after: Place::At(end),
+                    };
+                }
+            }
+        }
+    }
+    let f = read_field(line, at);
+    let from = f.start;
+    let to = f.end;
+    if from < to {
+        return number(&line[from..to], base, fewest, most, limit, to);
+    }
+    bad(Fault::MissingField)
+}
+
 // The number, at most `limit`, that the next field is.
 pub fn read_number(line: &[u8], p: Place, base: Base, limit: u64) -> Read
     ensures { λ r. ⌜ r ≡ numberAfter base limit (now (line .entry)) p ⌝ }
 {
     match p {
-        Place::At(at) => {
-            let f = read_field(line, at);
-            let start = f.start;
-            let end = f.end;
-            if start < end {
-                read_bytes(&line[start..end], base, limit, end)
-            } else {
-                bad(Fault::MissingField)
-            }
-        }
+        Place::At(at) => match base {
+            Base::Ten => read_at(line, at, 10, 1, 20, limit),
+            Base::Sixteen => read_at(line, at, 16, 16, 16, limit),
+        },
         Place::Bad(f) => bad(f),
     }
 }
@@ -391,35 +448,45 @@ pub fn read_end(line: &[u8], p: Place) -> Place
 
 // ---- whole lines
 
-// Whether every byte is one of ASCII, and none is 0.
+// Whether a byte is one of ASCII, and not 0.
+fn is_plain(b: u8) -> bool
+    ensures { λ r. ⌜ r ≡ isPlain b ⌝ }
+{
+    if b == 0 {
+        return false;
+    }
+    b <= 127
+}
+
+// Whether every byte is one of ASCII, and none is 0. It looks at all of them, so that the compiler takes many at a time.
 fn all_plain(line: &[u8]) -> bool
     ensures { λ r. ⌜ r ≡ allPlain (now (line .entry)) ⌝ }
 {
+    let mut plain = true;
     let mut i = 0;
     while i < line.len() {
-        let b = line[i];
-        if b == 0 {
-            return false;
-        }
-        if b > 127 {
-            return false;
-        }
+        plain = plain & is_plain(line[i]);
         i += 1;
     }
-    true
+    plain
+}
+
+// Whether a line has a field, and does not begin with #.
+fn is_asking(line: &[u8]) -> bool
+    ensures { λ r. ⌜ isSilent (now (line .entry)) ≡ cond r false (allPlain (now (line .entry))) ⌝ }
+{
+    let start = past(line, 0, true);
+    if start < line.len() {
+        return line[0] != b'#';
+    }
+    false
 }
 
 // Whether the line asks nothing: it has no field, or begins with #.
 pub fn is_silent(line: &[u8]) -> bool
     ensures { λ r. ⌜ r ≡ isSilent (now (line .entry)) ⌝ }
 {
-    let f = read_field(line, 0);
-    let start = f.start;
-    let end = f.end;
-    if start < end {
-        if line[0] == b'#' {
-            return all_plain(line);
-        }
+    if is_asking(line) {
         return false;
     }
     all_plain(line)

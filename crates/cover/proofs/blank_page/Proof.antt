@@ -6,7 +6,7 @@ use Rattle.cover.proofs.blank_page.Statement.{statement}
 use Rattle.cover.proofs.blank_page.Tie as tie
 
 returns : tie.Need-returns
-returns c = sym (length-replicate {0} {A = ℕ} 1114368 0)
+returns c = sym (length-replicate {0} {A = ℕ} 1179904 0)
 
 pub blank-page-spec : {M : Type 1} → statement M
 blank-page-spec = tie.close (tie.spec returns)

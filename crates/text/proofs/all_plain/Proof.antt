@@ -1,33 +1,25 @@
--- `text::all_plain`: what the rest says, the whole says.
+-- `text::all_plain`: what was seen and what is left say what the whole says.
 use mathlib.Core.Path.{_≡_, refl, sym, _∙_}
+use mathlib.Core.Bool.{_&&_}
 use Prim.Native.Nat.{_-_, _≤_}
 use native.Mathlib.Omega.{arith}
 use lib.ListN.{length, drop}
 use Rattle.text.specs.Text.{allPlain}
-use Rattle.text.proofs.Fields.{plain-zero, plain-high, plain-on, plain-end}
+use Rattle.text.proofs.Fields.{plain-on, plain-end}
 use Rattle.text.proofs.all_plain.Statement.{statement}
 use Rattle.text.proofs.all_plain.Tie as tie
 
 abbrev Inv-loop : tie.InvT-loop
-Inv-loop line i₀ i = (i ≤ length line) × (allPlain line ≡ allPlain (drop i line))
+Inv-loop line plain₀ i₀ plain i = (i ≤ length line) × (allPlain line ≡ (plain && allPlain (drop i line)))
 
 abbrev μ-loop : tie.MeasureT-loop
-μ-loop line i₀ i = length line - i
-
-loop-holds : tie.Need-loop-holds Inv-loop μ-loop
-loop-holds c = (omega arith, refl)
-
-returns : tie.Need-returns Inv-loop μ-loop
-returns c = sym (c .before .before .before .loop .inv .1 ∙ plain-zero _ (c .before .before .before .loop .i) (omega arith) (c .if1 .taken))
-
-returns-2 : tie.Need-returns-2 Inv-loop μ-loop
-returns-2 c = sym (c .before .before .before .before .loop .inv .1 ∙ plain-high _ (c .before .before .before .before .loop .i) (omega arith) (c .if2 .taken))
+μ-loop line plain₀ i₀ plain i = length line - i
 
 loop-again : tie.Need-loop-again Inv-loop μ-loop
-loop-again c = (omega arith, c .before .before .before .before .loop .inv .1 ∙ plain-on _ (c .before .before .before .before .loop .i) (omega arith) (c .before .if1 .left) (c .if2 .left))
+loop-again c = (omega arith, c .before .before .before .loop .inv .1 ∙ plain-on (c .before .before .before .loop .plain) _ (c .before .before .before .loop .i) _ (omega arith) (c .is-plain .ensures))
 
-returns-3 : tie.Need-returns-3 Inv-loop μ-loop
-returns-3 c = sym (c .before .loop .inv .1 ∙ plain-end _ (c .before .loop .i) (omega arith))
+returns : tie.Need-returns Inv-loop μ-loop
+returns c = sym (c .before .loop .inv .1 ∙ plain-end (c .before .loop .plain) _ (c .before .loop .i) (omega arith))
 
 pub all-plain-spec : {M : Type 1} → statement M
 all-plain-spec =
@@ -35,11 +27,10 @@ all-plain-spec =
     (tie.spec
     Inv-loop
     μ-loop
-    loop-holds
+    (λ c. (omega arith, refl))
     (λ c. omega arith)
-    returns
-    returns-2
+    (λ c κs. tt)
     (λ c. omega arith)
     (λ c. omega arith)
     loop-again
-    returns-3)
+    returns)

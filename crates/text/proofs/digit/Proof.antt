@@ -1,30 +1,20 @@
--- `text::digit`: test by test.
-use borrow.Author.Tests.{lt-ltb, le-ltb, le-leb, lt-leb}
-use Rattle.text.specs.Text.{digitOf}
+-- `text::digit`: one of ten, one of six, or none.
+use Rattle.text.proofs.Laws.{digit-ten, digit-six, digit-none}
+use native.Mathlib.Omega.{arith}
 use borrow.Author.Needs.{needs}
 use Rattle.text.proofs.digit.Statement.{statement}
 use Rattle.text.proofs.digit.Tie as tie
 
 returns : tie.Need-returns
-unfolding digitOf
-returns c = rw (digitOf, lt-ltb _ _ (c .if1 .taken))
+returns c = digit-ten _ _ (c .before .wrapping-sub-u64 .ensures) (c .if1 .taken)
 
 returns-2 : tie.Need-returns-2
-unfolding digitOf
-returns-2 c = rw (digitOf, le-ltb _ _ (c .before .if1 .left), le-leb _ _ (c .if2 .taken))
+returns-2 c = digit-six _ _ _ (c .before .before .before .wrapping-sub-u64 .ensures) (c .before .wrapping-sub-u642 .ensures) (c .if2 .taken)
 
 returns-3 : tie.Need-returns-3
-unfolding digitOf
-returns-3 c = rw (digitOf, le-ltb _ _ (c .before .before .if1 .left), lt-leb _ _ (c .before .if2 .left), lt-ltb _ _ (c .if3 .taken))
-
-returns-4 : tie.Need-returns-4
-unfolding digitOf
-returns-4 c = rw (digitOf, le-ltb _ _ (c .before .before .before .if1 .left), lt-leb _ _ (c .before .before .if2 .left), le-ltb _ _ (c .before .if3 .left), le-leb _ _ (c .if4 .taken))
-
-returns-5 : tie.Need-returns-5
-unfolding digitOf
-returns-5 c = rw (digitOf, le-ltb _ _ (c .before .before .before .if1 .left), lt-leb _ _ (c .before .before .if2 .left), le-ltb _ _ (c .before .if3 .left), lt-leb _ _ (c .if4 .left))
+returns-3 c = digit-none _ _ _ (c .before .before .before .wrapping-sub-u64 .ensures) (c .before .wrapping-sub-u642 .ensures) (c .before .before .if1 .left) (c .if2 .left) (omega arith) (omega arith)
 
 pub digit-spec : {M : Type 1} → statement M
 digit-spec =
-    tie.close (tie.spec returns (λ c. search needs) returns-2 returns-3 (λ c. search needs) returns-4 returns-5)
+    tie.close
+    (tie.spec (λ c κs. search needs) returns (λ c κs. search needs) (λ c. search needs) returns-2 returns-3)

@@ -1,31 +1,14 @@
--- `text::is_silent`: a remark, a line that asks, or a line of blanks.
-use mathlib.Core.Path.{_∙_}
-use native.Mathlib.Omega.{arith}
-use Rattle.text.proofs.Fields.{silent-remark, silent-asks, silent-blank}
+-- `text::is_silent`: a line that asks, or one whose bytes are looked at.
+use mathlib.Core.Path.{sym, _∙_}
 use borrow.Author.Needs.{needs}
 use Rattle.text.proofs.is_silent.Statement.{statement}
 use Rattle.text.proofs.is_silent.Tie as tie
 
-shared-slice-read-if2 : tie.Need-shared-slice-read-if2
-shared-slice-read-if2 c = let n = c .before .before .read-field .ensures .1 .1 (c .before .if1 .taken) in omega arith
-
 returns : tie.Need-returns
-returns c = c .all-plain .ensures ∙ silent-remark _ (c .before .before .before .before .read-field .result) (c .before .before .before .before .read-field .ensures .0) (c .before .before .before .if1 .taken) (c .before .if2 .taken)
+returns c = sym (rw (c .if1 .taken) at (c .before .is-asking .ensures))
 
 returns-2 : tie.Need-returns-2
-returns-2 c = silent-asks _ (c .before .before .before .read-field .result) (c .before .before .before .read-field .ensures .0) (c .before .before .if1 .taken) (c .if2 .left)
-
-returns-3 : tie.Need-returns-3
-returns-3 c = c .all-plain2 .ensures ∙ silent-blank _ (c .before .before .read-field .result) (c .before .before .read-field .ensures .0) (c .before .if1 .left)
+returns-2 c = c .all-plain .ensures ∙ sym (rw (c .before .if1 .left) at (c .before .before .is-asking .ensures))
 
 pub is-silent-spec : {M : Type 1} → statement M
-is-silent-spec =
-    tie.close
-    (tie.spec
-    (λ c κs. search needs)
-    shared-slice-read-if2
-    (λ c κs. search needs)
-    returns
-    returns-2
-    (λ c κs. search needs)
-    returns-3)
+is-silent-spec = tie.close (tie.spec (λ c κs. search needs) returns (λ c κs. search needs) returns-2)
