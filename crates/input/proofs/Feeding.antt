@@ -1,5 +1,6 @@
--- Laws of `specs/Feed.antt`: moving bytes down one by one, and reading on behind bytes that have no newline.
-use mathlib.Core.Path.{_≡_, ap}
+-- Laws of `specs/Feed.antt`: moving bytes down one by one, reading on behind bytes that have no newline, and answers that wait.
+use mathlib.Core.Path.{_≡_, refl, ap, _∙_}
+use mathlib.Core.Bool.{Bool, true, false, cond, _&&_}
 use mathlib.Core.List.{List, [], _∷_, _++_}
 use Prim.Native.Nat.{ℕ, _+_, _-_, _≤_, _<_}
 use native.Mathlib.Omega.{arith}
@@ -9,9 +10,10 @@ use native.Mathlib.Decide.{ℕ-discrete}
 use mathlib.Core.Logic.{by-cases}
 use lib.ListN.{length, getD, take, drop, set, length-take, length-drop}
 use lib.Seq.{paste-suc, getD-append-add, getD-drop, length-take-le, take-at, take-take, take-add}
-use borrow.Author.Tests.{eq-eqb, ne-eqb}
+use lib.Dec.{leb, ltb}
+use borrow.Author.Tests.{eq-eqb, ne-eqb, le-ltb, leb-true}
 use Rattle.text.specs.Text.{until}
-use Rattle.input.specs.Feed.{between, lineEnd, Begins, Held}
+use Rattle.input.specs.Feed.{between, lineEnd, Begins, Held, mayWait, leftWaiting}
 
 -- ---- moving down
 
@@ -60,3 +62,18 @@ module _ {held : List ℕ} {n : ℕ} {buf : List ℕ} (m : ℕ) (more : n ≤ m)
       let d : n + (m - n) ≡ m = omega arith in
       let s : take m buf ≡ take n buf ++ between n m buf = rw d at (take-add n (m - n) buf) in
       rw (sub-zero m, zero-add, s, until-append 10 (take n buf) (between n m buf) (omega (arith, rw sub-zero at (h .unended))), k)
+
+-- ---- answers that wait: one more has room behind them, and none waits where something has to be read
+module _ (room waiting longest end filled w : ℕ) (e : w ≡ leftWaiting room waiting longest end filled) where
+  pub left-room : waiting ≤ room → longest ≤ room → w + longest ≤ room
+  unfolding leftWaiting mayWait
+  left-room h g = rw e (go (ltb end filled) (leb longest (room - waiting)) (leb-true longest (room - waiting)))
+    where
+      go : (a b : Bool) → (b ≡ true → longest ≤ room - waiting) → cond (a && b) waiting 0 + longest ≤ room
+      go true true k = let l = k refl in omega arith
+      go true false k = omega arith
+      go false b k = omega arith
+
+  pub left-none : filled ≤ end → w ≡ 0
+  unfolding leftWaiting mayWait
+  left-none h = e ∙ rw (le-ltb end filled h)

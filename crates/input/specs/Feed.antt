@@ -1,10 +1,10 @@
 -- Lines of an input, out of one buffer. The C library says nothing of the bytes that it reads, nor of when it can't, so that is open here;
 -- said is where a line ends in the buffer, and that it begins with the bytes that were unread.
 use mathlib.Core.Path.{_≡_}
-use mathlib.Core.Bool.{Bool, true, false}
+use mathlib.Core.Bool.{Bool, true, false, cond, _&&_}
 use mathlib.Core.List.{List}
 use Prim.Native.Nat.{ℕ, _+_, _-_, _≤_, _<_}
-use lib.Dec.{eqb}
+use lib.Dec.{eqb, leb, ltb}
 use lib.ListN.{length, take, drop}
 use Rattle.text.specs.Text.{until}
 use Rattle.input.specs.declared.Found.{Found}
@@ -79,3 +79,14 @@ pub record NextLine (before : List ℕ) (next filled : ℕ) (after : List ℕ) (
   pub there : lineEnd next filled before < filled → (r ≡ lineTo next (lineEnd next filled before) filled) × (after ≡ before)
   -- none is: the line begins with all of them
   pub later : lineEnd next filled before ≡ filled → ReadOn (between next filled before) after r
+
+-- ---- answers that wait in a page to be written
+
+-- they may go on waiting where nothing has to be read for the next line, whose newline is held at `end`, before `filled`, and where one more of `longest`
+-- bytes has room behind them
+unfoldable pub mayWait : ℕ → ℕ → ℕ → ℕ → ℕ → Bool
+mayWait room waiting longest end filled = ltb end filled && leb longest (room - waiting)
+
+-- how many bytes are left waiting: all, or none
+unfoldable pub leftWaiting : ℕ → ℕ → ℕ → ℕ → ℕ → ℕ
+leftWaiting room waiting longest end filled = cond (mayWait room waiting longest end filled) waiting 0

@@ -4,7 +4,7 @@ ghost use mathlib.Core.Path.{_≡_};
 ghost use mathlib.Core.Bool.{false, _&&_};
 ghost use Prim.Native.Nat.{_+_, _-_, _≤_, _<_};
 ghost use lib.ListN.{length, take};
-ghost use Rattle.input.specs.Feed.{between, lineEnd, lineTo, lastLine, tooLong, failure, isLast, Ready, NoLine, ReadOn, NextLine};
+ghost use Rattle.input.specs.Feed.{between, lineEnd, lineTo, lastLine, tooLong, failure, isLast, Ready, NoLine, ReadOn, NextLine, mayWait, leftWaiting};
 use libc::STDERR_FILENO;
 use libc::STDOUT_FILENO;
 
@@ -240,19 +240,27 @@ pub fn tell_waiting(found: Found, page: &[u8], waiting: usize) -> bool
     tell(found, &page[..waiting])
 }
 
-// Makes room in a page for an answer of `longest` bytes behind those that wait. They go on waiting where there is room, and where the next line is held, its
-// newline at `end`, before `filled`. Else they are written.
-fn make_room(page: &[u8], waiting: usize, longest: usize, end: usize, filled: usize) -> Page
-    requires { ⌜ (waiting ≤ length (now page)) × (longest ≤ length (now page)) ⌝ }
-    ensures { λ r. ⌜ (r .waiting + longest ≤ length (now (page .entry))) × (filled ≤ end → r .waiting ≡ 0) ⌝ }
+// Whether answers may go on waiting: the next line is held, its newline at `end`, before `filled`, and `longest` bytes have room behind them.
+fn may_wait(room: usize, waiting: usize, longest: usize, end: usize, filled: usize) -> bool
+    requires { ⌜ waiting ≤ room ⌝ }
+    ensures { λ r. ⌜ r ≡ mayWait room waiting longest end filled ⌝ }
 {
     if end < filled {
-        if longest <= page.len() - waiting {
-            return Page {
-                waiting,
-                failed: false,
-            };
-        }
+        return longest <= room - waiting;
+    }
+    false
+}
+
+// What waits in a page before the next line is looked for: as before where it may, else nothing, and what waited is written.
+fn make_room(page: &[u8], waiting: usize, longest: usize, end: usize, filled: usize) -> Page
+    requires { ⌜ waiting ≤ length (now page) ⌝ }
+    ensures { λ r. ⌜ r .waiting ≡ leftWaiting (length (now (page .entry))) waiting longest end filled ⌝ }
+{
+    if may_wait(page.len(), waiting, longest, end, filled) {
+        return Page {
+            waiting,
+            failed: false,
+        };
     }
     let told = tell_waiting(Found::Line, page, waiting);
     Page {
@@ -273,7 +281,8 @@ pub fn read_line(
     longest: usize,
 ) -> Turn
     requires { ⌜ (next ≤ filled) × (filled ≤ length (now buf)) × (waiting ≤ length (now page)) × (longest ≤ length (now page)) ⌝ }
-    ensures { λ r. ⌜ Ready (length (now (buf .entry))) (r .feed) × (r .waiting + longest ≤ length (now (page .entry))) × (r .failed ≡ false → NextLine (now (buf .entry)) next filled (now (buf .exit)) (r .feed)) ⌝ }
+    ensures { λ r. ⌜ Ready (length (now (buf .entry))) (r .feed) × (r .failed ≡ false → NextLine (now (buf .entry)) next filled (now (buf .exit)) (r .feed)) ⌝ }
+    ensures { λ r. ⌜ (r .waiting ≡ leftWaiting (length (now (page .entry))) waiting longest (lineEnd next filled (now (buf .entry))) filled) × (r .waiting + longest ≤ length (now (page .entry))) ⌝ }
 {
     let end = line_end(buf, next, filled);
     let p = make_room(page, waiting, longest, end, filled);

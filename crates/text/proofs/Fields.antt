@@ -17,7 +17,7 @@ use Rattle.text.specs.declared.Fault.{Fault}
 use Rattle.text.specs.declared.Field.{Field}
 use Rattle.text.specs.declared.Place.{Place}
 use Rattle.text.specs.declared.Read.{Read}
-use Rattle.text.specs.Text.{digitOf, allDigits, valueFrom, isBlank, leading, Spells, numberAt, isThere, until, startAt, fieldAt, fieldNo, bytesOf, same, placeAmong, faulty, limited, numberOf, numberIn, numberAfter, numbersAfter, listAfter, ReadList, chosen, choiceAfter, endAfter, isPlain, allPlain, isSilent}
+use Rattle.text.specs.Text.{digitOf, allDigits, valueFrom, isBlank, leading, Spells, fieldAs, isThere, until, startAt, fieldAt, fieldNo, bytesOf, same, placeAmong, faulty, limited, numberOf, numberIn, numberAfter, numbersAfter, listAfter, ReadList, chosen, choiceAfter, endAfter, isPlain, allPlain, isSilent}
 use Rattle.text.proofs.Laws.{leading-end, leading-go, limited-over, limited-in}
 
 -- ---- bytes
@@ -192,13 +192,13 @@ module _ (base : ℕ) (l : List ℕ) (from to n d : ℕ) (small : base ≤ 16) (
 
 module _ (base fewest most limit : ℕ) (l : List ℕ) (at : ℕ) where
   module _ (f : Field) (e : f ≡ fieldAt l at) where
-    pub at-there : (r : Read) → f .start < f .end → r ≡ numberOf base fewest most limit (f .end) (bytesOf l f) → r ≡ numberAt base fewest most limit l at
-    unfolding numberAt
-    at-there r h d = rw (numberAt, ← e, lt-ltb _ _ h, ← e) d
+    pub at-there : (r : Read) → f .start < f .end → r ≡ numberOf base fewest most limit (f .end) (bytesOf l f) → r ≡ fieldAs (numberOf base fewest most limit) l at
+    unfolding fieldAs
+    at-there r h d = rw (fieldAs, ← e, lt-ltb _ _ h, ← e) d
 
-    pub at-missing : f .end ≤ f .start → faulty Fault.MissingField ≡ numberAt base fewest most limit l at
-    unfolding numberAt
-    at-missing h = rw (numberAt, ← e, le-ltb _ _ h)
+    pub at-missing : f .end ≤ f .start → faulty Fault.MissingField ≡ fieldAs (numberOf base fewest most limit) l at
+    unfolding fieldAs
+    at-missing h = rw (fieldAs, ← e, le-ltb _ _ h)
 
   number-within : (next : ℕ) (b : List ℕ) (n : ℕ) → 0 < length b → allDigits base b ≡ true → fewest ≤ length b → length b ≤ most → valueFrom base 0 b ≡ n → n ≤ limit
       → record { value = n; after = Place.At next } ≡ numberOf base fewest most limit next b
@@ -218,7 +218,7 @@ module _ (base fewest most limit : ℕ) (l : List ℕ) (at : ℕ) where
         number-within end (take (end - start) (drop start l)) n (omega (arith, k)) (S .digits) (omega (arith, k)) (omega (arith, k, S .few)) (S .value) h
 
     pub at-short : 0 < fewest → 16 ≤ most → start ≡ at + leading true (drop at l) → fewest ≤ end - start → end + leading false (drop end l) ≡ end → n ≤ limit
-        → record { value = n; after = Place.At end } ≡ numberAt base fewest most limit l at
+        → record { value = n; after = Place.At end } ≡ fieldAs (numberOf base fewest most limit) l at
     at-short p q s f e h = at-there _ (short-field s e) _ (omega arith) (short-number p q f h)
 
 module _ (l : List ℕ) (p : Place) (at : ℕ) (f : Field) (here : p ≡ Place.At at) (e : f ≡ fieldAt l at) where
@@ -232,8 +232,8 @@ module _ (l : List ℕ) (p : Place) (at : ℕ) (f : Field) (here : p ≡ Place.A
 
   module _ (words : List ℕ) (count : ℕ) (fault : Fault) where
     choice-there : f .start < f .end → chosen count fault (placeAmong count words 0 (bytesOf l f)) (f .end) ≡ choiceAfter words count fault l p
-    unfolding choiceAfter
-    choice-there h = rw (here, choiceAfter, ← e, lt-ltb _ _ h, ← e)
+    unfolding choiceAfter fieldAs
+    choice-there h = rw (here, choiceAfter, fieldAs, ← e, lt-ltb _ _ h, ← e)
 
     pub choice-one : f .start < f .end → (k : ℕ) → k ≡ placeAmong count words 0 (bytesOf l f) → k < count → record { value = k; after = Place.At (f .end) } ≡ choiceAfter words count fault l p
     unfolding chosen
@@ -244,8 +244,8 @@ module _ (l : List ℕ) (p : Place) (at : ℕ) (f : Field) (here : p ≡ Place.A
     choice-other h k d g = rw (← choice-there h, ← d, chosen, le-ltb _ _ g)
 
     pub choice-missing : f .end ≤ f .start → faulty Fault.MissingField ≡ choiceAfter words count fault l p
-    unfolding choiceAfter
-    choice-missing h = rw (here, choiceAfter, ← e, le-ltb _ _ h)
+    unfolding choiceAfter fieldAs
+    choice-missing h = rw (here, choiceAfter, fieldAs, ← e, le-ltb _ _ h)
 
 -- ---- numbers, one after another
 
@@ -327,7 +327,7 @@ in-most Base.Sixteen limit next l = number-most 16 16 16 limit next l
 
 -- a number that was read is at most its limit
 read-most : (base : Base) (limit : ℕ) (l : List ℕ) (p : Place) → Most limit (numberAfter base limit l p)
-unfolding numberAfter
+unfolding numberAfter fieldAs
 read-most base limit l (Place.Bad f) = faulty-most f limit
 read-most base limit l (Place.At at) =
     pick (isThere (fieldAt l at)) _ _ limit (in-most base limit (fieldAt l at .end) (bytesOf l (fieldAt l at))) (faulty-most Fault.MissingField limit)

@@ -125,20 +125,17 @@ pub record Spells (base : ℕ) (l : List ℕ) (from to n : ℕ) : Type 0 where
   pub value : valueFrom base 0 (take (to - from) (drop from l)) ≡ n
   pub parted : from + leading false (drop from l) ≡ to + leading false (drop to l)
 
--- the number that the next field spells in a base
-unfoldable pub numberAt : ℕ → ℕ → ℕ → ℕ → List ℕ → ℕ → Read
-numberAt base fewest most limit l at = elim (isThere (fieldAt l at)) [
-  | true ↦ numberOf base fewest most limit (fieldAt l at .end) (bytesOf l (fieldAt l at))
+-- what the next field is read as, by a way to read its bytes and the place after them; a fault where there is none
+unfoldable pub fieldAs : (ℕ → List ℕ → Read) → List ℕ → ℕ → Read
+fieldAs reading l at = elim (isThere (fieldAt l at)) [
+  | true ↦ reading (fieldAt l at .end) (bytesOf l (fieldAt l at))
   | false ↦ faulty Fault.MissingField
 ]
 
 -- the number that the next field is, at most a limit
 unfoldable pub numberAfter : Base → ℕ → List ℕ → Place → Read
 numberAfter base limit l (Place.Bad f) = faulty f
-numberAfter base limit l (Place.At at) = elim (isThere (fieldAt l at)) [
-  | true ↦ numberIn base limit (fieldAt l at .end) (bytesOf l (fieldAt l at))
-  | false ↦ faulty Fault.MissingField
-]
+numberAfter base limit l (Place.At at) = fieldAs (numberIn base limit) l at
 
 -- numbers, and the place after them
 pub record Numbers : Type 0 where
@@ -169,10 +166,7 @@ chosen count fault k next = elim (ltb k count) [ true ↦ record { value = k; af
 
 unfoldable pub choiceAfter : List ℕ → ℕ → Fault → List ℕ → Place → Read
 choiceAfter words count fault l (Place.Bad f) = faulty f
-choiceAfter words count fault l (Place.At at) = elim (isThere (fieldAt l at)) [
-  | true ↦ chosen count fault (placeAmong count words 0 (bytesOf l (fieldAt l at))) (fieldAt l at .end)
-  | false ↦ faulty Fault.MissingField
-]
+choiceAfter words count fault l (Place.At at) = fieldAs (λ next word. chosen count fault (placeAmong count words 0 word) next) l at
 
 -- a place, if no further field stands after it
 unfoldable pub endAfter : List ℕ → Place → Place

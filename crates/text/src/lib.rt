@@ -7,7 +7,7 @@ ghost use Prim.Native.Nat.{_+_, _*_, _≤_, _<_};
 ghost use lib.Dec.{ltb};
 ghost use lib.Ieee.{binary64, ofBits, toBits};
 ghost use lib.ListN.{length, drop};
-ghost use Rattle.text.specs.Text.{digitOf, allDigits, valueFrom, faulty, limited, numberOf, numberIn, isBlank, leading, until, fieldAt, fieldNo, same, bytesOf, placeAmong, Spells, numberAt, numberAfter, numbersAfter, listAfter, ReadList, choiceAfter, endAfter, isPlain, allPlain, isSilent, startOf};
+ghost use Rattle.text.specs.Text.{digitOf, allDigits, valueFrom, faulty, limited, numberOf, numberIn, isBlank, leading, until, fieldAt, fieldNo, same, bytesOf, placeAmong, Spells, fieldAs, numberAfter, numbersAfter, listAfter, ReadList, choiceAfter, endAfter, isPlain, allPlain, isSilent, startOf};
 
 // What is wrong with a line.
 pub enum Fault {
@@ -333,7 +333,7 @@ fn read_digits(line: &[u8], start: usize, base: u64) -> Digits
 // value.
 fn read_at(line: &[u8], at: usize, base: u64, fewest: usize, most: usize, limit: u64) -> Read
     requires { ⌜ (0 < base) × (base ≤ 16) × (0 < fewest) × (16 ≤ most) ⌝ }
-    ensures { λ r. ⌜ r ≡ numberAt base fewest most limit (now (line .entry)) at ⌝ }
+    ensures { λ r. ⌜ r ≡ fieldAs (numberOf base fewest most limit) (now (line .entry)) at ⌝ }
 {
     let start = past(line, at, true);
     if start < line.len() {

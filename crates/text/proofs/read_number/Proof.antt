@@ -1,15 +1,15 @@
 -- `text::read_number`: by the base, or a fault stands before.
-use Rattle.text.specs.Text.{numberAt, numberIn, numberAfter}
+use Rattle.text.specs.Text.{fieldAs, numberIn, numberAfter}
 use borrow.Author.Needs.{needs}
 use Rattle.text.proofs.read_number.Statement.{statement}
 use Rattle.text.proofs.read_number.Tie as tie
 
 returns : tie.Need-returns
-unfolding numberAt numberAfter numberIn
+unfolding numberAfter fieldAs numberIn
 returns c = rw (c .before .enum-told .given .1, c .before .before .before .before .p .given .1) (c .read-at .ensures)
 
 returns-2 : tie.Need-returns-2
-unfolding numberAt numberAfter numberIn
+unfolding numberAfter fieldAs numberIn
 returns-2 c = rw (c .before .enum-told2 .given .1, c .before .before .before .before .p .given .1) (c .read-at2 .ensures)
 
 returns-3 : tie.Need-returns-3
