@@ -3,7 +3,7 @@
 use mathlib.Core.Path.{_≡_, refl, sym, _∙_}
 use mathlib.Core.Bool.{Bool, true, false, cond, _&&_, _||_}
 use mathlib.Core.List.{List, [], _∷_}
-use mathlib.Core.Logic.{_⊎_, inl, inr, ⊎-elim}
+use mathlib.Core.Logic.{_⊎_, ⊎-elim}
 use Prim.Native.Nat.{ℕ, zero, suc, _+_, _*_, _≤_, _<_}
 use native.Mathlib.Nat.{mul-pos, eq-or-lt-of-le}
 use native.Mathlib.Omega.{arith}
@@ -14,18 +14,14 @@ use lib.Ieee.{Float, nan, inf, fin, lt, le, eq, ofBits, up, down}
 use lib.Ieee.Fits.{up-pos, down-pos}
 use lib.Ieee.Positive.{positive, through}
 use borrow.Author.Tests.{ltb-true, lt-ltb, eqb-true, eq-eqb}
-use Rattle.cellid.proofs.Laws.{and-true, bool-iff, no-true}
+use Rattle.cellid.proofs.Laws.{and-true, or-true, bool-iff, no-true}
 use Rattle.point.proofs.Laws.{never}
 use Rattle.cap.specs.Bound.{thresholds, levelIn, levelFor, falling}
 
 -- ---- what `le` says of two numbers that are not below zero
-or-cases : (a b : Bool) → (a || b) ≡ true → (a ≡ true) ⊎ (b ≡ true)
-or-cases true b h = inl refl
-or-cases false b h = inr h
-
 le-numbers : (a b : ℕ) → (ltb a b || (eqb a b && true)) ≡ true → a ≤ b
 le-numbers a b h =
-    ⊎-elim (λ l. less (ltb-true a b l)) (λ e. same (eqb-true a b (and-true (eqb a b) true e .0))) (or-cases (ltb a b) (eqb a b && true) h)
+    ⊎-elim (λ l. less (ltb-true a b l)) (λ e. same (eqb-true a b (and-true (eqb a b) true e .0))) (or-true (ltb a b) (eqb a b && true) h)
   where
     less : a < b → a ≤ b
     less l = omega arith

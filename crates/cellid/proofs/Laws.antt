@@ -12,7 +12,7 @@ use lib.Dec.{leb, eqb}
 use lib.Pow.{pow-pos, pow-add, pow-lt, pow-mono, shl-shr}
 use borrow.Author.Tests.{leb-true, le-leb, eqb-true, eq-eqb}
 use Rattle.cellid.specs.CellId.{idOf, lowBit, levelOf, placeOf, bitAt, placeAt, parentAt, childOf, firstLeaf, lastLeaf, holds, meets, validId, IsCell, Cell}
-pub use Rattle.cellid.proofs.Bits.{bool-iff, and-true, no-true, same-bool, every-at, NoneOf, last-arm, odd-mul, pow-pair, one-shl, zeros-of, odd-part, and-power, same-above}
+pub use Rattle.cellid.proofs.Bits.{bool-iff, and-true, or-true, true-or, no-true, same-bool, every-at, NoneOf, last-arm, odd-mul, pow-pair, one-shl, zeros-of, odd-part, and-power, same-above}
 unfoldable pub use Rattle.cellid.proofs.Bits.{every}
 use Rattle.cellid.proofs.Bits.{and-neg, parent-bits}
 
@@ -174,6 +174,13 @@ valid-cell id h v =
     let e : id ≡ (2 * o .0 + 1) * 2 ^ trailingZeros 64 id = o .3 ∙ ap (λ (n : ℕ). (2 * o .0 + 1) * 2 ^ n) (sym z) in
     let g = cell-core id (o .0) (trailingZeros 64 id) e (leb-true _ _ (r .0)) top (eqb-true _ _ (s .1)) in
     subst (λ (m : ℕ). IsCell id (30 - trailingZeros 64 id / 2) m) (sym (place-core id (o .0) (trailingZeros 64 id) e)) g
+
+-- the face of a valid id bounds it
+pub valid-is : (id : ℕ) → validId id ≡ true → Cell id
+unfolding validId
+valid-is id v =
+    let top : id / 2 ^ 61 ≤ 5 = leb-true _ _ (and-true _ _ v .0) in
+    (levelOf id, placeOf id, valid-cell id (omega arith) v)
 
 pub cell-valid : (id L p : ℕ) → IsCell id L p → validId id ≡ true
 unfolding validId

@@ -1,11 +1,12 @@
 -- Two normal lists with the same leaves are one list.
 use mathlib.Core.Path.{_≡_, refl, sym, ap, ap₂, _∙_, subst}
 use mathlib.Core.Logic.{_⊎_, inl, inr, ⊎-elim}
-use mathlib.Core.Bool.{Bool, true, false, _||_}
+use mathlib.Core.Bool.{true}
 use mathlib.Core.List.{List, [], _∷_}
 use Prim.Native.Nat.{ℕ, zero, suc, _+_, _-_, _*_, _≤_, _<_}
 use native.Mathlib.Omega.{arith}
 use Rattle.cellid.specs.CellId.{Cell, IsCell, idOf, bitAt, childOf, firstLeaf, lastLeaf}
+use Rattle.cellid.proofs.Laws.{or-true, true-or}
 use Rattle.cellunion.specs.CellUnion.{lo, hi, hasLeaf, covers, SameLeaves, Member, Apart, NoFour, Normal}
 use Rattle.order.specs.Order.{All}
 use Rattle.cellunion.proofs.Spans.{lo-is, hi-is, span, leaf→, leaf←, In, in-anti, kid, kids, kid-up}
@@ -19,14 +20,6 @@ pub at-all : (P : ℕ → Type 0) (l : List ℕ) → ((x : ℕ) → Member x l �
 unfolding All Member
 at-all P [] f = tt
 at-all P (y ∷ l) f = (f y (inl refl), at-all P l (λ x m. f x (inr m)))
-
-pub or-true : (a b : Bool) → (a || b) ≡ true → (a ≡ true) ⊎ (b ≡ true)
-or-true true b e = inl refl
-or-true false b e = inr e
-
-pub true-or : (a b : Bool) → (a ≡ true) ⊎ (b ≡ true) → (a || b) ≡ true
-true-or true b h = refl
-true-or false b h = ⊎-elim (λ e. let z : _≡_ {A = ℕ} 0 1 = cc in absurd (omega arith)) (λ e. e) h
 
 -- a leaf is covered by a member, and by each member that has it
 abbrev pub Covered : List ℕ → ℕ → Type 0

@@ -9,11 +9,11 @@ use native.Mathlib.Omega.{arith}
 use lib.Dec.{leb}
 use borrow.Author.Tests.{lt-leb}
 use Rattle.cellid.specs.CellId.{Cell, IsCell, idOf, firstLeaf, lastLeaf, holds, meets}
-use Rattle.cellid.proofs.Laws.{no-true}
+use Rattle.cellid.proofs.Laws.{or-true, true-or, no-true}
 use Rattle.order.specs.Order.{All}
 use Rattle.cellunion.specs.CellUnion.{hasLeaf, covers, SameLeaves, Member, Apart, Clear}
 use Rattle.cellunion.proofs.Spans.{span, Nest, left, right, inside, around, nest, holds-in, holds-no}
-use Rattle.cellunion.proofs.Unique.{all-at, at-all, or-true, true-or}
+use Rattle.cellunion.proofs.Unique.{all-at, at-all}
 use Rattle.cellunion.proofs.Stack.{all-map}
 
 -- ---- two cells

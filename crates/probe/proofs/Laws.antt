@@ -1,27 +1,22 @@
 -- What the tests give that stand before the layers' functions.
 use mathlib.Core.Path.{_≡_, sym, _∙_}
 use mathlib.Core.Bool.{Bool, true}
-use mathlib.Core.List.{List, [], _∷_, _++_}
-use Prim.Native.Nat.{ℕ, _+_, _/_, _^_, _≤_, _<_}
+use mathlib.Core.List.{List, [], _∷_}
+use Prim.Native.Nat.{ℕ, _+_, _<_}
 use native.Mathlib.Numerals.{add-one}
 use native.Mathlib.Omega.{arith}
 use lib.ListN.{length, take, getD}
 use lib.Seq.{take-suc}
-use borrow.Author.Tests.{leb-true}
 use Rattle.cellid.specs.CellId.{Cell, validId, levelOf, faceCell}
-use Rattle.cellid.proofs.Laws.{and-true}
+use Rattle.cellid.proofs.Laws.{valid-is}
 use Rattle.cellid.proofs.Parts.{face-cell}
 use Rattle.order.specs.Order.{All}
-use Rattle.region.proofs.Laws.{valid-is}
+use Rattle.order.proofs.OrderLaws.{all-append}
 use Rattle.fast.specs.Memory.{Cells}
 
--- a valid id, which has 64 bits, is a cell's
+-- an id that passed the test for valid ones is a cell's
 pub is-cell : (id : ℕ) {b : Bool} → b ≡ validId id → b ≡ true → Cell id
-unfolding validId
-is-cell id e t =
-    let v : validId id ≡ true = sym e ∙ t in
-    let top : id / 2 ^ 61 ≤ 5 = leb-true _ _ (and-true _ _ v .0) in
-    valid-is id (omega arith) v
+is-cell id e t = valid-is id (sym e ∙ t)
 
 pub is-face : Cell 0x1000_0000_0000_0000
 unfolding faceCell
@@ -32,15 +27,10 @@ pub above : (id level k : ℕ) → k ≡ levelOf id → level < k → level < 30
 unfolding levelOf
 above id level k e h = omega arith
 
--- one cell more
-all-snoc : (l : List ℕ) (x : ℕ) → All Cell l → Cell x → All Cell (l ++ (x ∷ []))
-unfolding All
-all-snoc [] x a p = (p, tt)
-all-snoc (y ∷ l) x a p = (a .0, all-snoc l x (a .1) p)
-
 pub cells-none : (m : List ℕ) → Cells 0 m
 unfolding All
 cells-none m = (omega arith, tt)
 
 pub cells-more : (m : List ℕ) (i : ℕ) {b : Bool} → i < length m → Cells i m → b ≡ validId (getD m i 0) → b ≡ true → Cells (i + 1) m
-cells-more m i h a e t = (omega arith, rw (add-one i, take-suc m i 0 h) (all-snoc (take i m) (getD m i 0) (a .1) (is-cell _ e t)))
+unfolding All
+cells-more m i h a e t = (omega arith, rw (add-one i, take-suc m i 0 h) (all-append Cell (take i m) (getD m i 0 ∷ []) (a .1) (is-cell _ e t, tt)))

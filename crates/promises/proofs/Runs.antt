@@ -10,7 +10,8 @@ use Rattle.cellid.specs.CellId.{Cell, levelOf, under}
 use Rattle.order.specs.Order.{All}
 use Rattle.order.proofs.OrderLaws.{which}
 use Rattle.cellunion.specs.CellUnion.{hasLeaf, covers, SameLeaves, Member, OnStep, normalise, denormalise}
-use Rattle.cellunion.proofs.Unique.{or-true, true-or, all-at}
+use Rattle.cellid.proofs.Laws.{or-true, true-or}
+use Rattle.cellunion.proofs.Unique.{all-at}
 use Rattle.cellunion.proofs.Norm.{normalise-leaves}
 use Rattle.cellunion.proofs.Denorm.{final-levels, final-leaves}
 use Rattle.run.specs.Run.{Request, Grown, State, going, run, rawIds, sumOf}

@@ -9,7 +9,7 @@ use lib.ListN.{length}
 use lib.Ieee.{Float, nan, inf, fin, lt}
 use borrow.Author.Tests.{le-leb, leb-true}
 use Rattle.cellid.specs.CellId.{Cell, validId, levelOf, childOf, holds, meets, firstLeaf, lastLeaf}
-use Rattle.cellid.proofs.Laws.{and-true, bool-iff, valid-cell, cell-pos, level-cell}
+use Rattle.cellid.proofs.Laws.{and-true, or-true, true-or, bool-iff, valid-cell, cell-pos, level-cell}
 use Rattle.cellid.proofs.Leaves.{child-cell, meets-sym, intersects-leaves, nested-or-apart}
 use Rattle.order.specs.Order.{All}
 use Rattle.neighbors.specs.Neighbors.{AtLevel}
@@ -31,9 +31,6 @@ finite-is (inf true) = refl
 finite-is (inf false) = refl
 finite-is (fin s m e) = refl
 
-pub valid-is : (id : ℕ) → id < 2 ^ 64 → validId id ≡ true → Cell id
-valid-is id f h = (_, _, valid-cell id f h)
-
 pub valid-pos : (id : ℕ) → id < 2 ^ 64 → validId id ≡ true → 0 < id
 valid-pos id f h = cell-pos id _ _ (valid-cell id f h)
 
@@ -50,17 +47,6 @@ holds-meets a b h =
     let y : firstLeaf a ≤ lastLeaf b = omega (arith, lo, hi) in
     rw (le-leb (firstLeaf b) (lastLeaf a) x, le-leb (firstLeaf a) (lastLeaf b) y)
 
-or-left : (a b : Bool) → a ≡ true → (a || b) ≡ true
-or-left a b h = rw h
-
-or-right : (a b : Bool) → b ≡ true → (a || b) ≡ true
-or-right true b h = refl
-or-right false b h = h
-
-or-cases : (a b : Bool) → (a || b) ≡ true → (a ≡ true) ⊎ (b ≡ true)
-or-cases true b h = inl refl
-or-cases false b h = inr h
-
 -- of two cells that meet, one holds the other
 pub meets-either : (a b : ℕ) → Cell a → Cell b → meets a b ≡ (holds a b || holds b a)
 meets-either a b c d = bool-iff _ _ there back
@@ -68,16 +54,16 @@ meets-either a b c d = bool-iff _ _ there back
     there : meets a b ≡ true → (holds a b || holds b a) ≡ true
     there h =
         let n = intersects-leaves a b c d .0 h in
-        ⊎-elim (or-left (holds a b) (holds b a)) (λ x. ⊎-elim (or-right (holds a b) (holds b a)) (λ apart. absurd (apart (n .0) (n .1) (n .2))) x) (nested-or-apart a b c d)
+        ⊎-elim (λ x. true-or (holds a b) (holds b a) (inl x)) (λ x. ⊎-elim (λ y. true-or (holds a b) (holds b a) (inr y)) (λ apart. absurd (apart (n .0) (n .1) (n .2))) x) (nested-or-apart a b c d)
 
     back : (holds a b || holds b a) ≡ true → meets a b ≡ true
-    back h = ⊎-elim (holds-meets a b) (λ k. meets-sym a b ∙ holds-meets b a k) (or-cases _ _ h)
+    back h = ⊎-elim (holds-meets a b) (λ k. meets-sym a b ∙ holds-meets b a k) (or-true _ _ h)
 
 -- ---- containing implies intersecting
 pub contains-intersects : (g : Region) (id : ℕ) → inDomain g ≡ true → Cell id → containsCell g id ≡ true → intersectsCell g id ≡ true
 unfolding containsCell intersectsCell
 contains-intersects (Region.Cap cap) id d c h = CapLaws.contains-intersects cap id h
-contains-intersects (Region.Cell own) id d c h = or-left _ _ h
+contains-intersects (Region.Cell own) id d c h = true-or _ _ (inl h)
 
 -- ---- an empty cap intersects and contains nothing
 pub empty-none : (cap : Cap) (id : ℕ) → isEmpty cap ≡ true → (intersectsCell (Region.Cap cap) id ≡ false) × (containsCell (Region.Cap cap) id ≡ false)

@@ -14,7 +14,8 @@ use Rattle.cellid.proofs.Leaves.{contains-leaves}
 use Rattle.order.specs.Order.{All}
 use Rattle.run.specs.Run.{Grown, Request, State, after, going, placed, rawIds, run, sumOf}
 use Rattle.run.specs.Ground.{Aside, Beneath, Step, Disjoint, Domain, Fit, Level, Passes, Tiles, cellsOf, grownFrom, holding, one}
-use Rattle.run.proofs.Lists.{Fares, all-get, sum-append, sum-map, all-append, all-map, all-weak, all-drop, all-with, term-le, rel-le, rel-eq, Holds, Rel}
+use Rattle.order.proofs.OrderLaws.{all-append}
+use Rattle.run.proofs.Lists.{Fares, all-get, sum-append, sum-map, all-map, all-weak, all-drop, all-with, term-le, rel-le, rel-eq, Holds, Rel}
 use Rattle.run.proofs.Steps.{run-ends}
 use Rattle.run.proofs.Ground.{Additive, Failed, Kept, Inv, after-ok}
 use Rattle.run.proofs.Leaves.{leaves-add, leaves-pos, under-add, one-le, one-true, parent-under, disjoint-of, disjoint-holding}

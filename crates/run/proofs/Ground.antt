@@ -14,7 +14,8 @@ use Rattle.cellid.proofs.Leaves.{child-cell}
 use Rattle.order.specs.Order.{All}
 use Rattle.run.specs.Run.{Child, Expansion, Grown, Look, Request, State, add, addAll, after, depth, divide, ending, enqueue, expand, fails, fourOf, full, handsOn, isEmpty, isFull, join, keep, lifts, look, none, nothing, placed, reached, setAside, startAll, startAs, step, stepOn, stepWith, sumOf, terminal, under}
 use Rattle.run.specs.Ground.{Domain, Fit}
-use Rattle.run.proofs.Lists.{Fares, sum-append, sum-map, sum-insert, all-append, all-map, all-insert, Holds, then-ok, if-ok, empty-nil, or-false, not-true, Rel, rel-refl, rel-trans, rel-add, rel-less, rel-same}
+use Rattle.order.proofs.OrderLaws.{all-append}
+use Rattle.run.proofs.Lists.{Fares, sum-append, sum-map, sum-insert, all-map, all-insert, Holds, then-ok, if-ok, empty-nil, or-false, not-true, Rel, rel-refl, rel-trans, rel-add, rel-less, rel-same}
 use Rattle.run.proofs.Looks.{MeansBy, Means, look-means, canon}
 
 -- a measure of cells, with the place of the start cell, that is the sum of its four children's

@@ -28,11 +28,6 @@ sum-insert lt f x (y ∷ q) = ⊎-elim
     (λ (e : lt y x ≡ false). rw (insert-front lt x y q e))
     (which (lt y x))
 
-pub all-append : {A : Type 0} (P : A → Type 0) (l r : List A) → All P l → All P r → All P (l ++ r)
-unfolding All
-all-append P [] r a b = b
-all-append P (x ∷ l) r a b = (a .0, all-append P l r (a .1) b)
-
 pub all-map : {A B : Type 0} (g : A → B) (P : B → Type 0) (l : List A) → All (λ x. P (g x)) l → All P (map g l)
 unfolding All
 all-map g P [] a = tt

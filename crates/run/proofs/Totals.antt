@@ -13,7 +13,8 @@ use Rattle.cellid.proofs.Leaves.{child-cell}
 use Rattle.order.specs.Order.{All}
 use Rattle.run.specs.Run.{Request, Grown, Child, State, Expansion, Look, fails, none, terminal, divide, going, join, fourOf, reached, look, expand, setAside, after, asideTotal, sumOf, leavesOf}
 use Rattle.run.specs.Ground.{Domain, Fit}
-use Rattle.run.proofs.Lists.{sum-append, sum-map, if-ok, all-append, rel-le, rel-eq}
+use Rattle.order.proofs.OrderLaws.{all-append}
+use Rattle.run.proofs.Lists.{sum-append, sum-map, if-ok, rel-le, rel-eq}
 use Rattle.run.proofs.Ground.{expand-ok}
 use Rattle.run.proofs.Leaves.{leaves-add}
 use Rattle.run.proofs.Demand3.{sums}

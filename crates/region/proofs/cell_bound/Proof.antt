@@ -1,15 +1,15 @@
 -- `region::cell_bound` meets its contract.
-use Rattle.region.proofs.Laws.{valid-is}
+use Rattle.cellid.proofs.Laws.{valid-is}
 use Rattle.cap.proofs.Laws.{face-of}
 use borrow.Author.Needs.{needs}
 use Rattle.region.proofs.cell_bound.Statement.{statement}
 use Rattle.region.proofs.cell_bound.Tie as tie
 
 from-id-requires : tie.Need-from-id-requires
-from-id-requires c κs = valid-is (c .args .own) (c .fits .own .fits) (c .pre)
+from-id-requires c κs = valid-is (c .args .own) (c .pre)
 
 cap-bound-requires : tie.Need-cap-bound-requires
-cap-bound-requires c κs = face-of _ _ (valid-is (c .before .args .own) (c .before .fits .own .fits) (c .before .pre)) (c .from-id .ensures)
+cap-bound-requires c κs = face-of _ _ (valid-is (c .before .args .own) (c .before .pre)) (c .from-id .ensures)
 
 cell-union-bound-requires : tie.Need-cell-union-bound-requires
 cell-union-bound-requires c κs = search needs
