@@ -1,0 +1,10 @@
+pub mod Tiles
+pub mod Stretches
+pub mod Inputs
+pub mod Puts
+pub mod Looks
+pub mod Writes
+pub mod Tilings
+pub mod Laws
+pub mod Examples
+pub mod Answers

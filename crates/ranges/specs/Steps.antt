@@ -1,0 +1,54 @@
+-- The loops' own numbers and lists: what one look tells, a list's pairs one after another, the largest cell that can begin at a leaf, and words put into an
+-- output as far as it has places.
+use mathlib.Core.Bool.{Bool, true, false}
+use mathlib.Core.List.{List, [], _∷_}
+use Prim.Native.Nat.{ℕ, _+_, _/_, min}
+use lib.Count.{trailingZeros}
+use lib.Dec.{eqb}
+use lib.ListN.{length, set}
+use Rattle.cellid.specs.CellId.{firstLeaf, lastLeaf}
+use Rattle.ranges.specs.declared.Answer.{Answer}
+use Rattle.ranges.specs.Ranges.{joins, pairBefore, pairsOf}
+
+-- ---- one look: 25, or how many words are the answer
+
+unfoldable pub looked : Bool → List ℕ → Answer
+looked good l = elim good [ false ↦ Answer.Refused 25 | true ↦ Answer.Done (length l) ]
+
+-- how many words a cell adds to the pairs of those before it, the last leaf of which is `last`
+unfoldable pub added : ℕ → ℕ → ℕ
+added last first = elim (joins last first) [ true ↦ 0 | false ↦ 2 ]
+
+unfoldable pub wordsAfter : ℕ → List ℕ → ℕ
+wordsAfter last [] = 0
+wordsAfter last (id ∷ l) = added last (firstLeaf id) + wordsAfter (lastLeaf id) l
+
+-- ---- the pair of the cells so far: a last of 0, which is no leaf, stands for no cell
+
+unfoldable pub held : ℕ → ℕ → List ℕ
+held first last = elim (eqb last 0) [ true ↦ [] | false ↦ first ∷ last ∷ [] ]
+
+-- the next cell's first leaf is `next`: the pair is done with, unless the cell goes on with it ..
+unfoldable pub closed : ℕ → ℕ → ℕ → List ℕ
+closed first last next = elim (joins last next) [ true ↦ [] | false ↦ held first last ]
+
+-- .. and the pair that the cell belongs to begins at
+unfoldable pub opened : ℕ → ℕ → ℕ → ℕ
+opened first last next = elim (joins last next) [ true ↦ first | false ↦ next ]
+
+-- the pairs of the cells to come, with that of the cells so far before them
+unfoldable pub pairsLeft : ℕ → ℕ → List ℕ → List ℕ
+pairsLeft first last l = elim (eqb last 0) [ true ↦ pairsOf l | false ↦ pairBefore first last (pairsOf l) ]
+
+-- ---- cells
+
+-- a cell of 4 ^ k leaves can begin at s for k up to this
+unfoldable pub aligned : ℕ → ℕ
+aligned s = min 30 (trailingZeros 64 s / 2)
+
+-- ---- words
+
+-- the words of l from the place `at` on, as far as there are places
+unfoldable pub puts : ℕ → List ℕ → List ℕ → List ℕ
+puts at [] d = d
+puts at (x ∷ l) d = puts (at + 1) l (set d at x)
