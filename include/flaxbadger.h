@@ -83,6 +83,23 @@ uint64_t flaxbadger_interior_raw_cell(FLAXBADGER_CELL, FLAXBADGER_LEVELS, uint32
 uint64_t flaxbadger_fast_covering_cap(FLAXBADGER_CAP, FLAXBADGER_LEVELS, FLAXBADGER_BUFFERS);
 uint64_t flaxbadger_fast_covering_cell(FLAXBADGER_CELL, FLAXBADGER_LEVELS, FLAXBADGER_BUFFERS);
 
+/* LISTS AS LEAF RANGES. Leaf cells (of level 30) have odd ids, and those under a cell are a stretch of them, so any list is a few pairs
+ * of a first and a last leaf id: in an index sorted by leaf id each pair is one scan from its first to its last, both included.
+ *
+ * flaxbadger_ranges turns a list of ids_len ids (valid, ascending, none inside another) into such pairs, one word after another, first,
+ * last, first, last; neighbouring pairs are joined when the next first is the last plus 2. flaxbadger_cells turns such pairs (pairs_len
+ * words, an even number) back into the normalised list of the same leaves. Lists are of any length; there is no working memory.
+ *
+ * The result is 0, and count the number of words in the first places of the output; or the number of a refusal, with the output as it
+ * was and count 0:
+ *   25  the input is outside these rules: an id that is not a cell, a list that descends or overlaps; an odd number of words, a word
+ *       that is no leaf id, a first over its last, pairs that descend, overlap or could be joined
+ *   26  the answer is longer than out_len. 2 * ids_len words are always enough for pairs
+ * 25 is tested first, over the whole input. The input is only read; it may not overlap the output or count, and what is said of
+ * pointers above holds here too. */
+uint64_t flaxbadger_ranges(const uint64_t *ids, size_t ids_len, uint64_t *out, size_t out_len, uint64_t *count);
+uint64_t flaxbadger_cells(const uint64_t *pairs, size_t pairs_len, uint64_t *out, size_t out_len, uint64_t *count);
+
 #ifdef __cplusplus
 }
 #endif

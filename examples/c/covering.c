@@ -1,5 +1,5 @@
-/* Coverings from C: a cap that is covered, a cell region, and two refusals. Writes what comes back; exits with 1 where it is not what
- * paper 01 says. */
+/* Coverings from C: a cap that is covered, a cell region, a list as leaf ranges and back, and three refusals. Writes what comes back;
+ * exits with 1 where it is not what papers 01 and 02 say. */
 #include <inttypes.h>
 #include <stdio.h>
 #include <string.h>
@@ -50,6 +50,20 @@ int main(void) {
     number = flaxbadger_raw_cap(0, 0, 1, 1e-6, 0, 30, 1, 8, 1000, mem, FLAXBADGER_MEMORY - 1, out, 64, &count, &steps, &aside);
     show("too little memory", number, count, steps, aside);
     ok &= number == 6;
+
+    /* Six faces as leaf ranges: one pair, from the first leaf to the last; and back. An output of one word is too short. */
+    uint64_t faces[6], pair[2];
+    for (int i = 0; i < 6; i++) {
+        faces[i] = ((uint64_t)i << 61) + (UINT64_C(1) << 60);
+    }
+    number = flaxbadger_ranges(faces, 6, pair, 1, &count);
+    ok &= number == 26 && count == 0;
+    number = flaxbadger_ranges(faces, 6, pair, 2, &count);
+    printf("six faces: number %" PRIu64 ", %" PRIu64 " words, %016" PRIx64 " to %016" PRIx64 "\n", number, count, pair[0], pair[1]);
+    ok &= number == 0 && count == 2 && pair[0] == 1 && pair[1] == UINT64_C(0xbfffffffffffffff);
+    number = flaxbadger_cells(pair, 2, out, 64, &count);
+    printf("and back: number %" PRIu64 ", %" PRIu64 " cells\n", number, count);
+    ok &= number == 0 && count == 6 && memcmp(out, faces, sizeof faces) == 0;
 
     puts(ok ? "as expected" : "NOT as expected");
     return ok ? 0 : 1;

@@ -1,5 +1,5 @@
 -- From a public answer to a call from C; and that a contract allows one result.
-use mathlib.Core.Path.{_≡_, sym, _∙_, subst}
+use mathlib.Core.Path.{_≡_, sym, ap, _∙_, subst}
 use mathlib.Core.Bool.{Bool}
 use mathlib.Core.List.{List}
 use Prim.Native.Nat.{ℕ}
@@ -9,7 +9,9 @@ use Rattle.fast.specs.declared.RegionCoverer.{RegionCoverer}
 use Rattle.covering.specs.declared.Answer.{Answer}
 use Rattle.covering.specs.declared.Ending.{Ending}
 use Rattle.covering.specs.Covering.{Result, resultOf, fastResultOf, valuesOf, Answered}
-use Rattle.capi.specs.Calls.{Told, Called}
+use Rattle.ranges.specs.declared.Answer as ListAnswer
+use Rattle.ranges.specs.Ranges as Ranges
+use Rattle.capi.specs.Calls.{Told, Called, CalledOf}
 
 module _ (a : Answer) (number : ℕ) (m m′ o o′ : List ℕ) (count steps aside : ℕ) (t : Told (valuesOf a) number count steps aside) where
   called : (R : Result) → Answered R a m m′ o o′ → Called R number m m′ o o′ count steps aside
@@ -43,3 +45,11 @@ determined R n n′ m m₁ m₂ o o₁ o₂ k k′ s s′ t t′ a b = (
   a .told .taken ∙ sym (b .told .taken),
   a .told .total ∙ sym (b .told .total),
 )
+
+-- ---- lists as pairs, and back
+
+pub words-called : (R : Ranges.Result) (a : ListAnswer.Answer) (number count : ℕ) (o o′ : List ℕ) → Ranges.Answered R a o o′ → (number ≡ Ranges.numberOf a) × (count ≡ Ranges.wordsOf a) → CalledOf R number o o′ count
+words-called R a number count o o′ A t = record { is = t .0 ∙ ap Ranges.numberOf (A .answer); counted = t .1 ∙ ap Ranges.wordsOf (A .answer); output = A .output }
+
+pub words-determined : (R : Ranges.Result) (n n′ : ℕ) (o o₁ o₂ : List ℕ) (k k′ : ℕ) → CalledOf R n o o₁ k → CalledOf R n′ o o₂ k′ → (n ≡ n′) × (o₁ ≡ o₂) × (k ≡ k′)
+words-determined R n n′ o o₁ o₂ k k′ a b = (a .is ∙ sym (b .is), a .output ∙ sym (b .output), a .counted ∙ sym (b .counted))

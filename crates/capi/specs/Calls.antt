@@ -1,8 +1,9 @@
--- What a call from C comes to: the request and the region made of its numbers, and paper 01's number and values in the places that the caller lent.
+-- What a call from C comes to: the request and the region made of its numbers, and the papers' number and values in the places that the caller lent.
 use mathlib.Core.Path.{_≡_}
 use mathlib.Core.List.{List}
 use Prim.Native.Nat.{ℕ}
 use lib.Ieee.{Float}
+use Rattle.ranges.specs.Ranges as Ranges
 use Rattle.region.specs.declared.Region.{Region}
 use Rattle.fast.specs.declared.RegionCoverer.{RegionCoverer}
 use Rattle.covering.specs.Covering.{Result, Values, answerOf, valuesOf, memoryAfter, outputAfter}
@@ -29,3 +30,11 @@ pub record Called (R : Result) (number : ℕ) (mem mem′ out out′ : List ℕ)
   pub told : Told (valuesOf (answerOf R)) number count steps aside
   pub memory : mem′ ≡ memoryAfter R mem
   pub output : out′ ≡ outputAfter R out
+
+-- ---- lists as pairs, and back
+
+-- all that such a call leaves: the answer's number, how many words were written, and the output
+pub record CalledOf (R : Ranges.Result) (number : ℕ) (out out′ : List ℕ) (count : ℕ) : Type 0 where
+  pub is : number ≡ Ranges.numberOf (Ranges.answerOf R)
+  pub counted : count ≡ Ranges.wordsOf (Ranges.answerOf R)
+  pub output : out′ ≡ Ranges.outputAfter R out

@@ -1,11 +1,12 @@
-// The public answers for programs in C or Rust: functions on numbers and slices, under plain names, with no requirement on the caller. Each returns paper
-// 01's number, 0 for success, and writes the values of the answer through `count`, `steps` and `aside`.
+// The public answers for programs in C or Rust: functions on numbers and slices, under plain names, with no requirement on the caller. Each returns the
+// papers' number, 0 for success, and writes the values of the answer through `count`, `steps` and `aside`.
 ghost use mathlib.Core.Path.{_≡_};
 ghost use mathlib.Core.Bool.{true, false};
 ghost use lib.ListN.{length};
 ghost use Rattle.covering.specs.declared.Ending.{Ending};
 ghost use Rattle.covering.specs.Covering.{resultOf, fastResultOf, valuesOf};
-ghost use Rattle.capi.specs.Calls.{regionCoverer, capRegion, cellRegion, Told, Called};
+ghost use Rattle.ranges.specs.Ranges.{pairsResult, cellsResult, numberOf, wordsOf};
+ghost use Rattle.capi.specs.Calls.{regionCoverer, capRegion, cellRegion, Told, Called, CalledOf};
 use cell::Cap;
 use covering::Answer;
 use fast::RegionCoverer;
@@ -396,4 +397,38 @@ pub extern "C" fn flaxbadger_fast_covering_cell(
     let g = cell_region(id);
     let a = covering::fast_covering(c, g, mem, out);
     tell(a, count, steps, aside)
+}
+
+// The number of a list's answer; how many words were written goes through the reference.
+fn tell_words(a: ranges::Answer, count: &mut u64) -> u64
+    ensures { λ r. ⌜ (r ≡ numberOf a) × (now (count .exit) ≡ wordsOf a) ⌝ }
+{
+    match a {
+        ranges::Answer::Done(n) => {
+            *count = n as u64;
+            0
+        }
+        ranges::Answer::Refused(number) => {
+            *count = 0;
+            number
+        }
+    }
+}
+
+// A list as pairs of first and last leaf, neighbouring pairs joined.
+#[no_mangle]
+pub extern "C" fn flaxbadger_ranges(ids: &[u64], out: &mut [u64], count: &mut u64) -> u64
+    ensures { λ r. ⌜ CalledOf (pairsResult (now (ids .entry)) (length (now (out .entry)))) r (now (out .entry)) (now (out .exit)) (now (count .exit)) ⌝ }
+{
+    let a = ranges::pairs(ids, out);
+    tell_words(a, count)
+}
+
+// Such pairs as the normalised list of their leaves.
+#[no_mangle]
+pub extern "C" fn flaxbadger_cells(pairs: &[u64], out: &mut [u64], count: &mut u64) -> u64
+    ensures { λ r. ⌜ CalledOf (cellsResult (now (pairs .entry)) (length (now (out .entry)))) r (now (out .entry)) (now (out .exit)) (now (count .exit)) ⌝ }
+{
+    let a = ranges::cells(pairs, out);
+    tell_words(a, count)
 }
