@@ -10,6 +10,8 @@
 //!                            KIND covering, cellunion, raw, interior, icellunion, iraw or fast; REGION cap X Y Z R or cell ID;
 //!                            OPTION allow=N, out=N or mem=N, in any order, each at most once;
 //!                            answer ok STEPS ASIDE COUNT ID... or refused NUMBER
+//!     ranges LIST [OPTION...], cells LIST [OPTION...]
+//!                            LIST COUNT NUMBER..., any numbers, at most 16,384; answer ok COUNT NUMBER... or refused NUMBER
 //!     trace KIND ...         the candidates that the run takes, COUNT COST:ID...; hooked builds only
 //!     levels R COUNT         the level for each of COUNT floats from R upwards in their bits, as runs LEVEL:HOW-MANY...
 //!     normalize LIST, denormalize MIN MOD LIST, normalize_covering MIN MAX MOD MAX_CELLS LIST
@@ -18,7 +20,9 @@
 //!     face_ij_orientation, cellid_from_point, vertices, edges, cell_cap_bound, sqrt, st_to_uv, uv_to_st, vertex_neighbors,
 //!     bound, starts
 //!
-//! The values are the Rust's. The paper's refusals 1 to 6 and 10 are decided here, around it; 7, 8 and 9 by the hooks.
+//! The values are the Rust's. The papers' refusals 1 to 6, 10, 25 and 26 are decided here, around it; 7, 8 and 9 by the hooks.
+//! The Rust has no function for ranges: first and last leaf are its range_min and range_max, joined here; a pair's cells are
+//! those of its max_tile, in the loop that stands in its comment.
 //! Domains: ids are valid; floats are finite (but for cover's regions and sqrt); a point is_unit (but for is_unit itself);
 //! a cap is in paper 01's domain, a radius at most 4; vertex_neighbors asks for a level above the id's own.
 //! The build with the unmodified region.rs has no steps, set-aside totals, raw lists and start cells: it writes `-` for
@@ -59,6 +63,7 @@ const LINE: usize = 262_144;
 const IDS: u64 = 4_096;
 const DIGITS: usize = 20;
 const WORDS: u64 = 8_192;
+const NUMBERS: u64 = 16_384;
 const NAN: &str = "7ff8000000000000";
 
 unsafe extern "C" {
@@ -183,6 +188,37 @@ impl<'a> Fields<'a> {
             return Err("large");
         }
         (0..count).map(|_| self.id()).collect()
+    }
+
+    /// A list of any numbers.
+    fn numbers(&mut self) -> Result<Vec<CellID>, Word> {
+        let count = self.number()?;
+        if count > NUMBERS {
+            return Err("large");
+        }
+        (0..count).map(|_| self.bits().map(CellID)).collect()
+    }
+
+    /// The options to the end of the line: allowance, places of output, words of memory.
+    fn options(&mut self) -> Result<(u64, u64, u64), Word> {
+        let (mut allowance, mut out, mut memory) = (None, None, None);
+        while let Ok(word) = self.word() {
+            let (name, value) = word.split_once('=').ok_or("option")?;
+            let place = match name {
+                "allow" => &mut allowance,
+                "out" => &mut out,
+                "mem" => &mut memory,
+                _ => return Err("option"),
+            };
+            if place.replace(decimal(value)?).is_some() {
+                return Err("twice");
+            }
+        }
+        let (allowance, out, memory) = (allowance.unwrap_or(0xffffffff), out.unwrap_or(65_536), memory.unwrap_or(4_096));
+        if allowance > 0xffffffff || u128::from(out) > hooks::ROOM || memory > WORDS {
+            return Err("large");
+        }
+        Ok((allowance, out, memory))
     }
 
     /// A region inside the domain, or None for one outside it.
@@ -333,23 +369,7 @@ fn may_be_long(bound: &[CellID], numbers: &Numbers) -> bool {
 fn cover(kind: Kind, fields: &mut Fields, trace: bool) -> Result<String, Word> {
     let numbers = Numbers::read(fields)?;
     let region = fields.region()?;
-    let (mut allowance, mut out, mut memory) = (None, None, None);
-    while let Ok(word) = fields.word() {
-        let (name, value) = word.split_once('=').ok_or("option")?;
-        let place = match name {
-            "allow" => &mut allowance,
-            "out" => &mut out,
-            "mem" => &mut memory,
-            _ => return Err("option"),
-        };
-        if place.replace(decimal(value)?).is_some() {
-            return Err("twice");
-        }
-    }
-    let (allowance, out, memory) = (allowance.unwrap_or(0xffffffff), out.unwrap_or(65_536), memory.unwrap_or(4_096));
-    if allowance > 0xffffffff || u128::from(out) > hooks::ROOM || memory > WORDS {
-        return Err("large");
-    }
+    let (allowance, out, memory) = fields.options()?;
     let refused = |number: u8| Ok(format!("refused {number}"));
     if numbers.refusal() != 0 {
         return refused(numbers.refusal());
@@ -393,8 +413,56 @@ fn cover(kind: Kind, fields: &mut Fields, trace: bool) -> Result<String, Word> {
     Ok(format!("ok {numbers} {}", list(&found)))
 }
 
+/// A list as pairs of first and last leaf; None for one outside the rules.
+fn ranges(ids: &[CellID]) -> Option<Vec<CellID>> {
+    let mut pairs: Vec<CellID> = Vec::new();
+    for id in ids {
+        if !id.is_valid() || pairs.last().is_some_and(|last| id.range_min() <= *last) {
+            return None;
+        }
+        match pairs.last_mut() {
+            Some(last) if id.range_min().0 == last.0 + 2 => *last = id.range_max(),
+            _ => pairs.extend([id.range_min(), id.range_max()]),
+        }
+    }
+    Some(pairs)
+}
+
+/// The cells of pairs; None for words outside the rules.
+fn cells(words: &[CellID]) -> Option<Vec<CellID>> {
+    let mut tiles = Vec::new();
+    let mut from = 1;
+    for pair in words.chunks(2) {
+        let [first, last] = *pair else { return None };
+        let leaves = [first, last].iter().all(|id| id.is_valid() && id.is_leaf());
+        if !leaves || first.0 < from || last < first {
+            return None;
+        }
+        let limit = CellID(last.0 + 2);
+        let mut id = first.max_tile(&limit);
+        while id != limit {
+            tiles.push(id);
+            id = id.next().max_tile(&limit);
+        }
+        from = last.0 + 4;
+    }
+    Some(tiles)
+}
+
+fn listed(make: fn(&[CellID]) -> Option<Vec<CellID>>, fields: &mut Fields) -> Result<String, Word> {
+    let words = fields.numbers()?;
+    let (_, out, _) = fields.options()?;
+    Ok(match make(&words) {
+        None => String::from("refused 25"),
+        Some(found) if found.len() as u64 > out => String::from("refused 26"),
+        Some(found) => format!("ok {}", list(&found)),
+    })
+}
+
 fn probe(question: &str, fields: &mut Fields) -> Result<String, Word> {
     Ok(match question {
+        "ranges" => listed(ranges, fields)?,
+        "cells" => listed(cells, fields)?,
         "valid" => truth(CellID(fields.bits()?).is_valid()),
         "is_unit" => truth(fields.vector()?.is_unit()),
         "cell_contains_point" => {

@@ -10,7 +10,7 @@ use Rattle.input.specs.declared.Feed.{Feed}
 use Rattle.input.specs.declared.Found.{Found}
 use Rattle.replies.specs.Write.{Wrote, Whole, errorText, endText}
 use Rattle.replies.proofs.Lengths.{wrote-whole, error-length, end-length}
-use Rattle.requests.specs.Requests.{Replied}
+use Rattle.lines.specs.Lines.{Replied}
 use Rattle.cover.specs.Cover.{textFor, memoryFor, outputFor, lineOf, Told, ToldAt}
 
 module _ (f : Feed) (number answered : ℕ) (buf mem out page : List ℕ) (r : ℕ) (page' : List ℕ) where

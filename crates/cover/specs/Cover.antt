@@ -8,7 +8,7 @@ use Rattle.input.specs.declared.Feed.{Feed}
 use Rattle.input.specs.declared.Found.{Found}
 use Rattle.input.specs.Feed.{between}
 use Rattle.replies.specs.Write.{Whole, errorText, endText}
-use Rattle.requests.specs.Requests.{textOf, memoryOf, outputOf}
+use Rattle.lines.specs.Lines.{textOf, memoryOf, outputOf}
 
 -- a line of some number, after so many answers: its answer; an error for one that is too long, or that could not be read; the number of answers at the end
 unfoldable pub textFor : Found → ℕ → ℕ → List ℕ → List ℕ → List ℕ → List ℕ

@@ -1,6 +1,6 @@
-// Reads a request a line from standard input and writes an answer a line: `ok STEPS ASIDE COUNT ID...`, `refused NUMBER`, or `error LINE-NUMBER WORD` for a
-// line that is no request. The last line of a whole output is `end N`, the number of lines answered. What a line asks and what is answered is the crate
-// `requests`.
+// Reads a line after another from standard input and writes an answer a line: `ok STEPS ASIDE COUNT ID...` to a request, `ok COUNT NUMBER...` to a question
+// about a list, `refused NUMBER` to either, or `error LINE-NUMBER WORD` to a line that is neither. The last line of a whole output is `end N`, the number of lines
+// answered. What a line asks and what is answered is the crate `lines`.
 ghost use mathlib.Core.Path.{_≡_};
 ghost use Prim.Native.Nat.{_+_, _*_, _≤_};
 ghost use lib.ListN.{length};
@@ -11,11 +11,11 @@ use input::Found;
 use libc::STDIN_FILENO;
 use text::Fault;
 
-// The words of working memory that a request may ask for.
-fn memory() -> [u64; 8192]
-    ensures { λ r. ⌜ 8192 ≡ length r ⌝ }
+// The words of working memory: more than a request may ask for, and as many as a list can have on the longest line.
+fn memory() -> [u64; 16384]
+    ensures { λ r. ⌜ 16384 ≡ length r ⌝ }
 {
-    [0; 8192]
+    [0; 16384]
 }
 
 // The places of output that a request may ask for.
@@ -50,7 +50,7 @@ fn answer(
         Found::Line => {
             let start = f.start;
             let end = f.end;
-            requests::answer(&buf[start..end], number, mem, out, page)
+            lines::answer(&buf[start..end], number, mem, out, page)
         }
         Found::TooLong => replies::put_error(page, number, Fault::LineTooLong),
         Found::Failed => replies::put_error(page, number, Fault::ReadFailed),

@@ -14,7 +14,7 @@ use Rattle.text.specs.Text.{bytesOf, fieldNo}
 use Rattle.text.specs.declared.Fault.{Fault}
 use Rattle.text.specs.declared.Field.{Field}
 use Rattle.io.specs.Digits.{digits}
-use Rattle.replies.specs.Write.{Wrote, Whole, spelled, decimalText, hexText, idText, idsText, faultWords, placeOf, faultText, errorText, refusedText, endText, okText}
+use Rattle.replies.specs.Write.{Wrote, Whole, spelled, decimalText, hexText, idText, idsText, faultWords, placeOf, faultText, errorText, refusedText, endText, countedText, okText, listText}
 
 pub wrote-whole : {s d : List ℕ} {r : ℕ} {d' : List ℕ} → length s ≤ length d → Wrote 0 s d r d' → Whole s d r d'
 wrote-whole {s} {d} h w = record { count = omega arith; bytes = w .bytes ∙ rw zero-add at (sets-eq s d 0 (omega arith)) }
@@ -65,6 +65,14 @@ pub end-length : (answered : ℕ) → length (endText answered) ≤ 25
 unfolding endText ascii
 end-length answered = simp length-append (omega (arith, decimal-length answered))
 
+counted-length : (ids : List ℕ) → length (countedText ids) ≤ 17 * length ids + 21
+unfolding countedText
+counted-length ids = simp (length-append, ids-length) (omega (arith, decimal-length (length ids)))
+
 pub ok-length : (steps aside : ℕ) (ids : List ℕ) → length (okText steps aside ids) ≤ 17 * length ids + 66
 unfolding okText ascii
-ok-length steps aside ids = simp (length-append, ids-length) (omega (arith, decimal-length steps, decimal-length aside, decimal-length (length ids)))
+ok-length steps aside ids = simp length-append (omega (arith, decimal-length steps, decimal-length aside, counted-length ids))
+
+pub list-length : (ids : List ℕ) → length (listText ids) ≤ 17 * length ids + 24
+unfolding listText ascii
+list-length ids = simp length-append (omega (arith, counted-length ids))

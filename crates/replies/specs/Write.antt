@@ -91,7 +91,14 @@ refusedText number = ascii "refused " ++ (decimalText number ++ newline)
 unfoldable pub endText : ℕ → List ℕ
 endText answered = ascii "end " ++ (decimalText answered ++ newline)
 
+-- COUNT ID..., to the line's end
+unfoldable pub countedText : List ℕ → List ℕ
+countedText ids = decimalText (length ids) ++ (idsText ids ++ newline)
+
 -- ok STEPS ASIDE COUNT ID...
 unfoldable pub okText : ℕ → ℕ → List ℕ → List ℕ
-okText steps aside ids =
-    ascii "ok " ++ (decimalText steps ++ (space ++ (decimalText aside ++ (space ++ (decimalText (length ids) ++ (idsText ids ++ newline))))))
+okText steps aside ids = ascii "ok " ++ (decimalText steps ++ (space ++ (decimalText aside ++ (space ++ countedText ids))))
+
+-- ok COUNT ID...
+unfoldable pub listText : List ℕ → List ℕ
+listText ids = ascii "ok " ++ countedText ids

@@ -6,7 +6,7 @@ ghost use lib.ListN.{length};
 ghost use lib.Seq.{sets};
 ghost use Rattle.io.specs.Digits.{glyph as Digits·glyph};
 ghost use Rattle.text.specs.Text.{bytesOf, fieldNo};
-ghost use Rattle.replies.specs.Write.{Wrote, decimalText, hexText, idText, idsText, placeOf, faultText, errorText, refusedText, endText, okText};
+ghost use Rattle.replies.specs.Write.{Wrote, decimalText, hexText, idText, idsText, placeOf, faultText, errorText, refusedText, endText, countedText, okText, listText};
 use text::Fault;
 
 // Writes s.
@@ -187,13 +187,29 @@ pub fn put_end(text: &mut [u8], answered: u64) -> usize
     put(text, a, b"\n")
 }
 
+// Writes how many ids there are, the ids, and the line's end.
+fn put_counted(text: &mut [u8], at: usize, ids: &[u64]) -> usize
+    ensures { λ r. ⌜ Wrote at (countedText (now (ids .entry))) (now (text .entry)) r (now (text .exit)) ⌝ }
+{
+    let a = put_decimal(text, at, ids.len() as u64);
+    let b = put_ids(text, a, ids);
+    put(text, b, b"\n")
+}
+
 // The answer to a request that is met: `ok STEPS ASIDE COUNT ID...`.
 pub fn put_ok(text: &mut [u8], steps: u64, aside: u64, ids: &[u64]) -> usize
     ensures { λ r. ⌜ Wrote 0 (okText steps aside (now (ids .entry))) (now (text .entry)) r (now (text .exit)) ⌝ }
 {
     let a = put_number(text, 0, b"ok ", steps);
     let b = put_number(text, a, b" ", aside);
-    let c = put_number(text, b, b" ", ids.len() as u64);
-    let d = put_ids(text, c, ids);
-    put(text, d, b"\n")
+    let c = put(text, b, b" ");
+    put_counted(text, c, ids)
+}
+
+// The answer to a question about a list: `ok COUNT ID...`.
+pub fn put_list(text: &mut [u8], ids: &[u64]) -> usize
+    ensures { λ r. ⌜ Wrote 0 (listText (now (ids .entry))) (now (text .entry)) r (now (text .exit)) ⌝ }
+{
+    let a = put(text, 0, b"ok ");
+    put_counted(text, a, ids)
 }

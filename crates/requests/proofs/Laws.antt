@@ -29,17 +29,17 @@ use Rattle.requests.specs.Requests.{allowanceOf, resultFor, resultIn, re
 
 -- ---- a part no longer than the whole
 
-take-min : (n : ℕ) (l : List ℕ) → take (min n (length l)) l ≡ take n l
+pub take-min : (n : ℕ) (l : List ℕ) → take (min n (length l)) l ≡ take n l
 take-min zero l = rw zero-min
 take-min (suc n) [] = rw min-zero
 take-min (suc n) (x ∷ l) = rw suc-min-suc (ap (λ (t : List ℕ). x ∷ t) (take-min n l))
 
-drop-min : (n : ℕ) (l : List ℕ) → drop (min n (length l)) l ≡ drop n l
+pub drop-min : (n : ℕ) (l : List ℕ) → drop (min n (length l)) l ≡ drop n l
 drop-min zero l = rw zero-min
 drop-min (suc n) [] = rw min-zero
 drop-min (suc n) (x ∷ l) = rw suc-min-suc (drop-min n l)
 
-length-min : (n : ℕ) (l : List ℕ) → length (take (min n (length l)) l) ≡ min n (length l)
+pub length-min : (n : ℕ) (l : List ℕ) → length (take (min n (length l)) l) ≡ min n (length l)
 length-min n l = ap length (take-min n l) ∙ length-take n l
 
 -- ---- what a request comes to, within its parts

@@ -9,12 +9,15 @@ ghost use Rattle.replies.specs.Write.{Wrote};
 ghost use Rattle.requests.specs.Requests.{allowanceOf, resultFor, AnsweredIn, answerText, Replied};
 use covering::Answer;
 pub use line::CovererRead;
+pub use line::Options;
 pub use line::RegionRead;
 use line::Request;
 pub use line::cap_of;
 pub use line::read_coverer;
+pub use line::read_options;
 pub use line::read_region;
 use line::read_request;
+pub use line::value_or;
 use text::Place;
 
 // The allowance as a u32; a number that none holds allows as much as any.
@@ -41,7 +44,7 @@ fn answer_run(q: Request, mem: &mut [u64], out: &mut [u64]) -> Answer
     covering::respond(ending, q.inner, coverer, region, allowance, mem, out)
 }
 
-fn lesser(a: usize, b: usize) -> usize
+pub fn lesser(a: usize, b: usize) -> usize
     ensures { λ r. ⌜ r ≡ min a b ⌝ }
 {
     if a < b { a } else { b }

@@ -230,7 +230,7 @@ fn next_option(line: &[u8], o: Options) -> Options
 }
 
 // The options: three at most, each once. A fourth field is a fault, and which it is is told by its own turn.
-fn read_options(line: &[u8], p: Place) -> Options
+pub fn read_options(line: &[u8], p: Place) -> Options
     ensures { λ r. ⌜ r ≡ optionsAfter (now (line .entry)) p ⌝ }
 {
     let none = Options {
@@ -244,7 +244,7 @@ fn read_options(line: &[u8], p: Place) -> Options
 }
 
 // An option's value, or its default where it was not given.
-fn value_or(default: u64, v: u64) -> u64
+pub fn value_or(default: u64, v: u64) -> u64
     ensures { λ r. ⌜ r ≡ valueOr default v ⌝ }
 {
     if v == u64::MAX {

@@ -262,7 +262,7 @@ fn is_same(a: &[u8], b: &[u8]) -> bool
 }
 
 // Whether the field of the words from `at` on is the word.
-fn is_word(word: &[u8], words: &[u8], at: usize) -> bool
+pub fn is_word(word: &[u8], words: &[u8], at: usize) -> bool
     ensures { λ r. ⌜ r ≡ same (now (word .entry)) (bytesOf (now (words .entry)) (fieldAt (now (words .entry)) at)) ⌝ }
 {
     let f = read_field(words, at);

@@ -8,7 +8,7 @@ use Rattle.replies.proofs.put_ok.Tie as tie
 
 returns : tie.Need-returns
 unfolding okText ascii
-returns c = wrote-then (c .before .before .before .before .before .before .before .before .before .before .before .before .before .before .before .before .before .before .before .before .before .put-number .ensures) (wrote-then (c .before .before .before .before .before .before .before .before .before .before .before .before .before .before .before .before .put-number2 .ensures) (wrote-then (c .before .before .before .before .before .before .before .before .before .before .before .put-number3 .ensures) (wrote-then (c .before .before .before .before .before .before .before .put-ids .ensures) (c .before .before .put .ensures))))
+returns c = wrote-then (c .before .before .before .before .before .before .before .before .before .before .before .before .before .before .before .before .put-number .ensures) (wrote-then (c .before .before .before .before .before .before .before .before .before .before .before .put-number2 .ensures) (wrote-then (c .before .before .before .before .before .before .put .ensures) (c .before .before .put-counted .ensures)))
 
 pub put-ok-spec : {M : Type 1} → statement M
 put-ok-spec =
@@ -20,8 +20,6 @@ put-ok-spec =
     (λ c κs. search needs)
     (λ c. search needs)
     (λ c κs. search needs)
-    (λ c κs. search needs)
-    (λ c. search needs)
     (λ c κs. search needs)
     (λ c. search needs)
     returns)
