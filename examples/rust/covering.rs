@@ -1,5 +1,5 @@
-// Coverings from Rust: a safe function over the archive's, a covering of a cap, and a refusal. Exits with 1 where the answer is not what
-// paper 01 says.
+// Coverings from Rust: safe functions over the archive's, a covering of a cap, its leaf ranges, and two refusals. Exits with 1 where an answer
+// is not what papers 01 and 02 say.
 
 extern "C" {
     fn flaxbadger_covering_cap(
@@ -8,6 +8,7 @@ extern "C" {
         mem: *mut u64, mem_len: usize, out: *mut u64, out_len: usize,
         count: &mut u64, steps: &mut u64, aside: &mut u64,
     ) -> u64;
+    fn flaxbadger_ranges(ids: *const u64, ids_len: usize, out: *mut u64, out_len: usize, count: &mut u64) -> u64;
 }
 
 /// Levels and the number of cells that are aimed at.
@@ -42,6 +43,14 @@ fn covering(c: Coverer, center: [f64; 3], radius: f64, allowance: u32, mem: &mut
     if number == 0 { Ok(Done { count: count as usize, steps, aside }) } else { Err(number) }
 }
 
+/// The list as pairs of first and last leaf, word after word, or the number of the refusal (25 or 26).
+fn ranges(ids: &[u64]) -> Result<Vec<u64>, u64> {
+    let (mut out, mut count) = (vec![0u64; 2 * ids.len()], 0);
+    let number = unsafe { flaxbadger_ranges(ids.as_ptr(), ids.len(), out.as_mut_ptr(), out.len(), &mut count) };
+    out.truncate(count as usize);
+    if number == 0 { Ok(out) } else { Err(number) }
+}
+
 fn main() {
     let mut mem = vec![0u64; 4096];
     let mut out = vec![0u64; 64];
@@ -63,6 +72,18 @@ fn main() {
     }
     println!("a cap at the pole: {pole:?}");
     ok &= pole.is_ok();
+
+    let list = &mut out[..pole.map_or(0, |done| done.count)];
+    let pairs = ranges(list);
+    if let Ok(words) = &pairs {
+        for pair in words.chunks(2) {
+            println!("  {:016x} to {:016x}", pair[0], pair[1]);
+        }
+        println!("as leaf ranges: {} pairs", words.len() / 2);
+    }
+    ok &= pairs.is_ok_and(|words| !words.is_empty() && words.windows(2).all(|w| w[0] <= w[1]));
+    list.reverse();
+    ok &= ranges(list) == Err(25);
 
     println!("{}", if ok { "as expected" } else { "NOT as expected" });
     std::process::exit(if ok { 0 } else { 1 });
