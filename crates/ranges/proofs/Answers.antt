@@ -4,18 +4,17 @@ use mathlib.Core.Logic.{⊎-elim, _↔_}
 use mathlib.Core.Bool.{Bool, true, false}
 use mathlib.Core.List.{List, _++_}
 use Prim.Native.Nat.{ℕ, _≤_, _<_}
+use native.Mathlib.Nat.{zero-add}
 use native.Mathlib.Omega.{arith}
 use lib.ListN.{length, take, drop}
-use lib.Seq.{take-at}
+use lib.Seq.{take-at, sets, sets-eq}
 use lib.Dec.{leb}
 use borrow.Author.Tests.{leb-true, leb-false, le-leb, lt-leb}
 use Rattle.order.proofs.OrderLaws.{which}
 use Rattle.cellunion.specs.CellUnion.{normalise}
-use Rattle.cellunion.proofs.Memory.{laid-start}
 use Rattle.ranges.specs.declared.Answer.{Answer}
 use Rattle.ranges.specs.Ranges.{isList, isPairs, pairsOf, cellsOf, Result, refused, done, resultOf, pairsResult, cellsResult, answerOf, outputAfter, Answered}
-use Rattle.ranges.specs.Steps.{looked, puts}
-use Rattle.ranges.proofs.Puts.{puts-laid}
+use Rattle.ranges.specs.Steps.{looked}
 use Rattle.ranges.proofs.Laws.{there-and-back}
 
 never : {A : Type 0} (k r : ℕ) → Answer.Refused r ≡ Answer.Done k → A
@@ -69,11 +68,11 @@ answer-full good l out n e h =
     let q = looked-done good l n e in
     subst (λ (R : Result). Answered R (Answer.Refused 26) out out) (sym (result-full good l (length out) (q .0) (omega arith))) (answered-refused 26 out)
 
-pub answer-done : (good : Bool) (l out : List ℕ) (n r : ℕ) (out' : List ℕ) → Answer.Done n ≡ looked good l → n ≤ length out → (r ≡ length l) × (out' ≡ puts 0 l out) → Answered (resultOf good l (length out)) (Answer.Done r) out out'
+pub answer-done : (good : Bool) (l out : List ℕ) (n r : ℕ) (out' : List ℕ) → Answer.Done n ≡ looked good l → n ≤ length out → (r ≡ length l) × (out' ≡ sets out 0 l) → Answered (resultOf good l (length out)) (Answer.Done r) out out'
 answer-done good l out n r out' e h w =
     let q = looked-done good l n e in
     let s : length l ≤ length out = omega (arith, q .1) in
-    let o : out' ≡ l ++ drop (length l) out = w .1 ∙ puts-laid l out 0 (omega arith) ∙ laid-start l out in
+    let o : out' ≡ l ++ drop (length l) out = w .1 ∙ (rw zero-add at (sets-eq l out 0 (omega arith))) in
     subst (λ (R : Result). Answered R (Answer.Done r) out out') (sym (result-done good l (length out) (q .0) s))
     (record { answer = ap Answer.Done (w .0) ∙ answered-done l out .answer; output = o ∙ answered-done l out .output })
 

@@ -355,7 +355,7 @@ pair-ruled b s n l h g r P = ⊎-elim
     (λ (t : ltb s n ≡ false). let u : n ≤ s = ltb-false _ _ t in rw (pair-end s n u) (P b (omega arith)))
     (which (ltb s n))
 
-none-ruled : (b : ℕ) → pairsFrom b [] ≡ true
+pub none-ruled : (b : ℕ) → pairsFrom b [] ≡ true
 unfolding pairsFrom
 none-ruled b = refl
 

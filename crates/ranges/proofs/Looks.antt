@@ -18,7 +18,7 @@ use Rattle.ranges.specs.declared.Answer.{Answer}
 use Rattle.ranges.specs.Ranges.{leaves, joins, listed, listFrom, isList, pairBefore, pairsOf, follows, pairsFrom, isPairs, tile, cellsOf}
 use Rattle.ranges.specs.Stretches.{pair}
 use Rattle.ranges.specs.Steps.{looked, added, wordsAfter}
-use Rattle.ranges.proofs.Inputs.{listed→, is-list→, before-joined, before-apart, pairs-nil, pairs-more, follows→, each-cons, each-nil}
+use Rattle.ranges.proofs.Inputs.{listed→, is-list→, before-joined, before-apart, pairs-nil, pairs-more, follows→, each-cons, each-nil, none-ruled}
 use Rattle.ranges.proofs.Tiles.{tiled}
 use Rattle.ranges.proofs.Puts.{next-of, none-left, next-two}
 
@@ -169,10 +169,6 @@ rule-cons : (b first last : ℕ) (ps : List ℕ) → pairsFrom b (first ∷ last
 unfolding pairsFrom
 rule-cons b first last ps = refl
 
-rule-nil : (b : ℕ) → pairsFrom b [] ≡ true
-unfolding pairsFrom
-rule-nil b = refl
-
 rule-one : (b x : ℕ) → pairsFrom b (x ∷ []) ≡ false
 unfolding pairsFrom
 rule-one b x = refl
@@ -213,7 +209,7 @@ pair-on ps from cells i more b G h e t q =
 pub pairs-whole : (ps : List ℕ) (from cells i : ℕ) → Pairing ps from cells i → i ≡ length ps → Answer.Done cells ≡ looked (isPairs ps) (cellsOf ps)
 pairs-whole ps from cells i G h =
     let n = none-left ps i (omega arith) in
-    look-good (isPairs ps) (cellsOf ps) cells (sym (G .same) ∙ ap (pairsFrom from) n ∙ rule-nil from) (omega (arith, G .count, ap (λ (l : List ℕ). length (cellsOf l)) n, ap length (each-nil tile)))
+    look-good (isPairs ps) (cellsOf ps) cells (sym (G .same) ∙ ap (pairsFrom from) n ∙ none-ruled from) (omega (arith, G .count, ap (λ (l : List ℕ). length (cellsOf l)) n, ap length (each-nil tile)))
 
 pub pairs-odd : (ps : List ℕ) (from cells i : ℕ) → Pairing ps from cells i → length ps ≤ i + 1 → (i ≡ length ps → ⊥) → Answer.Refused 25 ≡ looked (isPairs ps) (cellsOf ps)
 pairs-odd ps from cells i G h e =

@@ -6,6 +6,7 @@ use mathlib.Core.List.{List, [], _∷_, _++_}
 use Prim.Native.Nat.{ℕ, zero, suc, _+_, _-_, _*_, _/_, _%_, _^_, _≤_, _<_}
 use native.Mathlib.Nat.{zero-mod, mul-assoc, mul-left-comm, mul-mod-left, div-add-mod'}
 use native.Mathlib.Omega.{arith}
+use lib.Seq.{sets, length-sets}
 use lib.ListN.{length, getD, drop, set, length-set}
 use lib.Pow.{pow-mono, pow-add, shl-shr}
 use lib.Count.{trailingZeros}
@@ -14,10 +15,10 @@ use borrow.Author.Tests.{ltb-true, ltb-false, le-leb, lt-leb, eq-eqb, ne-eqb}
 use Rattle.cellid.proofs.Laws.{one-shl, odd-part, zeros-of}
 use Rattle.order.proofs.OrderLaws.{which}
 use Rattle.ranges.specs.Ranges.{leaves, pairsFrom, isPairs, fits, sizeFrom, size, tile, eachPair, cellsOf}
-use Rattle.ranges.specs.Steps.{aligned, puts}
+use Rattle.ranges.specs.Steps.{aligned}
 use Rattle.ranges.proofs.Inputs.{Follows, pairs-cons, each-cons}
 use Rattle.ranges.proofs.Tiles.{sized, size-go, size-on, tile-go, tiled}
-use Rattle.ranges.proofs.Puts.{next-of, none-left, next-two, puts-nil, puts-cons, length-puts, Put, put-part, put-done}
+use Rattle.ranges.proofs.Puts.{next-of, none-left, next-two, Put, put-part, put-done}
 
 -- ---- the largest cell
 
@@ -143,7 +144,7 @@ tile-turn s e out₀ at out from place z out' G h q w =
       world = G .world;
       low = omega (arith, Z .some, G .low);
       len = ap length w ∙ length-set out place (2 * from + z) ∙ G .len;
-      put = put-part place at ((2 * from + z) ∷ []) (tile (from + z) e) (tile from e) (tile s e) out out₀ (place + 1) out' (G .put) g refl (w ∙ sym (puts-cons place (2 * from + z) [] out ∙ puts-nil (place + 1) (set out place (2 * from + z))));
+      put = put-part place at ((2 * from + z) ∷ []) (tile (from + z) e) (tile from e) (tile s e) out out₀ (place + 1) out' (G .put) g refl w;
     }
 
 pub tile-fits : (s e z : ℕ) → s < e → e ≤ leaves → z ≡ size s e → (s + z ≤ e)
@@ -168,7 +169,7 @@ fill-next ps out₀ out at i G h = pairs-cons (2 * G .p + 1) (getD ps i 0) (getD
 pub fill-asks : (ps out₀ out : List ℕ) (at i : ℕ) → Filling ps out₀ out at i → i + 1 < length ps → (getD ps (i + 1) 0 < 2 * leaves) × (getD ps i 0 / 2 ≤ (getD ps (i + 1) 0 + 1) / 2) × ((getD ps (i + 1) 0 + 1) / 2 ≤ leaves) × (at + ((getD ps (i + 1) 0 + 1) / 2 - getD ps i 0 / 2) < 2 ^ 64)
 fill-asks ps out₀ out at i G h = let F = fill-next ps out₀ out at i G h .0 in (F .to, omega (arith, F .some), omega (arith, F .to), omega (arith, F .from, F .to, F .some, G .low))
 
-pub fill-turn : (ps out₀ out : List ℕ) (at i at' : ℕ) (out' : List ℕ) → Filling ps out₀ out at i → i + 1 < length ps → (at' ≡ at + length (tile (getD ps i 0 / 2) ((getD ps (i + 1) 0 + 1) / 2))) × (out' ≡ puts at (tile (getD ps i 0 / 2) ((getD ps (i + 1) 0 + 1) / 2)) out) → Filling ps out₀ out' at' (i + 2)
+pub fill-turn : (ps out₀ out : List ℕ) (at i at' : ℕ) (out' : List ℕ) → Filling ps out₀ out at i → i + 1 < length ps → (at' ≡ at + length (tile (getD ps i 0 / 2) ((getD ps (i + 1) 0 + 1) / 2))) × (out' ≡ sets out at (tile (getD ps i 0 / 2) ((getD ps (i + 1) 0 + 1) / 2))) → Filling ps out₀ out' at' (i + 2)
 fill-turn ps out₀ out at i at' out' G h w =
     let r = fill-next ps out₀ out at i G h in
     let F = r .0 in
@@ -179,14 +180,14 @@ fill-turn ps out₀ out at i at' out' G h w =
     let q : last + 4 ≡ 2 * (e + 1) + 1 = omega (arith, F .odd') in
     record {
       within = omega arith;
-      len = ap length (w .1) ∙ length-puts (tile s e) out at ∙ G .len;
+      len = ap length (w .1) ∙ length-sets out at (tile s e) ∙ G .len;
       p = e + 1;
       low = omega (arith, T .short, w .0, F .from, G .low);
       rest = subst (λ (b : ℕ). pairsFrom b (drop (i + 2) ps) ≡ true) q (r .1);
       put = put-part at 0 (tile s e) (cellsOf (drop (i + 2) ps)) (cellsOf (drop i ps)) (cellsOf ps) out out₀ at' out' (G .put) (ap cellsOf (next-two ps i h) ∙ each-cons tile (getD ps i 0) last (drop (i + 2) ps)) (w .0) (w .1);
     }
 
-pub fill-done : (ps out₀ out : List ℕ) (at i : ℕ) → Filling ps out₀ out at i → length ps ≤ i + 1 → (at ≡ length (cellsOf ps)) × (out ≡ puts 0 (cellsOf ps) out₀)
+pub fill-done : (ps out₀ out : List ℕ) (at i : ℕ) → Filling ps out₀ out at i → length ps ≤ i + 1 → (at ≡ length (cellsOf ps)) × (out ≡ sets out₀ 0 (cellsOf ps))
 unfolding eachPair
 fill-done ps out₀ out at i G h =
     let z : cellsOf (drop i ps) ≡ [] = ⊎-elim

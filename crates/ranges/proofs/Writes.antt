@@ -5,6 +5,8 @@ use mathlib.Core.Bool.{Bool, true, false}
 use mathlib.Core.List.{List, [], _∷_, _++_}
 use Prim.Native.Nat.{ℕ, _+_, _-_, _*_, _≤_, _<_}
 use native.Mathlib.Omega.{arith}
+use native.Mathlib.Numerals.{add-one}
+use lib.Seq.{sets, length-sets}
 use lib.ListN.{length, getD, drop, set}
 use Rattle.order.proofs.OrderLaws.{which}
 use Rattle.cellunion.proofs.Spans.{span}
@@ -14,9 +16,9 @@ use borrow.Author.Tests.{eqb-true, eqb-false, eq-eqb, ne-eqb}
 use Rattle.cellid.specs.CellId.{Cell, firstLeaf, lastLeaf}
 use Rattle.cellid.proofs.Laws.{and-true, cell-pos}
 use Rattle.ranges.specs.Ranges.{leaves, joins, listed, listFrom, isList, pairBefore, pairsOf}
-use Rattle.ranges.specs.Steps.{held, closed, opened, pairsLeft, puts}
+use Rattle.ranges.specs.Steps.{held, closed, opened, pairsLeft}
 use Rattle.ranges.proofs.Inputs.{listed→, before-joined, before-apart, before-nil, pairs-nil, pairs-more}
-use Rattle.ranges.proofs.Puts.{next-of, none-left, puts-nil, length-puts, Put, put-part, put-last}
+use Rattle.ranges.proofs.Puts.{next-of, none-left, Put, put-part, put-last}
 
 -- ---- the pair of the cells so far
 
@@ -74,22 +76,21 @@ left-nil first last = ⊎-elim
 
 -- ---- what the small functions write
 
-pub hold-none : (first last at : ℕ) (d : List ℕ) → last ≡ 0 → (at ≡ at + length (held first last)) × (d ≡ puts at (held first last) d)
-hold-none first last at d h = let g = held-none first last h in (omega (arith, ap length g), sym (ap (λ (l : List ℕ). puts at l d) g ∙ puts-nil at d))
+pub hold-none : (first last at : ℕ) (d : List ℕ) → last ≡ 0 → (at ≡ at + length (held first last)) × (d ≡ sets d at (held first last))
+hold-none first last at d h = let g = held-none first last h in (omega (arith, ap length g), sym (ap (sets d at) g))
 
-pub hold-two : (first last at : ℕ) (d d' d'' : List ℕ) → (last ≡ 0 → ⊥) → d' ≡ set d at first → d'' ≡ set d' (at + 1) last → (at + 2 ≡ at + length (held first last)) × (d'' ≡ puts at (held first last) d)
-unfolding puts
+pub hold-two : (first last at : ℕ) (d d' d'' : List ℕ) → (last ≡ 0 → ⊥) → d' ≡ set d at first → d'' ≡ set d' (at + 1) last → (at + 2 ≡ at + length (held first last)) × (d'' ≡ sets d at (held first last))
 hold-two first last at d d' d'' h p q =
     let g = held-pair first last h in
-    (ap (λ (n : ℕ). at + n) (sym (ap length g)), q ∙ ap (λ (x : List ℕ). set x (at + 1) last) p ∙ sym (ap (λ (l : List ℕ). puts at l d) g))
+    (ap (λ (n : ℕ). at + n) (sym (ap length g)), q ∙ ap₂ (λ (x : List ℕ) (k : ℕ). set x k last) p (add-one at) ∙ sym (ap (sets d at) g))
 
-pub close-yes : (first last next at : ℕ) (d : List ℕ) (b : Bool) → b ≡ joins last next → b ≡ true → (at ≡ at + length (closed first last next)) × (d ≡ puts at (closed first last next) d)
-close-yes first last next at d b e t = let w = closed-yes first last next b e t .0 in (omega (arith, ap length w), sym (ap (λ (l : List ℕ). puts at l d) w ∙ puts-nil at d))
+pub close-yes : (first last next at : ℕ) (d : List ℕ) (b : Bool) → b ≡ joins last next → b ≡ true → (at ≡ at + length (closed first last next)) × (d ≡ sets d at (closed first last next))
+close-yes first last next at d b e t = let w = closed-yes first last next b e t .0 in (omega (arith, ap length w), sym (ap (sets d at) w))
 
-pub close-no : (first last next at r : ℕ) (d d' : List ℕ) (b : Bool) → b ≡ joins last next → b ≡ false → (r ≡ at + length (held first last)) × (d' ≡ puts at (held first last) d) → (r ≡ at + length (closed first last next)) × (d' ≡ puts at (closed first last next) d)
+pub close-no : (first last next at r : ℕ) (d d' : List ℕ) (b : Bool) → b ≡ joins last next → b ≡ false → (r ≡ at + length (held first last)) × (d' ≡ sets d at (held first last)) → (r ≡ at + length (closed first last next)) × (d' ≡ sets d at (closed first last next))
 close-no first last next at r d d' b e t w =
     let z = closed-no first last next b e t .0 in
-    (w .0 ∙ ap (λ (l : List ℕ). at + length l) (sym z), w .1 ∙ ap (λ (l : List ℕ). puts at l d) (sym z))
+    (w .0 ∙ ap (λ (l : List ℕ). at + length l) (sym z), w .1 ∙ ap (sets d at) (sym z))
 
 -- ---- the loop
 
@@ -108,18 +109,18 @@ join-start ids out t = record {
   low = omega arith;
   len = refl;
   rest = t;
-  put = record { count = ap (λ (l : List ℕ). 0 + length l) (left-none 0 0 ids refl); same = ap (λ (l : List ℕ). puts 0 l out) (left-none 0 0 ids refl) };
+  put = record { count = ap (λ (l : List ℕ). 0 + length l) (left-none 0 0 ids refl); same = ap (sets out 0) (left-none 0 0 ids refl) };
 }
 
-list-cons : (b id : ℕ) (l : List ℕ) → listFrom b (id ∷ l) ≡ true → Cell id × (b < firstLeaf id) × (listFrom (lastLeaf id) l ≡ true)
+next-listed : (b id : ℕ) (l : List ℕ) → listFrom b (id ∷ l) ≡ true → Cell id × (b < firstLeaf id) × (listFrom (lastLeaf id) l ≡ true)
 unfolding listFrom
-list-cons b id l t =
+next-listed b id l t =
     let r = and-true (listed b id) (listFrom (lastLeaf id) l) t in
     let q = listed→ b id (r .0) in
     (q .0, q .1, r .1)
 
 join-next : (ids out₀ out : List ℕ) (first last at i : ℕ) → Joining ids out₀ out first last at i → i < length ids → Cell (getD ids i 0) × (last < firstLeaf (getD ids i 0)) × (listFrom (lastLeaf (getD ids i 0)) (drop (i + 1) ids) ≡ true)
-join-next ids out₀ out first last at i G h = list-cons last (getD ids i 0) (drop (i + 1) ids) (subst (λ (l : List ℕ). listFrom last l ≡ true) (next-of ids i h) (G .rest))
+join-next ids out₀ out first last at i G h = next-listed last (getD ids i 0) (drop (i + 1) ids) (subst (λ (l : List ℕ). listFrom last l ≡ true) (next-of ids i h) (G .rest))
 
 pub join-pos : (ids out₀ out : List ℕ) (first last at i : ℕ) → Joining ids out₀ out first last at i → i < length ids → 0 < getD ids i 0
 join-pos ids out₀ out first last at i G h = let C = join-next ids out₀ out first last at i G h .0 in cell-pos (getD ids i 0) (C .0) (C .1) (C .2)
@@ -137,7 +138,7 @@ closed-few first last next = ⊎-elim
     (which (joins last next))
 
 pub join-turn : (ids out₀ out : List ℕ) (first last at i next at' : ℕ) (out' : List ℕ) (first' last' : ℕ) → Joining ids out₀ out first last at i → i < length ids
-    → next ≡ firstLeaf (getD ids i 0) → at' ≡ at + length (closed first last next) → out' ≡ puts at (closed first last next) out → first' ≡ opened first last next → last' ≡ lastLeaf (getD ids i 0)
+    → next ≡ firstLeaf (getD ids i 0) → at' ≡ at + length (closed first last next) → out' ≡ sets out at (closed first last next) → first' ≡ opened first last next → last' ≡ lastLeaf (getD ids i 0)
     → Joining ids out₀ out' first' last' at' (i + 1)
 join-turn ids out₀ out first last at i next at' out' first' last' G h en ea eo ef el =
     let x = getD ids i 0 in
@@ -151,16 +152,16 @@ join-turn ids out₀ out first last at i next at' out' first' last' G h en ea eo
       within = omega arith;
       world = omega (arith, X .last, hi-le (N .0));
       low = omega (arith, G .low, closed-few first last next);
-      len = ap length eo ∙ length-puts (closed first last next) out at ∙ G .len;
+      len = ap length eo ∙ length-sets out at (closed first last next) ∙ G .len;
       rest = subst (λ (b : ℕ). listFrom b r ≡ true) (sym el) (N .2);
       put = put-part at 0 (closed first last next) (pairsLeft first' last' r) (pairsLeft first last (drop i ids)) (pairsOf ids) out out₀ at' out' (G .put) j ea eo;
     }
 
-pub join-done : (ids out₀ out : List ℕ) (first last at i r : ℕ) (out' : List ℕ) → Joining ids out₀ out first last at i → length ids ≤ i → (r ≡ at + length (held first last)) × (out' ≡ puts at (held first last) out) → (r ≡ length (pairsOf ids)) × (out' ≡ puts 0 (pairsOf ids) out₀)
+pub join-done : (ids out₀ out : List ℕ) (first last at i r : ℕ) (out' : List ℕ) → Joining ids out₀ out first last at i → length ids ≤ i → (r ≡ at + length (held first last)) × (out' ≡ sets out at (held first last)) → (r ≡ length (pairsOf ids)) × (out' ≡ sets out₀ 0 (pairsOf ids))
 join-done ids out₀ out first last at i r out' G h w =
     let z : pairsLeft first last (drop i ids) ≡ held first last = ap (pairsLeft first last) (none-left ids i h) ∙ left-nil first last in
-    let q = put-last at 0 (pairsLeft first last (drop i ids)) (pairsOf ids) out out₀ r out' (G .put) (w .0 ∙ ap (λ (l : List ℕ). at + length l) (sym z)) (w .1 ∙ ap (λ (l : List ℕ). puts at l out) (sym z)) in
+    let q = put-last at 0 (pairsLeft first last (drop i ids)) (pairsOf ids) out out₀ r out' (G .put) (w .0 ∙ ap (λ (l : List ℕ). at + length l) (sym z)) (w .1 ∙ ap (sets out at) (sym z)) in
     (omega (arith, q .0), q .1)
 
-pub join-length : (first last at : ℕ) (d d₀ d' : List ℕ) → length d ≡ length d₀ → d' ≡ puts at (held first last) d → length d' ≡ length d₀
-join-length first last at d d₀ d' l q = ap length q ∙ length-puts (held first last) d at ∙ l
+pub join-length : (first last at : ℕ) (d d₀ d' : List ℕ) → length d ≡ length d₀ → d' ≡ sets d at (held first last) → length d' ≡ length d₀
+join-length first last at d d₀ d' l q = ap length q ∙ length-sets d at (held first last) ∙ l

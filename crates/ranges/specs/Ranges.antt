@@ -62,7 +62,7 @@ inPairs [] n = false
 inPairs (first ∷ []) n = false
 inPairs (first ∷ last ∷ ps) n = (leb first (2 * n + 1) && leb (2 * n + 1) last) || inPairs ps n
 
--- ---- their cells: "the normalised list" (proofs/Inputs: it is normal, has the pairs' leaves, and no other list does). A stretch [s, e) is the leaf
+-- ---- their cells: "the normalised list" (proofs/Laws: it is normal, has the pairs' leaves, and no other list does). A stretch [s, e) is the leaf
 -- numbers from s to before e
 
 -- z leaves from s on can be a cell, and lie in the stretch

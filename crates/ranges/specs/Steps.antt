@@ -1,11 +1,10 @@
--- The loops' own numbers and lists: what one look tells, a list's pairs one after another, the largest cell that can begin at a leaf, and words put into an
--- output as far as it has places.
+-- The loops' own numbers and lists: what one look tells, a list's pairs one after another, and the largest cell that can begin at a leaf.
 use mathlib.Core.Bool.{Bool, true, false}
 use mathlib.Core.List.{List, [], _∷_}
 use Prim.Native.Nat.{ℕ, _+_, _/_, min}
 use lib.Count.{trailingZeros}
 use lib.Dec.{eqb}
-use lib.ListN.{length, set}
+use lib.ListN.{length}
 use Rattle.cellid.specs.CellId.{firstLeaf, lastLeaf}
 use Rattle.ranges.specs.declared.Answer.{Answer}
 use Rattle.ranges.specs.Ranges.{joins, pairBefore, pairsOf}
@@ -45,10 +44,3 @@ pairsLeft first last l = elim (eqb last 0) [ true ↦ pairsOf l | false ↦ pair
 -- a cell of 4 ^ k leaves can begin at s for k up to this
 unfoldable pub aligned : ℕ → ℕ
 aligned s = min 30 (trailingZeros 64 s / 2)
-
--- ---- words
-
--- the words of l from the place `at` on, as far as there are places
-unfoldable pub puts : ℕ → List ℕ → List ℕ → List ℕ
-puts at [] d = d
-puts at (x ∷ l) d = puts (at + 1) l (set d at x)

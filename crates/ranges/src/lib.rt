@@ -4,8 +4,9 @@ ghost use mathlib.Core.Path.{_≡_};
 ghost use mathlib.Core.Bool.{true};
 ghost use Prim.Native.Nat.{_+_, _-_, _*_, _^_, _≤_, _<_};
 ghost use lib.ListN.{length, set};
+ghost use lib.Seq.{sets};
 ghost use Rattle.ranges.specs.Ranges.{leaves, joins, isList, isPairs, listed, follows, size, tile, pairsOf, cellsOf, pairsResult, cellsResult, Answered};
-ghost use Rattle.ranges.specs.Steps.{looked, added, held, closed, opened, aligned, puts};
+ghost use Rattle.ranges.specs.Steps.{looked, added, held, closed, opened, aligned};
 
 // Done: how many words stand in the output's first places. Refused: paper 02's number; the output is as it was.
 pub enum Answer {
@@ -111,7 +112,7 @@ fn size(s: u64, e: u64) -> u64
 // Writes the stretch's cells from place `at` on, as far as there are places; gives the place after them.
 fn tile(s: u64, e: u64, out: &mut [u64], at: usize) -> usize
     requires { ⌜ (s ≤ e) × (e ≤ leaves) × (at + (e - s) < 2 ^ 64) ⌝ }
-    ensures { λ r. ⌜ (r ≡ at + length (tile s e)) × (now (out .exit) ≡ puts at (tile s e) (now (out .entry))) ⌝ }
+    ensures { λ r. ⌜ (r ≡ at + length (tile s e)) × (now (out .exit) ≡ sets (now (out .entry)) at (tile s e)) ⌝ }
 {
     let mut from = s;
     let mut place = at;
@@ -159,7 +160,7 @@ fn look_pairs(ps: &[u64]) -> Answer
 // Writes the pair of the cells so far from place `at` on, as far as there are places; gives the place after it. Where no cell came yet, `last` is 0.
 fn hold(first: u64, last: u64, out: &mut [u64], at: usize) -> usize
     requires { ⌜ at + 2 < 2 ^ 64 ⌝ }
-    ensures { λ r. ⌜ (r ≡ at + length (held first last)) × (now (out .exit) ≡ puts at (held first last) (now (out .entry))) ⌝ }
+    ensures { λ r. ⌜ (r ≡ at + length (held first last)) × (now (out .exit) ≡ sets (now (out .entry)) at (held first last)) ⌝ }
 {
     if last == 0 {
         return at;
@@ -172,7 +173,7 @@ fn hold(first: u64, last: u64, out: &mut [u64], at: usize) -> usize
 // Writes that pair, unless the next cell, whose first leaf is `next`, goes on with it.
 fn close(first: u64, last: u64, next: u64, out: &mut [u64], at: usize) -> usize
     requires { ⌜ (last < 2 * leaves) × (at + 2 < 2 ^ 64) ⌝ }
-    ensures { λ r. ⌜ (r ≡ at + length (closed first last next)) × (now (out .exit) ≡ puts at (closed first last next) (now (out .entry))) ⌝ }
+    ensures { λ r. ⌜ (r ≡ at + length (closed first last next)) × (now (out .exit) ≡ sets (now (out .entry)) at (closed first last next)) ⌝ }
 {
     if joins(last, next) {
         return at;
@@ -191,7 +192,7 @@ fn open(first: u64, last: u64, next: u64) -> u64
 // Writes the list's pairs, as far as there are places; gives how many words they are.
 fn join(ids: &[u64], out: &mut [u64]) -> usize
     requires { ⌜ isList (now ids) ≡ true ⌝ }
-    ensures { λ r. ⌜ (r ≡ length (pairsOf (now (ids .entry)))) × (now (out .exit) ≡ puts 0 (pairsOf (now (ids .entry))) (now (out .entry))) ⌝ }
+    ensures { λ r. ⌜ (r ≡ length (pairsOf (now (ids .entry)))) × (now (out .exit) ≡ sets (now (out .entry)) 0 (pairsOf (now (ids .entry)))) ⌝ }
 {
     let mut first: u64 = 0;
     let mut last: u64 = 0;
@@ -211,7 +212,7 @@ fn join(ids: &[u64], out: &mut [u64]) -> usize
 // Writes the pairs' cells, as far as there are places; gives how many they are.
 fn fill(ps: &[u64], out: &mut [u64]) -> usize
     requires { ⌜ isPairs (now ps) ≡ true ⌝ }
-    ensures { λ r. ⌜ (r ≡ length (cellsOf (now (ps .entry)))) × (now (out .exit) ≡ puts 0 (cellsOf (now (ps .entry))) (now (out .entry))) ⌝ }
+    ensures { λ r. ⌜ (r ≡ length (cellsOf (now (ps .entry)))) × (now (out .exit) ≡ sets (now (out .entry)) 0 (cellsOf (now (ps .entry)))) ⌝ }
 {
     let mut at: usize = 0;
     let mut i: usize = 0;
