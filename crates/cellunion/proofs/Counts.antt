@@ -40,7 +40,7 @@ count-stretch f a b (suc N) h t u =
     last-out s a b N h (inl g) e = omega arith
     last-out s a b N h (inr g) e = omega arith
 
-count-or : (f g : ℕ → Bool) (N : ℕ) → ((n : ℕ) → f n ≡ true → g n ≡ true → ⊥) → countTo (λ n. f n || g n) N ≡ countTo f N + countTo g N
+pub count-or : (f g : ℕ → Bool) (N : ℕ) → ((n : ℕ) → f n ≡ true → g n ≡ true → ⊥) → countTo (λ n. f n || g n) N ≡ countTo f N + countTo g N
 unfolding countTo
 count-or f g zero d = refl
 count-or f g (suc N) d = omega (arith, count-or f g N d, both (f N) (g N) (d N))
@@ -58,7 +58,7 @@ unfolding countTo
 count-none zero = refl
 count-none (suc N) = omega (arith, count-none N)
 
-count-cong : (f g : ℕ → Bool) (N : ℕ) → ((n : ℕ) → f n ≡ g n) → countTo f N ≡ countTo g N
+pub count-cong : (f g : ℕ → Bool) (N : ℕ) → ((n : ℕ) → f n ≡ g n) → countTo f N ≡ countTo g N
 unfolding countTo
 count-cong f g zero h = refl
 count-cong f g (suc N) h = ap₂ (λ (t : Bool) (m : ℕ). one t + m) (h N) (count-cong f g N h)
@@ -96,8 +96,9 @@ leaf-count N (x ∷ l) C A B =
     omega (arith, w .1, k .2))
     ∙ omega (arith, B .0)
 
+-- counted over all leaves
+pub leaves-count : (l : List ℕ) → All Cell l → Apart l → countTo (covers l) (6 * 2 ^ 60) ≡ leafSum l
+leaves-count l C A = leaf-count (6 * 2 ^ 60) l C A (at-all (λ y. hi y ≤ 6 * 2 ^ 60) l (λ y m. hi-le (all-at Cell l C y m)))
+
 pub same-sum : (a b : List ℕ) → All Cell a → All Cell b → Apart a → Apart b → SameLeaves a b → leafSum a ≡ leafSum b
-same-sum a b A B P Q same =
-    sym (leaf-count (6 * 2 ^ 60) a A P (at-all (λ y. hi y ≤ 6 * 2 ^ 60) a (λ y m. hi-le (all-at Cell a A y m))))
-    ∙ count-cong (covers a) (covers b) (6 * 2 ^ 60) same
-    ∙ leaf-count (6 * 2 ^ 60) b B Q (at-all (λ y. hi y ≤ 6 * 2 ^ 60) b (λ y m. hi-le (all-at Cell b B y m)))
+same-sum a b A B P Q same = sym (leaves-count a A P) ∙ count-cong (covers a) (covers b) (6 * 2 ^ 60) same ∙ leaves-count b B Q

@@ -13,7 +13,7 @@ use borrow.Author.Tests.{leb-true, leb-false, le-leb, lt-leb}
 use Rattle.order.proofs.OrderLaws.{which}
 use Rattle.cellunion.specs.CellUnion.{normalise}
 use Rattle.ranges.specs.declared.Answer.{Answer}
-use Rattle.ranges.specs.Ranges.{isList, isPairs, pairsOf, cellsOf, Result, refused, done, resultOf, pairsResult, cellsResult, answerOf, outputAfter, Answered}
+use Rattle.ranges.specs.Ranges.{isList, isPairs, pairsOf, cellsOf, Result, refused, done, fitted, resultOf, pairsResult, cellsResult, answerOf, outputAfter, Answered}
 use Rattle.ranges.specs.Steps.{looked}
 use Rattle.ranges.proofs.Laws.{there-and-back}
 
@@ -30,10 +30,48 @@ unfolding looked
 looked-done true l n e = (refl, same-count n (length l) (sym e))
 looked-done false l n e = never n 25 (sym e)
 
-looked-refused : (good : Bool) (l : List ℕ) (n : ℕ) → Answer.Refused n ≡ looked good l → (good ≡ false) × (n ≡ 25)
+pub looked-refused : (good : Bool) (l : List ℕ) (n : ℕ) → Answer.Refused n ≡ looked good l → (good ≡ false) × (n ≡ 25)
 unfolding looked
 looked-refused true l n e = never (length l) n e
 looked-refused false l n e = (refl, cc)
+
+-- ---- a list, or a number where there is no room for it
+
+fitted-done : (k : ℕ) (l : List ℕ) (room : ℕ) → length l ≤ room → fitted k l room ≡ done l
+unfolding fitted
+fitted-done k l room h = rw (fitted, le-leb (length l) room h)
+
+fitted-full : (k : ℕ) (l : List ℕ) (room : ℕ) → room < length l → fitted k l room ≡ refused k
+unfolding fitted
+fitted-full k l room h = rw (fitted, lt-leb (length l) room h)
+
+pub answered-refused : (n : ℕ) (out : List ℕ) → Answered (refused n) (Answer.Refused n) out out
+unfolding answerOf outputAfter
+answered-refused n out = record { answer = refl; output = refl }
+
+pub answered-full : (k : ℕ) (l out : List ℕ) (n : ℕ) → n ≡ length l → length out < n → Answered (fitted k l (length out)) (Answer.Refused k) out out
+answered-full k l out n e h = rw (fitted-full k l (length out) (omega arith)) (answered-refused k out)
+
+pub answered-done : (k : ℕ) (l out : List ℕ) (n r : ℕ) (out' : List ℕ) → n ≡ length l → n ≤ length out → (r ≡ length l) × (out' ≡ sets out 0 l) → Answered (fitted k l (length out)) (Answer.Done r) out out'
+unfolding answerOf outputAfter
+answered-done k l out n r out' e h w =
+    rw (fitted-done k l (length out) (omega arith)) (record { answer = ap Answer.Done (w .0); output = w .1 ∙ (rw zero-add at (sets-eq l out 0 (omega arith))) })
+
+-- exactly when: the list where there is room, the number where there is none
+pub data Fitted (k : ℕ) (l : List ℕ) (room : ℕ) : Result → Type 0 where
+  full : room < length l → Fitted k l room (refused k)
+  whole : length l ≤ room → Fitted k l room (done l)
+
+pub fitted→ : (k : ℕ) (l : List ℕ) (room : ℕ) → Fitted k l room (fitted k l room)
+unfolding fitted
+fitted→ k l room = ⊎-elim
+    (λ (t : leb (length l) room ≡ true). rw (fitted, t) (whole (leb-true _ _ t)))
+    (λ (t : leb (length l) room ≡ false). rw (fitted, t) (full (leb-false _ _ t)))
+    (which (leb (length l) room))
+
+pub fitted← : (k : ℕ) (l : List ℕ) (room : ℕ) (R : Result) → Fitted k l room R → fitted k l room ≡ R
+fitted← k l room _ (full h) = fitted-full k l room h
+fitted← k l room _ (whole h) = fitted-done k l room h
 
 -- ---- the three answers
 
@@ -41,60 +79,39 @@ result-bad : (good : Bool) (l : List ℕ) (room : ℕ) → good ≡ false → re
 unfolding resultOf
 result-bad good l room e = rw (resultOf, e)
 
-result-full : (good : Bool) (l : List ℕ) (room : ℕ) → good ≡ true → room < length l → resultOf good l room ≡ refused 26
+result-good : (good : Bool) (l : List ℕ) (room : ℕ) → good ≡ true → resultOf good l room ≡ fitted 26 l room
 unfolding resultOf
-result-full good l room e h = rw (resultOf, e, lt-leb (length l) room h)
-
-result-done : (good : Bool) (l : List ℕ) (room : ℕ) → good ≡ true → length l ≤ room → resultOf good l room ≡ done l
-unfolding resultOf
-result-done good l room e h = rw (resultOf, e, le-leb (length l) room h)
-
-answered-refused : (n : ℕ) (out : List ℕ) → Answered (refused n) (Answer.Refused n) out out
-unfolding answerOf outputAfter
-answered-refused n out = record { answer = refl; output = refl }
-
-answered-done : (l out : List ℕ) → Answered (done l) (Answer.Done (length l)) out (l ++ drop (length l) out)
-unfolding answerOf outputAfter
-answered-done l out = record { answer = refl; output = refl }
+result-good good l room e = rw (resultOf, e)
 
 pub answer-bad : (good : Bool) (l out : List ℕ) (n : ℕ) → Answer.Refused n ≡ looked good l → Answered (resultOf good l (length out)) (Answer.Refused n) out out
 answer-bad good l out n e =
     let q = looked-refused good l n e in
-    subst (λ (R : Result). Answered R (Answer.Refused n) out out) (sym (result-bad good l (length out) (q .0)))
-    (subst (λ (m : ℕ). Answered (refused 25) (Answer.Refused m) out out) (sym (q .1)) (answered-refused 25 out))
+    rw (result-bad good l (length out) (q .0), q .1) (answered-refused 25 out)
 
 pub answer-full : (good : Bool) (l out : List ℕ) (n : ℕ) → Answer.Done n ≡ looked good l → length out < n → Answered (resultOf good l (length out)) (Answer.Refused 26) out out
 answer-full good l out n e h =
     let q = looked-done good l n e in
-    subst (λ (R : Result). Answered R (Answer.Refused 26) out out) (sym (result-full good l (length out) (q .0) (omega arith))) (answered-refused 26 out)
+    rw (result-good good l (length out) (q .0)) (answered-full 26 l out n (q .1) h)
 
 pub answer-done : (good : Bool) (l out : List ℕ) (n r : ℕ) (out' : List ℕ) → Answer.Done n ≡ looked good l → n ≤ length out → (r ≡ length l) × (out' ≡ sets out 0 l) → Answered (resultOf good l (length out)) (Answer.Done r) out out'
 answer-done good l out n r out' e h w =
     let q = looked-done good l n e in
-    let s : length l ≤ length out = omega (arith, q .1) in
-    let o : out' ≡ l ++ drop (length l) out = w .1 ∙ (rw zero-add at (sets-eq l out 0 (omega arith))) in
-    subst (λ (R : Result). Answered R (Answer.Done r) out out') (sym (result-done good l (length out) (q .0) s))
-    (record { answer = ap Answer.Done (w .0) ∙ answered-done l out .answer; output = o ∙ answered-done l out .output })
+    rw (result-good good l (length out) (q .0)) (answered-done 26 l out n r out' (q .1) h w)
 
 -- ---- each answer exactly when paper 02 says so
 
 pub data Told (good : Bool) (l : List ℕ) (room : ℕ) : Result → Type 0 where
   bad : good ≡ false → Told good l room (refused 25)
-  full : good ≡ true → room < length l → Told good l room (refused 26)
-  whole : good ≡ true → length l ≤ room → Told good l room (done l)
+  fine : {R : Result} → good ≡ true → Fitted 26 l room R → Told good l room R
 
 told : (good : Bool) (l : List ℕ) (room : ℕ) → Told good l room (resultOf good l room)
 unfolding resultOf
 told false l room = bad refl
-told true l room = ⊎-elim
-    (λ (t : leb (length l) room ≡ true). rw (resultOf, t) (whole refl (leb-true _ _ t)))
-    (λ (t : leb (length l) room ≡ false). rw (resultOf, t) (full refl (leb-false _ _ t)))
-    (which (leb (length l) room))
+told true l room = fine refl (fitted→ 26 l room)
 
 given : (good : Bool) (l : List ℕ) (room : ℕ) (R : Result) → Told good l room R → resultOf good l room ≡ R
 given good l room _ (bad e) = result-bad good l room e
-given good l room _ (full e h) = result-full good l room e h
-given good l room _ (whole e h) = result-done good l room e h
+given good l room R (fine e F) = result-good good l room e ∙ fitted← 26 l room R F
 
 pub exactly-when : (good : Bool) (l : List ℕ) (room : ℕ) (R : Result) → (resultOf good l room ≡ R) ↔ Told good l room R
 exactly-when good l room R = (λ e. subst (Told good l room) e (told good l room), given good l room R)
@@ -108,21 +125,31 @@ unchanged (refused m) n out out' A = A .output
 unchanged (done l) n out out' A = never (length l) n (A .answer)
 
 -- a list that was given stands in the output's first places
-pub record Written (good : Bool) (l : List ℕ) (k : ℕ) (out' : List ℕ) : Type 0 where
-  pub good-is : good ≡ true
-  pub count : k ≡ length l
-  pub is : take k out' ≡ l
+pub record Written (R : Result) (k : ℕ) (out' : List ℕ) : Type 0 where
+  pub list : List ℕ
+  pub is : R ≡ done list
+  pub count : k ≡ length list
+  pub there : take k out' ≡ list
 
-from-told : (good : Bool) (l : List ℕ) (k : ℕ) (out out' : List ℕ) (R : Result) → Told good l (length out) R → Answered R (Answer.Done k) out out' → Written good l k out'
+pub written : (R : Result) (k : ℕ) (out out' : List ℕ) → Answered R (Answer.Done k) out out' → Written R k out'
 unfolding answerOf outputAfter
-from-told good l k out out' _ (bad e) A = never k 25 (sym (A .answer))
-from-told good l k out out' _ (full e h) A = never k 26 (sym (A .answer))
-from-told good l k out out' _ (whole e h) A =
+written (refused n) k out out' A = never k n (sym (A .answer))
+written (done l) k out out' A =
     let c : k ≡ length l = same-count k (length l) (sym (A .answer)) in
-    record { good-is = e; count = c; is = ap₂ take c (A .output) ∙ take-at l (drop (length l) out) (length l) refl }
+    record { list = l; is = refl; count = c; there = ap₂ take c (A .output) ∙ take-at l (drop (length l) out) (length l) refl }
 
-pub written : (good : Bool) (l : List ℕ) (k : ℕ) (out out' : List ℕ) → Answered (resultOf good l (length out)) (Answer.Done k) out out' → Written good l k out'
-written good l k out out' A = from-told good l k out out' (resultOf good l (length out)) (told good l (length out)) A
+-- and it is the one that good input has
+pub fitted-list : (k : ℕ) (l m : List ℕ) (room : ℕ) → fitted k l room ≡ done m → m ≡ l
+unfolding fitted
+fitted-list k l m room e = ⊎-elim
+    (λ (t : leb (length l) room ≡ true). let q : done l ≡ done m = rw (fitted, t) at e in cc)
+    (λ (t : leb (length l) room ≡ false). let q : refused k ≡ done m = rw (fitted, t) at e in cc)
+    (which (leb (length l) room))
+
+result-list : (good : Bool) (l m : List ℕ) (room : ℕ) → resultOf good l room ≡ done m → (good ≡ true) × (m ≡ l)
+unfolding resultOf
+result-list true l m room e = (refl, fitted-list 26 l m room e)
+result-list false l m room e = let z : _≡_ {A = ℕ} 0 1 = cc in absurd (omega arith)
 
 -- any two answers that are allowed coincide
 pub determined : (R : Result) (r s : Answer) (out out' out'' : List ℕ) → Answered R r out out' → Answered R s out out'' → (r ≡ s) × (out' ≡ out'')
@@ -132,6 +159,8 @@ determined R r s out out' out'' A B = (A .answer ∙ sym (B .answer), A .output 
 pub through : (ids : List ℕ) (k m : ℕ) (out out' mid mid' : List ℕ) → Answered (pairsResult ids (length out)) (Answer.Done k) out out' → Answered (cellsResult (take k out') (length mid)) (Answer.Done m) mid mid' → take m mid' ≡ normalise ids
 unfolding pairsResult cellsResult
 through ids k m out out' mid mid' A B =
-    let P = written (isList ids) (pairsOf ids) k out out' A in
-    let C = written (isPairs (take k out')) (cellsOf (take k out')) m mid mid' B in
-    C .is ∙ ap cellsOf (P .is) ∙ there-and-back ids (P .good-is)
+    let P = written (pairsResult ids (length out)) k out out' A in
+    let C = written (cellsResult (take k out') (length mid)) m mid mid' B in
+    let p = result-list (isList ids) (pairsOf ids) (P .list) (length out) (P .is) in
+    let c = result-list (isPairs (take k out')) (cellsOf (take k out')) (C .list) (length mid) (C .is) in
+    C .there ∙ c .1 ∙ ap cellsOf (P .there ∙ p .1) ∙ there-and-back ids (p .0)

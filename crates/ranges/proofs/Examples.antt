@@ -1,20 +1,45 @@
--- Paper 02's row: six faces become one pair; and the smallest ones beside it: a gap of one leaf is not joined, no cell is no pair, and the way back.
-use mathlib.Core.Path.{_≡_, refl}
+-- Paper 02's row: six faces become one pair, and the way back; and that these are the whole sphere.
+use mathlib.Core.Path.{_≡_, refl, sym, ap, _∙_}
+use mathlib.Core.Bool.{true}
 use mathlib.Core.List.{List, [], _∷_}
-use Prim.Native.Nat.{ℕ}
+use Prim.Native.Nat.{ℕ, _+_, _*_, _<_}
+use native.Mathlib.Omega.{arith}
 use lib.Count.{trailingZeros}
-use Rattle.cellid.specs.CellId.{validId, firstLeaf, lastLeaf, lowBit}
-use Rattle.ranges.specs.Ranges.{listed, listFrom, pairBefore, pairsOf, follows, pairsFrom, fits, sizeFrom, size, tileBy, tile, eachPair, resultOf, pairsResult, cellsResult, done}
+use borrow.Author.Tests.{le-leb}
+use Rattle.cellid.specs.CellId.{Cell, validId, firstLeaf, lastLeaf, lowBit}
+use Rattle.order.specs.Order.{All}
+use Rattle.cellunion.specs.CellUnion.{covers}
+use Rattle.ranges.specs.Ranges.{leaves, listed, listFrom, isList, pairBefore, pairsOf, inPairs, follows, pairsFrom, fits, sizeFrom, size, tileBy, tile, eachPair, fitted, resultOf, pairsResult, cellsResult, done}
+use Rattle.ranges.proofs.Inputs.{is-list→}
+use Rattle.ranges.proofs.Laws.{list-leaves}
 
 abbrev pub faces : List ℕ
 faces = 0x1000000000000000 ∷ 0x3000000000000000 ∷ 0x5000000000000000 ∷ 0x7000000000000000 ∷ 0x9000000000000000 ∷ 0xb000000000000000 ∷ []
 
 -- "Six faces become one pair, 0x0000000000000001 to 0xbfffffffffffffff."
 pub six-faces : pairsResult faces 2 ≡ done (0x0000000000000001 ∷ 0xbfffffffffffffff ∷ [])
-unfolding pairsResult resultOf listed listFrom validId firstLeaf lastLeaf lowBit trailingZeros pairsOf pairBefore
+unfolding pairsResult resultOf fitted listed listFrom validId firstLeaf lastLeaf lowBit trailingZeros pairsOf pairBefore
 six-faces = refl
 
 -- and are the cells of that pair
 pub one-pair : cellsResult (0x0000000000000001 ∷ 0xbfffffffffffffff ∷ []) 6 ≡ done faces
-unfolding cellsResult resultOf follows pairsFrom eachPair tile tileBy size sizeFrom fits
+unfolding cellsResult resultOf fitted follows pairsFrom eachPair tile tileBy size sizeFrom fits
 one-pair = refl
+
+-- ---- the whole sphere
+
+faces-list : isList faces ≡ true
+unfolding listed listFrom validId firstLeaf lastLeaf lowBit trailingZeros
+faces-list = refl
+
+faces-pairs : pairsOf faces ≡ 0x0000000000000001 ∷ 0xbfffffffffffffff ∷ []
+unfolding firstLeaf lastLeaf lowBit trailingZeros pairsOf pairBefore
+faces-pairs = refl
+
+pub faces-cells : All Cell faces
+faces-cells = is-list→ faces faces-list .0
+
+-- every leaf lies under it
+pub faces-leaves : (n : ℕ) → n < leaves → covers faces n ≡ true
+unfolding inPairs
+faces-leaves n h = sym (list-leaves faces faces-list n) ∙ ap (λ (ps : List ℕ). inPairs ps n) faces-pairs ∙ rw (le-leb 1 (2 * n + 1) (omega arith), le-leb (2 * n + 1) 0xbfffffffffffffff (omega arith))

@@ -155,25 +155,25 @@ module _ (out : ℕ → ℕ → List ℕ) (nil : (s : ℕ) → out s s ≡ []) (
       (λ (u : ltb n N ≡ false). let h = ltb-false n N u in rest-over N s n h ∙ sym (ap (λ (l : List ℕ). out s n ++ l) (rest-over N (n + 1) (n + 1) (omega arith) ∙ nil (n + 1)) ∙ append-nil (out s n)))
       (which (ltb n N))
 
-head-in : (x : ℕ) (l : List ℕ) (n : ℕ) → Cell x → lo x ≤ n → n < hi x → covers (x ∷ l) n ≡ true
+pub head-in : (x : ℕ) (l : List ℕ) (n : ℕ) → Cell x → lo x ≤ n → n < hi x → covers (x ∷ l) n ≡ true
 unfolding covers
 head-in x l n C a b = rw (leaf← n C a b)
 
-head-out : (x : ℕ) (l : List ℕ) (n : ℕ) → Cell x → (n < lo x) ⊎ (hi x ≤ n) → covers (x ∷ l) n ≡ covers l n
+pub head-out : (x : ℕ) (l : List ℕ) (n : ℕ) → Cell x → (n < lo x) ⊎ (hi x ≤ n) → covers (x ∷ l) n ≡ covers l n
 unfolding covers
 head-out x l n C h = rw (no-true (hasLeaf x n) (λ t. let r = leaf→ n C t in ⊎-elim (λ (g : n < lo x). omega (arith, r .0)) (λ (g : hi x ≤ n). omega (arith, r .1)) h))
 
 covers-before : (l : List ℕ) (b n : ℕ) → All Cell l → All (λ y. b ≤ lo y) l → n < b → covers l n ≡ false
 covers-before l b n C A h = no-true (covers l n) (λ t. let k = covers→ l n C t in let g : b ≤ lo (k .0) = all-at (λ y. b ≤ lo y) l A (k .0) (k .1) in omega (arith, k .2))
 
-apart-from : (x : ℕ) (l : List ℕ) → All Cell (x ∷ l) → Apart (x ∷ l) → All (λ y. hi x ≤ lo y) l
+pub apart-from : (x : ℕ) (l : List ℕ) → All Cell (x ∷ l) → Apart (x ∷ l) → All (λ y. hi x ≤ lo y) l
 unfolding All Apart
 apart-from x l C A = at-all (λ y. hi x ≤ lo y) l (λ y m.
     let g : lastLeaf x < firstLeaf y = all-at (λ y. lastLeaf x < firstLeaf y) l (A .0) y m in
     let s = span (C .0) in let u = span (all-at Cell l (C .1) y m) in omega arith)
 
 -- no leaf before the first cell of a list
-before-first : (x : ℕ) (l : List ℕ) (n : ℕ) → All Cell (x ∷ l) → Apart (x ∷ l) → n < lo x → covers (x ∷ l) n ≡ false
+pub before-first : (x : ℕ) (l : List ℕ) (n : ℕ) → All Cell (x ∷ l) → Apart (x ∷ l) → n < lo x → covers (x ∷ l) n ≡ false
 unfolding All
 before-first x l n C A h =
     let X = span (C .0) in
@@ -380,6 +380,3 @@ pairs-leaves f z n = stretches-has pair inPairs (λ s e l n h r. pair-has s e l 
 pub pairs-again : (ps : List ℕ) → isPairs ps ≡ true → stretches pair (inPairs ps) ≡ ps
 unfolding stretches
 pairs-again ps t = each-are pair pair-nil ps 0 t ∙ each-again 1 ps t
-
-pub pairs-unique : (p q : List ℕ) → isPairs p ≡ true → isPairs q ≡ true → ((n : ℕ) → inPairs p n ≡ inPairs q n) → p ≡ q
-pairs-unique p q P Q same = sym (pairs-again p P) ∙ stretches-same pair (inPairs p) (inPairs q) same ∙ pairs-again q Q

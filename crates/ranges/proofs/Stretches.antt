@@ -185,7 +185,7 @@ each-held f (suc k) s n h r =
     (λ (u : f n ≡ false). subst (Held f s (n + suc k)) (sym (each-no tile f s n k u)) (held-more f s n (n + suc k) (each tile f (n + 1) (n + 1) k) h (omega arith) r u (subst (λ (x : ℕ). Held f (n + 1) x (each tile f (n + 1) (n + 1) k)) z (each-held f k (n + 1) (n + 1) (omega arith) (omega arith)))))
     (which (f n))
 
-covers-append : (a b : List ℕ) (n : ℕ) → covers (a ++ b) n ≡ (covers a n || covers b n)
+pub covers-append : (a b : List ℕ) (n : ℕ) → covers (a ++ b) n ≡ (covers a n || covers b n)
 unfolding covers
 covers-append [] b n = refl
 covers-append (x ∷ a) b n = ap (λ (t : Bool). hasLeaf x n || t) (covers-append a b n) ∙ sym (or-assoc (hasLeaf x n) (covers a n) (covers b n))

@@ -162,6 +162,3 @@ join-done ids out₀ out first last at i r out' G h w =
     let z : pairsLeft first last (drop i ids) ≡ held first last = ap (pairsLeft first last) (none-left ids i h) ∙ left-nil first last in
     let q = put-last at 0 (pairsLeft first last (drop i ids)) (pairsOf ids) out out₀ r out' (G .put) (w .0 ∙ ap (λ (l : List ℕ). at + length l) (sym z)) (w .1 ∙ ap (sets out at) (sym z)) in
     (omega (arith, q .0), q .1)
-
-pub join-length : (first last at : ℕ) (d d₀ d' : List ℕ) → length d ≡ length d₀ → d' ≡ sets d at (held first last) → length d' ≡ length d₀
-join-length first last at d d₀ d' l q = ap length q ∙ length-sets d at (held first last) ∙ l

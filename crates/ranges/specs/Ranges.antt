@@ -100,11 +100,15 @@ pub data Result : Type 0 where
   refused : ℕ → Result
   done : List ℕ → Result
 
--- l is the answer to good input, an output has so many places: "25 input outside these rules, then 26 answer longer than the output"
+-- the list l; where an output of so many places is too short for it, that number
+unfoldable pub fitted : ℕ → List ℕ → ℕ → Result
+fitted number l room = elim (leb (length l) room) [ true ↦ done l | false ↦ refused number ]
+
+-- l is the answer to good input: "25 input outside these rules, then 26 answer longer than the output"
 unfoldable pub resultOf : Bool → List ℕ → ℕ → Result
 resultOf good l room = elim good [
   | false ↦ refused 25
-  | true ↦ elim (leb (length l) room) [ true ↦ done l | false ↦ refused 26 ]
+  | true ↦ fitted 26 l room
 ]
 
 unfoldable pub pairsResult : List ℕ → ℕ → Result

@@ -60,6 +60,17 @@ fn look_list(ids: &[u64]) -> Answer
     Answer::Done(words)
 }
 
+// Whether a list is valid, ascending and free of overlap.
+pub fn is_list(ids: &[u64]) -> bool
+    ensures { λ r. ⌜ r ≡ isList (now (ids .entry)) ⌝ }
+{
+    let found = look_list(ids);
+    match found {
+        Answer::Done(_) => true,
+        Answer::Refused(_) => false,
+    }
+}
+
 // Whether a pair may come next, its first at `from` or after.
 fn follows(from: u64, first: u64, last: u64) -> bool
     ensures { λ r. ⌜ r ≡ follows from first last ⌝ }
@@ -110,7 +121,7 @@ fn size(s: u64, e: u64) -> u64
 }
 
 // Writes the stretch's cells from place `at` on, as far as there are places; gives the place after them.
-fn tile(s: u64, e: u64, out: &mut [u64], at: usize) -> usize
+pub fn tile(s: u64, e: u64, out: &mut [u64], at: usize) -> usize
     requires { ⌜ (s ≤ e) × (e ≤ leaves) × (at + (e - s) < 2 ^ 64) ⌝ }
     ensures { λ r. ⌜ (r ≡ at + length (tile s e)) × (now (out .exit) ≡ sets (now (out .entry)) at (tile s e)) ⌝ }
 {

@@ -1,8 +1,10 @@
 -- `ranges::join`: one cell after another.
+use mathlib.Core.Path.{ap, _∙_}
 use Prim.Native.Nat.{_-_}
 use native.Mathlib.Omega.{arith}
 use lib.ListN.{length}
-use Rattle.ranges.proofs.Writes.{Joining, join-start, join-pos, join-turn, join-done, join-length}
+use lib.Seq.{length-sets}
+use Rattle.ranges.proofs.Writes.{Joining, join-start, join-pos, join-turn, join-done}
 use Rattle.ranges.proofs.join.Statement.{statement}
 use Rattle.ranges.proofs.join.Tie as tie
 
@@ -35,7 +37,7 @@ hold-requires : tie.Need-hold-requires Inv-loop μ-loop
 hold-requires c κs = let G = c .before .before .loop .inv in omega (arith, G .low, G .within)
 
 same-length : tie.Need-same-length Inv-loop μ-loop
-same-length c = join-length _ _ _ _ (c .before .before .before .before .before .before .before .before .args .out .now) _ (c .before .before .before .before .before .loop .inv .len) (c .before .before .hold .ensures .1)
+same-length c = ap length (c .before .before .hold .ensures .1) ∙ simp length-sets (c .before .before .before .before .before .loop .inv .len)
 
 returns : tie.Need-returns Inv-loop μ-loop
 returns c = join-done _ _ _ _ _ _ _ _ _ (c .before .before .before .before .before .loop .inv) (c .before .before .before .before .loop-test .left) (c .before .before .hold .ensures)
