@@ -1,0 +1,125 @@
+-- What an answer says: how the code comes to it, each number exactly when the paper gives it, and what a caller may read from it.
+use mathlib.Core.Path.{_≡_, refl, sym, ap, _∙_, subst}
+use mathlib.Core.Logic.{⊎-elim, _↔_}
+use mathlib.Core.Bool.{Bool, true, false}
+use mathlib.Core.List.{List}
+use Prim.Native.Nat.{ℕ, _+_, _≤_, _<_}
+use native.Mathlib.Omega.{arith}
+use lib.ListN.{length, take}
+use lib.Seq.{sets}
+use lib.Dec.{leb}
+use borrow.Author.Tests.{leb-true, leb-false, le-leb, lt-leb}
+use Rattle.cellid.specs.CellId.{Cell}
+use Rattle.cellid.proofs.Laws.{and-true}
+use Rattle.order.specs.Order.{All}
+use Rattle.order.proofs.OrderLaws.{which}
+use Rattle.cellunion.specs.CellUnion.{Apart}
+use Rattle.ranges.specs.declared.Answer.{Answer}
+use Rattle.ranges.specs.Ranges.{isList, Result, refused, done, fitted, Answered}
+use Rattle.ranges.proofs.Inputs.{is-list→, is-list←}
+use Rattle.ranges.proofs.Answers.{answered-refused, answered-full, answered-done, Fitted, fitted→, fitted←, fitted-list, written}
+use Rattle.sets.specs.declared.Op.{Op}
+use Rattle.sets.specs.Sets.{setOf, isPickList, setResult}
+use Rattle.sets.specs.Steps.{isShort}
+use Rattle.sets.proofs.Lengths.{short-is}
+
+-- ---- what may come in
+
+pub pick-yes : (l : List ℕ) (b : Bool) → length l ≤ 4096 → b ≡ isList l → b ≡ isPickList l
+unfolding isPickList
+pick-yes l b h e = rw (isPickList, le-leb (length l) 4096 h) e
+
+pub pick-no : (l : List ℕ) → 4096 < length l → false ≡ isPickList l
+unfolding isPickList
+pick-no l h = rw (isPickList, lt-leb (length l) 4096 h)
+
+pub pick-list : (l : List ℕ) → isPickList l ≡ true → isList l ≡ true
+unfolding isPickList
+pick-list l t = and-true (leb (length l) 4096) (isList l) t .1
+
+-- exactly the lists of cells, ascending and free of overlap, up to 4,096
+pub pick-is : (l : List ℕ) → (isPickList l ≡ true) ↔ ((length l ≤ 4096) × All Cell l × Apart l)
+unfolding isPickList
+pick-is l = (
+  λ t. (let r = and-true (leb (length l) 4096) (isList l) t in let T = is-list→ l (r .1) in (leb-true (length l) 4096 (r .0), T .0, T .1)),
+  λ T. rw (le-leb (length l) 4096 (T .0), is-list← l (T .1) (T .2)),
+)
+
+-- ---- room for the answer
+
+pub room-sure : (op : Op) (a b : List ℕ) (room : ℕ) (s : Bool) → isPickList a ≡ true → isPickList b ≡ true → s ≡ isShort op → s ≡ true → length a + length b ≤ room → true ≡ leb (length (setOf op a b)) room
+room-sure op a b room s t u e h g = sym (le-leb (length (setOf op a b)) room (omega (arith, short-is op a b (is-list→ a (pick-list a t) .0) (is-list→ b (pick-list b u) .0) (sym e ∙ h))))
+
+-- ---- the four answers
+
+module _ (op : Op) (a b : List ℕ) (room : ℕ) where
+  result-first : isPickList a ≡ false → setResult op a b room ≡ refused 15
+  unfolding setResult
+  result-first t = rw (setResult, t)
+
+  result-second : isPickList a ≡ true → isPickList b ≡ false → setResult op a b room ≡ refused 16
+  unfolding setResult
+  result-second t u = rw (setResult, t, u)
+
+  result-both : isPickList a ≡ true → isPickList b ≡ true → setResult op a b room ≡ fitted 17 (setOf op a b) room
+  unfolding setResult
+  result-both t u = rw (setResult, t, u)
+
+module _ (op : Op) (a b out : List ℕ) (x : Bool) (ex : x ≡ isPickList a) where
+  pub answer-first : x ≡ false → Answered (setResult op a b (length out)) (Answer.Refused 15) out out
+  answer-first t = rw (result-first op a b (length out) (sym ex ∙ t)) (answered-refused 15 out)
+
+  module _ (t : x ≡ true) (y : Bool) (ey : y ≡ isPickList b) where
+    pub answer-second : y ≡ false → Answered (setResult op a b (length out)) (Answer.Refused 16) out out
+    answer-second u = rw (result-second op a b (length out) (sym ex ∙ t) (sym ey ∙ u)) (answered-refused 16 out)
+
+    module _ (u : y ≡ true) (v : Bool) (e : v ≡ leb (length (setOf op a b)) (length out)) where
+      pub answer-full : v ≡ false → Answered (setResult op a b (length out)) (Answer.Refused 17) out out
+      answer-full h = rw (result-both op a b (length out) (sym ex ∙ t) (sym ey ∙ u)) (answered-full 17 (setOf op a b) out (length (setOf op a b)) refl (leb-false (length (setOf op a b)) (length out) (sym e ∙ h)))
+
+      pub answer-done : (r : ℕ) (out' : List ℕ) → v ≡ true → (r ≡ length (setOf op a b)) × (out' ≡ sets out 0 (setOf op a b)) → Answered (setResult op a b (length out)) (Answer.Done r) out out'
+      answer-done r out' h w = rw (result-both op a b (length out) (sym ex ∙ t) (sym ey ∙ u)) (answered-done 17 (setOf op a b) out (length (setOf op a b)) r out' refl (leb-true (length (setOf op a b)) (length out) (sym e ∙ h)) w)
+
+-- ---- each answer exactly when paper 02 says so
+
+pub data Told (op : Op) (a b : List ℕ) (room : ℕ) : Result → Type 0 where
+  first : isPickList a ≡ false → Told op a b room (refused 15)
+  second : isPickList a ≡ true → isPickList b ≡ false → Told op a b room (refused 16)
+  both : {R : Result} → isPickList a ≡ true → isPickList b ≡ true → Fitted 17 (setOf op a b) room R → Told op a b room R
+
+module _ (op : Op) (a b : List ℕ) (room : ℕ) where
+  told : Told op a b room (setResult op a b room)
+  told = ⊎-elim
+      (λ (t : isPickList a ≡ true). ⊎-elim
+      (λ (u : isPickList b ≡ true). rw (result-both op a b room t u) (both t u (fitted→ 17 (setOf op a b) room)))
+      (λ (u : isPickList b ≡ false). rw (result-second op a b room t u) (second t u))
+      (which (isPickList b)))
+      (λ (t : isPickList a ≡ false). rw (result-first op a b room t) (first t))
+      (which (isPickList a))
+
+  given : (R : Result) → Told op a b room R → setResult op a b room ≡ R
+  given _ (first t) = result-first op a b room t
+  given _ (second t u) = result-second op a b room t u
+  given R (both t u F) = result-both op a b room t u ∙ fitted← 17 (setOf op a b) room R F
+
+  pub exactly-when : (R : Result) → (setResult op a b room ≡ R) ↔ Told op a b room R
+  exactly-when R = (λ e. subst (Told op a b room) e told, given R)
+
+-- ---- what a caller may read from a list that was given
+
+pub record Given (op : Op) (a b : List ℕ) (k : ℕ) (out' : List ℕ) : Type 0 where
+  pub first : isPickList a ≡ true
+  pub second : isPickList b ≡ true
+  pub count : k ≡ length (setOf op a b)
+  pub is : take k out' ≡ setOf op a b
+
+told-list : (op : Op) (a b l : List ℕ) (room : ℕ) (R : Result) → Told op a b room R → R ≡ done l → (isPickList a ≡ true) × (isPickList b ≡ true) × (l ≡ setOf op a b)
+told-list op a b l room _ (first t) e = let z : _≡_ {A = ℕ} 0 1 = cc in absurd (omega arith)
+told-list op a b l room _ (second t u) e = let z : _≡_ {A = ℕ} 0 1 = cc in absurd (omega arith)
+told-list op a b l room R (both t u F) e = (t, u, fitted-list 17 (setOf op a b) l room (fitted← 17 (setOf op a b) room R F ∙ e))
+
+pub set-written : (op : Op) (a b : List ℕ) (k : ℕ) (out out' : List ℕ) → Answered (setResult op a b (length out)) (Answer.Done k) out out' → Given op a b k out'
+set-written op a b k out out' A =
+    let W = written (setResult op a b (length out)) k out out' A in
+    let q = told-list op a b (W .list) (length out) (setResult op a b (length out)) (told op a b (length out)) (W .is) in
+    record { first = q .0; second = q .1; count = W .count ∙ ap length (q .2); is = W .there ∙ q .2 }

@@ -1,0 +1,5 @@
+pub mod Laws
+pub mod Lengths
+pub mod Algebra
+pub mod Turns
+pub mod Answers
