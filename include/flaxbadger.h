@@ -100,6 +100,25 @@ uint64_t flaxbadger_fast_covering_cell(FLAXBADGER_CELL, FLAXBADGER_LEVELS, FLAXB
 uint64_t flaxbadger_ranges(const uint64_t *ids, size_t ids_len, uint64_t *out, size_t out_len, uint64_t *count);
 uint64_t flaxbadger_cells(const uint64_t *pairs, size_t pairs_len, uint64_t *out, size_t out_len, uint64_t *count);
 
+/* TWO LISTS AS ONE. The leaves of either list (union), of both (common), or of the first alone (difference), as a normalised list:
+ * ascending, none inside another, four siblings replaced by their parent, so that no shorter list has those leaves. Each list is of valid
+ * ids, ascending, none inside another, at most 4,096; it need not be normalised. There is no working memory.
+ *
+ * The result is 0, and count the number of ids in the first places of the output; or the number of a refusal, with the output as it was
+ * and count 0:
+ *   15  the first list is not such a list, or longer than 4,096 ids
+ *   16  the second list likewise
+ *   17  the answer is longer than out_len. first_len + second_len words are always enough for a union and for a common part; a difference
+ *       may be longer than both lists
+ * They are tested in this order. The lists are only read; they may overlap each other, or be one, but not the output or count, and what
+ * is said of pointers above holds here too. */
+uint64_t flaxbadger_union(const uint64_t *first, size_t first_len, const uint64_t *second, size_t second_len,
+                          uint64_t *out, size_t out_len, uint64_t *count);
+uint64_t flaxbadger_common(const uint64_t *first, size_t first_len, const uint64_t *second, size_t second_len,
+                           uint64_t *out, size_t out_len, uint64_t *count);
+uint64_t flaxbadger_difference(const uint64_t *first, size_t first_len, const uint64_t *second, size_t second_len,
+                               uint64_t *out, size_t out_len, uint64_t *count);
+
 #ifdef __cplusplus
 }
 #endif

@@ -46,7 +46,7 @@ determined R n n′ m m₁ m₂ o o₁ o₂ k k′ s s′ t t′ a b = (
   a .told .total ∙ sym (b .told .total),
 )
 
--- ---- lists as pairs, and back
+-- ---- lists: as pairs and back, and two as one
 
 pub words-called : (R : Ranges.Result) (a : ListAnswer.Answer) (number count : ℕ) (o o′ : List ℕ) → Ranges.Answered R a o o′ → (number ≡ Ranges.numberOf a) × (count ≡ Ranges.wordsOf a) → CalledOf R number o o′ count
 words-called R a number count o o′ A t = record { is = t .0 ∙ ap Ranges.numberOf (A .answer); counted = t .1 ∙ ap Ranges.wordsOf (A .answer); output = A .output }

@@ -31,7 +31,7 @@ pub record Called (R : Result) (number : ℕ) (mem mem′ out out′ : List ℕ)
   pub memory : mem′ ≡ memoryAfter R mem
   pub output : out′ ≡ outputAfter R out
 
--- ---- lists as pairs, and back
+-- ---- lists: as pairs and back, and two as one
 
 -- all that such a call leaves: the answer's number, how many words were written, and the output
 pub record CalledOf (R : Ranges.Result) (number : ℕ) (out out′ : List ℕ) (count : ℕ) : Type 0 where

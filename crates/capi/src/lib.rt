@@ -6,12 +6,15 @@ ghost use lib.ListN.{length};
 ghost use Rattle.covering.specs.declared.Ending.{Ending};
 ghost use Rattle.covering.specs.Covering.{resultOf, fastResultOf, valuesOf};
 ghost use Rattle.ranges.specs.Ranges.{pairsResult, cellsResult, numberOf, wordsOf};
+ghost use Rattle.sets.specs.declared.Op.{Op};
+ghost use Rattle.sets.specs.Sets.{setResult};
 ghost use Rattle.capi.specs.Calls.{regionCoverer, capRegion, cellRegion, Told, Called, CalledOf};
 use cell::Cap;
 use covering::Answer;
 use fast::RegionCoverer;
 use point::Point;
 use region::Region;
+use sets::Op;
 
 fn region_coverer(min_level: u64, max_level: u64, level_mod: u64, max_cells: u64) -> RegionCoverer
     ensures { λ r. ⌜ r ≡ regionCoverer «min_level» «max_level» «level_mod» «max_cells» ⌝ }
@@ -430,5 +433,47 @@ pub extern "C" fn flaxbadger_cells(pairs: &[u64], out: &mut [u64], count: &mut u
     ensures { λ r. ⌜ CalledOf (cellsResult (now (pairs .entry)) (length (now (out .entry)))) r (now (out .entry)) (now (out .exit)) (now (count .exit)) ⌝ }
 {
     let a = ranges::cells(pairs, out);
+    tell_words(a, count)
+}
+
+// The leaves of either list, normalised.
+#[no_mangle]
+pub extern "C" fn flaxbadger_union(
+    first: &[u64],
+    second: &[u64],
+    out: &mut [u64],
+    count: &mut u64,
+) -> u64
+    ensures { λ r. ⌜ CalledOf (setResult Op.Union (now (first .entry)) (now (second .entry)) (length (now (out .entry)))) r (now (out .entry)) (now (out .exit)) (now (count .exit)) ⌝ }
+{
+    let a = sets::combine(Op::Union, first, second, out);
+    tell_words(a, count)
+}
+
+// The leaves of both lists, normalised.
+#[no_mangle]
+pub extern "C" fn flaxbadger_common(
+    first: &[u64],
+    second: &[u64],
+    out: &mut [u64],
+    count: &mut u64,
+) -> u64
+    ensures { λ r. ⌜ CalledOf (setResult Op.Common (now (first .entry)) (now (second .entry)) (length (now (out .entry)))) r (now (out .entry)) (now (out .exit)) (now (count .exit)) ⌝ }
+{
+    let a = sets::combine(Op::Common, first, second, out);
+    tell_words(a, count)
+}
+
+// The leaves of the first list alone, normalised.
+#[no_mangle]
+pub extern "C" fn flaxbadger_difference(
+    first: &[u64],
+    second: &[u64],
+    out: &mut [u64],
+    count: &mut u64,
+) -> u64
+    ensures { λ r. ⌜ CalledOf (setResult Op.Difference (now (first .entry)) (now (second .entry)) (length (now (out .entry)))) r (now (out .entry)) (now (out .exit)) (now (count .exit)) ⌝ }
+{
+    let a = sets::combine(Op::Difference, first, second, out);
     tell_words(a, count)
 }

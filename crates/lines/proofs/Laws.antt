@@ -1,19 +1,18 @@
 -- Laws of `specs/Lines.antt`: what was read, part by part, is the question; it is answered within a part of the output; the answer's text is that of its
 -- result, and a page with room for as many ids as the output has places holds it whole.
-use mathlib.Core.Path.{_≡_, refl, sym, ap, _∙_}
+use mathlib.Core.Path.{_≡_, refl, sym, ap, ap₂, _∙_}
 use mathlib.Core.Bool.{Bool, true, false}
-use mathlib.Core.List.{List, _++_, append-assoc}
-use Prim.Native.Nat.{ℕ, _+_, _-_, _*_, min, _≤_}
+use mathlib.Core.List.{List, [], _++_, append-assoc, append-nil}
+use Prim.Native.Nat.{ℕ, zero, suc, _+_, _-_, _*_, min, _≤_, _<_}
 use native.Mathlib.Omega.{arith}
-use lib.Dec.{leb, eqb}
-use lib.ListN.{length, getD, take, drop, length-append}
-use lib.Seq.{take-append-seam}
-use borrow.Author.Tests.{leb-true}
-use Rattle.text.specs.Ascii.{ascii}
+use lib.Dec.{leb, ltb, eqb}
+use lib.ListN.{length, getD, take, drop, length-append, length-drop, drop-of-length-le}
+use lib.Seq.{take-append-seam, drop-append-seam, drop-drop, take-length}
+use borrow.Author.Tests.{leb-true, lt-ltb, le-ltb, eq-eqb, ne-eqb}
 use Rattle.text.specs.declared.Fault.{Fault}
 use Rattle.text.specs.declared.Place.{Place}
 use Rattle.text.specs.declared.Read.{Read}
-use Rattle.text.specs.Text.{ReadList, same, bytesOf, fieldAt, listAfter, endAfter, startOf}
+use Rattle.text.specs.Text.{Numbers, ReadList, listAfter, endAfter, startOf}
 use Rattle.replies.specs.Write.{Wrote, listText, errorText}
 use Rattle.replies.proofs.Lengths.{wrote-whole, error-length, refused-length, list-length}
 use Rattle.requests.specs.declared.line.Options.{Options}
@@ -22,72 +21,137 @@ use Rattle.requests.specs.Requests as Requests
 use Rattle.requests.specs.Requests.{onFirst}
 use Rattle.requests.proofs.Laws.{take-min, drop-min, length-min}
 use Rattle.ranges.specs.declared.Answer.{Answer}
-use Rattle.ranges.specs.Ranges.{Result, refused, done, isList, pairsOf, isPairs, cellsOf, pairsResult, cellsResult, answerOf, wordsOf, outputAfter, Answered}
+use Rattle.ranges.specs.Ranges.{Result, refused, done, fitted, isList, pairsOf, isPairs, cellsOf, pairsResult, cellsResult, answerOf, wordsOf, outputAfter, Answered}
 use Rattle.ranges.specs.Ranges as Ranges
+use Rattle.sets.specs.declared.Op.{Op}
+use Rattle.sets.specs.Sets.{setOf, isPickList, setResult}
 use Rattle.lines.specs.declared.ListRead.{ListRead}
-use Rattle.lines.specs.Lines.{words, wordAfter, asksList, Question, questionOf, readOf, ReadQuestion, resultFor, resultIn, resultOf, resultText, AnsweredIn, answerText, textAt, memoryWith, outputAt, Told, textOf, memoryOf, outputOf, Replied}
+use Rattle.lines.specs.declared.ListsRead.{ListsRead}
+use Rattle.lines.specs.Lines.{wordAfter, isAt, asksList, secondAfter, listsAfter, ReadLists, Question, questionOf, readOf, ReadQuestion, opOf, resultFor, resultIn, resultOf, resultText, AnsweredIn, answerText, textAt, memoryWith, outputAt, Told, textOf, memoryOf, outputOf, Replied}
 
 -- ---- reading
 
-module _ (l : List ℕ) (b : Bool) where
-  pub asks-ranges : b ≡ same (ascii "ranges") (bytesOf l (fieldAt l 0)) → b ≡ true → true ≡ asksList l
-  unfolding asksList
-  asks-ranges e t = rw (asksList, ← e, t)
+pub asks-yes : (l : List ℕ) (word : Read) (at : ℕ) → word ≡ wordAfter l (Place.At 0) → word .after ≡ Place.At at → true ≡ asksList l
+unfolding asksList isAt
+asks-yes l word at e q = rw (asksList, ← e, q)
 
-  pub asks-cells : b ≡ same (ascii "ranges") (bytesOf l (fieldAt l 0)) → b ≡ false → (r : Bool) → r ≡ same (ascii "cells") (bytesOf l (fieldAt l 0)) → r ≡ asksList l
-  unfolding asksList
-  asks-cells e t r q = rw (asksList, ← e, t) q
+pub asks-no : (l : List ℕ) (word : Read) (f : Fault) → word ≡ wordAfter l (Place.At 0) → word .after ≡ Place.Bad f → false ≡ asksList l
+unfolding asksList isAt
+asks-no l word f e q = rw (asksList, ← e, q)
 
-module _ (most : ℕ) (l : List ℕ) (start : Place) (word : Read) (es : start ≡ startOf l) (ew : word ≡ wordAfter l start) where
-  list-is : listAfter most l (word .after) .values ≡ questionOf most l .list
-  unfolding questionOf
-  list-is = rw (ew, es)
+module _ (kind most : ℕ) (l : List ℕ) (p : Place) where
+  second-none : ltb kind 2 ≡ true → secondAfter kind most l p ≡ record { values = []; after = p }
+  unfolding secondAfter
+  second-none t = rw (secondAfter, t)
 
-  asked-is : (count : ℕ) (p : Place) (o : Options) (out : ℕ) (end : Place) → count ≡ length (listAfter most l (word .after) .values) → p ≡ listAfter most l (word .after) .after → o ≡ optionsAfter l p
-      → out ≡ valueOr 65536 (getD (o .values) 1 0) → end ≡ endAfter l (o .after)
-      → record { cells = eqb (word .value) 1; count = count; out = out; after = end } ≡ readOf (questionOf most l)
-  unfolding questionOf
-  asked-is count p o out end ec ep eo e ee = rw (e, ee, eo, ep, ec, ew, es)
+  second-some : ltb kind 2 ≡ false → secondAfter kind most l p ≡ listAfter most l p
+  unfolding secondAfter
+  second-some t = rw (secondAfter, t)
 
-pub question-read : (l mem mem' : List ℕ) (start : Place) (word list : Read) (o : Options) (end : Place) (out : ℕ)
-    → start ≡ startOf l → word ≡ wordAfter l start → ReadList (listAfter (length mem) l (word .after)) list mem mem' → o ≡ optionsAfter l (list .after)
-    → end ≡ endAfter l (o .after) → out ≡ valueOr 65536 (getD (o .values) 1 0)
-    → ReadQuestion (questionOf (length mem) l) (record { cells = eqb (word .value) 1; count = list .value; out = out; after = end }) mem mem'
+pub read-none : (kind : ℕ) (l : List ℕ) (p : Place) (mem : List ℕ) → kind < 2 → ReadList (secondAfter kind (length mem) l p) (record { value = 0; after = p }) mem mem
+read-none kind l p mem h = rw (second-none kind (length mem) l p (lt-ltb kind 2 h)) (record { count = refl; place = refl; words = refl })
+
+pub read-some : (kind : ℕ) (l : List ℕ) (p : Place) (r : Read) (mem mem' : List ℕ) → 2 ≤ kind → ReadList (listAfter (length mem) l p) r mem mem' → ReadList (secondAfter kind (length mem) l p) r mem mem'
+read-some kind l p r mem mem' h R = rw (second-some kind (length mem) l p (le-ltb kind 2 h)) R
+
+-- one list behind the other
+both-words : (a b mem : List ℕ) → a ++ (b ++ drop (length b) (drop (length a) mem)) ≡ memoryWith a b mem
 unfolding memoryWith
-question-read l mem mem' start word list o end out es ew R eo ee e = record {
-  read = asked-is (length mem) l start word es ew (list .value) (list .after) o out end (R .count) (R .place) eo e ee;
-  memory = rw (← list-is (length mem) l start word es ew) (R .words);
-}
+both-words a b mem = ap (λ (t : List ℕ). a ++ (b ++ t)) (drop-drop (length b) (length a) mem) ∙ sym (append-assoc a b _) ∙ ap (λ (n : ℕ). (a ++ b) ++ drop n mem) (sym (length-append a b))
 
--- ---- the list of a question, in the memory
+first-read : (n : Numbers) (r : Read) (mem mem' : List ℕ) → ReadList n r mem mem' → (take (r .value) mem' ≡ n .values) × (drop (r .value) mem' ≡ drop (length (n .values)) mem)
+first-read n r mem mem' R = (
+  rw (R .count, R .words) (take-append-seam (n .values) _),
+  rw (R .count, R .words) (drop-append-seam (n .values) _),
+)
+
+pub read-fits : (n : Numbers) (r : Read) (mem mem' : List ℕ) → ReadList n r mem mem' → r .value ≤ length mem'
+read-fits n r mem mem' R = rw (R .count, R .words, length-append (n .values) _) (omega arith)
+
+-- a part that is lent to its end
+to-end : (l : List ℕ) (k : ℕ) → take (length l - k) (drop k l) ≡ drop k l
+to-end l k = ap (λ (n : ℕ). take n (drop k l)) (sym (length-drop k l)) ∙ take-length (drop k l)
+
+past-end : (l part : List ℕ) (k : ℕ) → part ++ drop (length l - k) (drop k l) ≡ part
+past-end l part k = ap (λ (t : List ℕ). part ++ t) (drop-of-length-le (drop k l) {i = length l - k} (omega (arith, length-drop k l))) ∙ append-nil part
+
+pub lists-read : (kind : ℕ) (l : List ℕ) (p : Place) (a b : Read) (mem mid part : List ℕ) → ReadList (listAfter (length mem) l p) a mem mid
+    → ReadList (secondAfter kind (length (take (length mid - a .value) (drop (a .value) mid))) l (a .after)) b (take (length mid - a .value) (drop (a .value) mid)) part
+    → ReadLists (listsAfter kind (length mem) l p) (record { first = a .value; both = a .value + b .value; after = b .after }) mem (take (a .value) mid ++ (part ++ drop (length mid - a .value) (drop (a .value) mid)))
+unfolding listsAfter
+lists-read kind l p a b mem mid part A B =
+    let n = listAfter (length mem) l p in
+    let F = first-read n a mem mid A in
+    let m = secondAfter kind (length mem - length (n .values)) l (n .after) in
+    let r : take (length mid - a .value) (drop (a .value) mid) ≡ drop (length (n .values)) mem = to-end mid (a .value) ∙ F .1 in
+    let C : ReadList m b (drop (length (n .values)) mem) part = rw (r, length-drop (length (n .values)) mem, A .place) at B in
+    record {
+      count = A .count;
+      total = omega (arith, A .count, C .count, length-append (n .values) (m .values));
+      place = C .place;
+      memory = ap₂ (λ (x y : List ℕ). x ++ y) (F .0) (past-end mid part (a .value) ∙ C .words) ∙ both-words (n .values) (m .values) mem;
+    }
+
+pub question-read : (l mem mem' : List ℕ) (start : Place) (word : Read) (lists : ListsRead) (o : Options) (end : Place) (out : ℕ)
+    → start ≡ startOf l → word ≡ wordAfter l start → ReadLists (listsAfter (word .value) (length mem) l (word .after)) lists mem mem' → o ≡ optionsAfter l (lists .after)
+    → end ≡ endAfter l (o .after) → out ≡ valueOr 65536 (getD (o .values) 1 0)
+    → ReadQuestion (questionOf (length mem) l) (record { kind = word .value; first = lists .first; both = lists .both; out = out; after = end }) mem mem'
+unfolding questionOf
+question-read l mem mem' start word lists o end out es ew R eo ee e =
+    rw (← es, ← ew) (record { read = rw (e, ee, eo, R .place, R .count, R .total); memory = R .memory })
+
+-- ---- the lists of a question, in the memory
 
 module _ (q : Question) (r : ListRead) (mem mem' : List ℕ) (R : ReadQuestion q r mem mem') where
-  count-is : r .count ≡ length (q .list)
-  count-is = ap (λ (a : ListRead). a .count) (R .read)
+  first-is : r .first ≡ length (q .first)
+  first-is = ap (λ (a : ListRead). a .first) (R .read)
 
-  pub list-fits : r .count ≤ length mem'
-  unfolding memoryWith
-  list-fits = rw (count-is, R .memory, length-append (q .list) _) (omega arith)
+  both-is : r .both ≡ length (q .first ++ q .second)
+  both-is = ap (λ (a : ListRead). a .both) (R .read)
 
-  list-there : take (r .count) mem' ≡ q .list
+  pub lists-fit : r .both ≤ length mem'
   unfolding memoryWith
-  list-there = rw (count-is, R .memory) (take-append-seam (q .list) _)
+  lists-fit = rw (both-is, R .memory, length-append (q .first ++ q .second) _) (omega arith)
+
+  lists-there : take (r .both) mem' ≡ q .first ++ q .second
+  unfolding memoryWith
+  lists-there = rw (both-is, R .memory) (take-append-seam (q .first ++ q .second) _)
+
+  pub first-fits : r .first ≤ length (take (r .both) mem')
+  first-fits = rw (lists-there, first-is, length-append (q .first) (q .second)) (omega arith)
+
+  first-there : take (r .first) (take (r .both) mem') ≡ q .first
+  first-there = rw (lists-there, first-is) (take-append-seam (q .first) (q .second))
+
+  second-there : drop (r .first) (take (r .both) mem') ≡ q .second
+  second-there = rw (lists-there, first-is) (drop-append-seam (q .first) (q .second))
 
 -- ---- what is asked for, within a part of the output
 
-module _ (cells : Bool) (list : List ℕ) (r : Answer) (out out' : List ℕ) where
-  pub answered-cells : cells ≡ true → Answered (cellsResult list (length out)) r out out' → Answered (resultFor cells list (length out)) r out out'
-  unfolding resultFor
-  answered-cells h A = rw (resultFor, h) A
+pub op-last : (k : ℕ) → (k ≡ 0 → ⊥) → (k ≡ 1 → ⊥) → Op.Difference ≡ opOf k
+unfolding opOf
+op-last zero a b = absurd (a refl)
+op-last (suc zero) a b = absurd (b refl)
+op-last (suc (suc k)) a b = refl
 
-  pub answered-pairs : cells ≡ false → Answered (pairsResult list (length out)) r out out' → Answered (resultFor cells list (length out)) r out out'
+module _ (kind : ℕ) (a b : List ℕ) (r : Answer) (out out' : List ℕ) where
+  pub answered-pairs : kind ≡ 0 → Answered (pairsResult a (length out)) r out out' → Answered (resultFor kind a b (length out)) r out out'
   unfolding resultFor
-  answered-pairs h A = rw (resultFor, h) A
+  answered-pairs h A = rw (resultFor, eq-eqb kind 0 h) A
 
-pub answered-in : (cells : Bool) (list : List ℕ) (asked : ℕ) (r : Answer) (out part : List ℕ) (o : ℕ) → o ≡ min asked (length out)
-    → Answered (resultFor cells list (length (take o out))) r (take o out) part → AnsweredIn cells list asked r out (part ++ drop o out)
+  pub answered-cells : (kind ≡ 0 → ⊥) → kind ≡ 1 → Answered (cellsResult a (length out)) r out out' → Answered (resultFor kind a b (length out)) r out out'
+  unfolding resultFor
+  answered-cells g h A = rw (resultFor, ne-eqb kind 0 g, eq-eqb kind 1 h) A
+
+  pub answered-set : (kind ≡ 0 → ⊥) → (kind ≡ 1 → ⊥) → (op : Op) → op ≡ opOf (kind - 2) → Answered (setResult op a b (length out)) r out out' → Answered (resultFor kind a b (length out)) r out out'
+  unfolding resultFor
+  answered-set g h op e A = rw (resultFor, ne-eqb kind 0 g, ne-eqb kind 1 h, ← e) A
+
+pub answered-in : (kind : ℕ) (lists : List ℕ) (first asked : ℕ) (r : Answer) (out part : List ℕ) (o : ℕ) → o ≡ min asked (length out)
+    → Answered (resultFor kind (take first lists) (take (length lists - first) (drop first lists)) (length (take o out))) r (take o out) part
+    → AnsweredIn kind (take first lists) (drop first lists) asked r out (part ++ drop o out)
 unfolding resultIn
-answered-in cells list asked r out part o e = rw (e, length-min, take-min, drop-min) (λ A. record {
+answered-in kind lists first asked r out part o e = rw (e, to-end lists first, length-min, take-min, drop-min) (λ A. record {
   answer = A .answer;
   output = ap (λ (l : List ℕ). l ++ drop asked out) (A .output);
 })
@@ -104,31 +168,48 @@ unfolding answerOf outputAfter answerText resultText
 answer-text (refused n) out rest = refl
 answer-text (done l) out rest = ap listText (ap (take (length l)) (append-assoc l _ rest) ∙ take-append-seam l _)
 
-pub answer-fits : (cells : Bool) (list : List ℕ) (asked : ℕ) (a : Answer) (out out' : List ℕ) → AnsweredIn cells list asked a out out' → wordsOf a ≤ length out'
-answer-fits cells list asked a out out' A = rw (A .answer, A .output) (count-fits (resultIn cells list asked out) _ _)
+pub answer-fits : (kind : ℕ) (a b : List ℕ) (asked : ℕ) (r : Answer) (out out' : List ℕ) → AnsweredIn kind a b asked r out out' → wordsOf r ≤ length out'
+answer-fits kind a b asked r out out' A = rw (A .answer, A .output) (count-fits (resultIn kind a b asked out) _ _)
 
 -- ---- the length of an answer: it has no more numbers than the output has places
 
 abbrev Short : ℕ → Result → Type 0
 Short room R = length (resultText R) ≤ 17 * room + 256
 
-result-short : (good : Bool) (l : List ℕ) (room : ℕ) → Short room (Ranges.resultOf good l room)
-unfolding Ranges.resultOf resultText
-result-short false l room = omega (arith, refused-length 25)
-result-short true l room = by (leb (length l) room) (λ h. leb-true _ _ h)
+fitted-short : (k : ℕ) (l : List ℕ) (room : ℕ) → Short room (fitted k l room)
+unfolding fitted resultText
+fitted-short k l room = by (leb (length l) room) (λ h. leb-true _ _ h)
   where
-    by : (b : Bool) → (b ≡ true → length l ≤ room) → Short room (elim b [ true ↦ done l | false ↦ refused 26 ])
+    by : (b : Bool) → (b ≡ true → length l ≤ room) → Short room (elim b [ true ↦ done l | false ↦ refused k ])
     by true h = omega (arith, list-length l, h refl)
-    by false h = omega (arith, refused-length 26)
+    by false h = omega (arith, refused-length k)
 
-for-short : (cells : Bool) (list : List ℕ) (room : ℕ) → Short room (resultFor cells list room)
-unfolding resultFor cellsResult pairsResult
-for-short true list room = result-short (isPairs list) (cellsOf list) room
-for-short false list room = result-short (isList list) (pairsOf list) room
+refused-short : (k room : ℕ) → Short room (refused k)
+unfolding resultText
+refused-short k room = omega (arith, refused-length k)
+
+unless-short : (good : Bool) (k room : ℕ) (R : Result) → Short room R → Short room (elim good [ false ↦ refused k | true ↦ R ])
+unless-short true k room R h = h
+unless-short false k room R h = refused-short k room
+
+for-short : (kind : ℕ) (a b : List ℕ) (room : ℕ) → Short room (resultFor kind a b room)
+unfolding resultFor cellsResult pairsResult setResult Ranges.resultOf
+for-short kind a b room = by (eqb kind 0) (eqb kind 1)
+  where
+    by : (p c : Bool) → Short room (elim p [
+      | true ↦ pairsResult a room
+      | false ↦ elim c [
+        | true ↦ cellsResult a room
+        | false ↦ setResult (opOf (kind - 2)) a b room
+      ]
+    ])
+    by true c = unless-short (isList a) 25 room _ (fitted-short 26 (pairsOf a) room)
+    by false true = unless-short (isPairs a) 25 room _ (fitted-short 26 (cellsOf a) room)
+    by false false = unless-short (isPickList a) 15 room _ (unless-short (isPickList b) 16 room _ (fitted-short 17 (setOf (opOf (kind - 2)) a b) room))
 
 question-short : (q : Question) (out : List ℕ) → length (resultText (resultOf q out)) ≤ 17 * length out + 256
 unfolding resultIn
-question-short q out = omega (arith, for-short (q .cells) (q .list) (min (q .out) (length out)))
+question-short q out = omega (arith, for-short (q .kind) (q .first) (q .second) (min (q .out) (length out)))
 
 -- ---- a question
 
@@ -151,9 +232,9 @@ module _ (number : ℕ) (q : Question) (out : List ℕ) (p : Place) where
     unfolding outputAt
     output-bad = rw e
 
-of-question : (q : Question) (a : Answer) (out out' : List ℕ) (cells : Bool) (list : List ℕ) (asked : ℕ) → cells ≡ q .cells → list ≡ q .list → asked ≡ q .out
-    → AnsweredIn cells list asked a out out' → AnsweredIn (q .cells) (q .list) (q .out) a out out'
-of-question q a out out' cells list asked ec el eo = rw (ec, el, eo) (λ A. A)
+of-question : (q : Question) (r : Answer) (out out' : List ℕ) (kind : ℕ) (a b : List ℕ) (asked : ℕ) → kind ≡ q .kind → a ≡ q .first → b ≡ q .second → asked ≡ q .out
+    → AnsweredIn kind a b asked r out out' → AnsweredIn (q .kind) (q .first) (q .second) (q .out) r out out'
+of-question q r out out' kind a b asked ek ea eb eo = rw (ek, ea, eb, eo) (λ A. A)
 
 module _ (number : ℕ) (q : Question) (asked : ListRead) (mem mem' out page : List ℕ) (r : ℕ) (page' : List ℕ) (room : 17 * length out + 256 ≤ length page) (R : ReadQuestion q asked mem mem') where
   place-is : (p : Place) → asked .after ≡ p → q .after ≡ p
@@ -168,11 +249,13 @@ module _ (number : ℕ) (q : Question) (asked : ListRead) (mem mem' out page : L
         output = rw (output-bad number q out (q .after) f p);
       }
 
-  pub told-asked : (end : ℕ) (a : Answer) (out' : List ℕ) → asked .after ≡ Place.At end → AnsweredIn (asked .cells) (take (asked .count) mem') (asked .out) a out out' → Wrote 0 (answerText a out') page r page'
+  pub told-asked : (end : ℕ) (a : Answer) (out' : List ℕ) → asked .after ≡ Place.At end
+      → AnsweredIn (asked .kind) (take (asked .first) (take (asked .both) mem')) (drop (asked .first) (take (asked .both) mem')) (asked .out) a out out' → Wrote 0 (answerText a out') page r page'
       → Told number q mem mem' out out' page r page'
   told-asked end a out' e B w =
       let p : q .after ≡ Place.At end = place-is (Place.At end) e in
-      let A : AnsweredIn (q .cells) (q .list) (q .out) a out out' = of-question q a out out' _ _ _ (ap (λ (a : ListRead). a .cells) (R .read)) (list-there q asked mem mem' R) (ap (λ (a : ListRead). a .out) (R .read)) B in
+      let A : AnsweredIn (q .kind) (q .first) (q .second) (q .out) a out out' =
+      of-question q a out out' _ _ _ _ (ap (λ (a : ListRead). a .kind) (R .read)) (first-there q asked mem mem' R) (second-there q asked mem mem' R) (ap (λ (a : ListRead). a .out) (R .read)) B in
       let t : answerText a out' ≡ resultText (resultOf q out) = rw (A .answer, A .output) (answer-text (resultOf q out) _ _) in
       record {
         wrote = rw (text-asked number q out (q .after) end p) (wrote-whole (omega (arith, question-short q out)) (rw t at w));

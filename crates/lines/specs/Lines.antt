@@ -1,16 +1,16 @@
--- What any line of `cover` asks, and its answer: about a list, `ranges COUNT ID... [options]` or `cells COUNT FIRST LAST... [options]`; or of the coverer, as
--- `requests` has it.
+-- What any line of `cover` asks, and its answer: about a list, `ranges COUNT ID... [options]` or `cells COUNT FIRST LAST... [options]`; about two lists,
+-- `union|common|difference COUNT ID... COUNT ID... [options]`; or of the coverer, as `requests` has it.
 use mathlib.Core.Path.{_≡_}
-use mathlib.Core.Bool.{Bool, true, false, _||_}
-use mathlib.Core.List.{List, _++_}
-use Prim.Native.Nat.{ℕ, min}
-use lib.Dec.{eqb}
+use mathlib.Core.Bool.{Bool, true, false}
+use mathlib.Core.List.{List, [], _∷_, _++_}
+use Prim.Native.Nat.{ℕ, _-_, min}
+use lib.Dec.{ltb, eqb}
 use lib.ListN.{length, getD, take, drop}
 use Rattle.text.specs.Ascii.{ascii}
 use Rattle.text.specs.declared.Fault.{Fault}
 use Rattle.text.specs.declared.Place.{Place}
 use Rattle.text.specs.declared.Read.{Read}
-use Rattle.text.specs.Text.{same, bytesOf, fieldAt, choiceAfter, listAfter, endAfter, startOf}
+use Rattle.text.specs.Text.{Numbers, choiceAfter, listAfter, endAfter, startOf}
 use Rattle.replies.specs.Write.{Whole, refusedText, listText, errorText}
 use Rattle.requests.specs.Line.{valueOr, optionsAfter}
 use Rattle.requests.specs.Requests.{onFirst}
@@ -18,69 +18,105 @@ use Rattle.requests.specs.Requests as Requests
 use Rattle.ranges.specs.declared.Answer.{Answer}
 use Rattle.ranges.specs.Ranges.{Result, pairsResult, cellsResult, answerOf, outputAfter}
 use Rattle.ranges.specs.Ranges as Ranges
+use Rattle.sets.specs.declared.Op.{Op}
+use Rattle.sets.specs.Sets.{setResult}
 use Rattle.lines.specs.declared.ListRead.{ListRead}
+use Rattle.lines.specs.declared.ListsRead.{ListsRead}
 
--- ---- a question about a list
+-- ---- a question about lists
 
--- the words that ask one
+-- the words that ask one: two about one list, three about two
 abbrev pub words : List ℕ
-words = ascii "ranges cells"
+words = ascii "ranges cells union common difference"
 
 -- which of them the next field is, counted from 0
 unfoldable pub wordAfter : List ℕ → Place → Read
-wordAfter l p = choiceAfter words 2 Fault.UnknownKind l p
+wordAfter l p = choiceAfter words 5 Fault.UnknownKind l p
+
+unfoldable pub isAt : Place → Bool
+isAt (Place.At at) = true
+isAt (Place.Bad f) = false
 
 -- the line's first field is one of them
 unfoldable pub asksList : List ℕ → Bool
-asksList l = same (ascii "ranges") (bytesOf l (fieldAt l 0)) || same (ascii "cells") (bytesOf l (fieldAt l 0))
+asksList l = isAt (wordAfter l (Place.At 0) .after)
 
--- whether cells are asked for, or pairs; the list, the places of output, and the line's end, or what is wrong with the line
+-- the second list; none where the word asks about one
+unfoldable pub secondAfter : ℕ → ℕ → List ℕ → Place → Numbers
+secondAfter kind most l p = elim (ltb kind 2) [ true ↦ record { values = []; after = p } | false ↦ listAfter most l p ]
+
+-- the lists, and the place after them
+pub record Lists : Type 0 where
+  pub first : List ℕ
+  pub second : List ℕ
+  pub after : Place
+
+-- at most so many words in both
+unfoldable pub listsAfter : ℕ → ℕ → List ℕ → Place → Lists
+listsAfter kind most l p =
+    let a = listAfter most l p in
+    let b = secondAfter kind (most - length (a .values)) l (a .after) in
+    record { first = a .values; second = b .values; after = b .after }
+
+-- the number of the word, the lists, the places of output, and the line's end, or what is wrong with the line
 pub record Question : Type 0 where
-  pub cells : Bool
-  pub list : List ℕ
+  pub kind : ℕ
+  pub first : List ℕ
+  pub second : List ℕ
   pub out : ℕ
   pub after : Place
 
--- one part after another, at most so many words in the list; of the options out= alone says anything
+-- one part after another; of the options out= alone says anything
 unfoldable pub questionOf : ℕ → List ℕ → Question
 questionOf most l =
     let word = wordAfter l (startOf l) in
-    let list = listAfter most l (word .after) in
-    let o = optionsAfter l (list .after) in
-    record { cells = eqb (word .value) 1; list = list .values; out = valueOr 65536 (getD (o .values) 1 0); after = endAfter l (o .after) }
+    let lists = listsAfter (word .value) most l (word .after) in
+    let o = optionsAfter l (lists .after) in
+    record { kind = word .value; first = lists .first; second = lists .second; out = valueOr 65536 (getD (o .values) 1 0); after = endAfter l (o .after) }
 
 -- ---- what it comes to
 
+-- which leaves of two lists are asked for, by the place of the word among the last three
+unfoldable pub opOf : ℕ → Op
+opOf k = getD (Op.Union ∷ Op.Common ∷ []) k Op.Difference
+
 -- with so many places of output
-unfoldable pub resultFor : Bool → List ℕ → ℕ → Result
-resultFor cells list room = elim cells [ true ↦ cellsResult list room | false ↦ pairsResult list room ]
+unfoldable pub resultFor : ℕ → List ℕ → List ℕ → ℕ → Result
+resultFor kind a b room = elim (eqb kind 0) [
+  | true ↦ pairsResult a room
+  | false ↦ elim (eqb kind 1) [
+    | true ↦ cellsResult a room
+    | false ↦ setResult (opOf (kind - 2)) a b room
+  ]
+]
 
 -- with as much of an output as is asked for, as far as there is
-unfoldable pub resultIn : Bool → List ℕ → ℕ → List ℕ → Result
-resultIn cells list asked out = resultFor cells list (min asked (length out))
+unfoldable pub resultIn : ℕ → List ℕ → List ℕ → ℕ → List ℕ → Result
+resultIn kind a b asked out = resultFor kind a b (min asked (length out))
 
 abbrev pub resultOf : Question → List ℕ → Result
-resultOf q out = resultIn (q .cells) (q .list) (q .out) out
+resultOf q out = resultIn (q .kind) (q .first) (q .second) (q .out) out
 
 -- `ok COUNT NUMBER...` or `refused NUMBER`
 unfoldable pub resultText : Result → List ℕ
 resultText (Ranges.refused n) = refusedText n
 resultText (Ranges.done l) = listText l
 
--- ---- a question of some number: its answer's text, the working memory, in which its list was read, and the output afterwards
+-- ---- a question of some number: its answer's text, the working memory, in which its lists were read, and the output afterwards
 
 unfoldable pub textAt : Place → ℕ → Question → List ℕ → List ℕ
 textAt (Place.At end) number q out = resultText (resultOf q out)
 textAt (Place.Bad f) number q out = errorText number f
 
-unfoldable pub memoryWith : Question → List ℕ → List ℕ
-memoryWith q mem = q .list ++ drop (length (q .list)) mem
+-- a list or two stand in the first words
+unfoldable pub memoryWith : List ℕ → List ℕ → List ℕ → List ℕ
+memoryWith a b mem = (a ++ b) ++ drop (length (a ++ b)) mem
 
 unfoldable pub outputAt : Place → Question → List ℕ → List ℕ
 outputAt (Place.At end) q out = onFirst (q .out) (outputAfter (resultOf q out)) out
 outputAt (Place.Bad f) q out = out
 
--- ---- any line: a list has at most as many words as the memory
+-- ---- any line: its lists have at most as many words as the memory
 
 unfoldable pub textOf : ℕ → List ℕ → List ℕ → List ℕ → List ℕ
 textOf number line mem out = elim (asksList line) [
@@ -89,7 +125,10 @@ textOf number line mem out = elim (asksList line) [
 ]
 
 unfoldable pub memoryOf : List ℕ → List ℕ → List ℕ → List ℕ
-memoryOf line mem out = elim (asksList line) [ true ↦ memoryWith (questionOf (length mem) line) mem | false ↦ Requests.memoryOf line mem out ]
+memoryOf line mem out = elim (asksList line) [
+  | true ↦ memoryWith (questionOf (length mem) line .first) (questionOf (length mem) line .second) mem
+  | false ↦ Requests.memoryOf line mem out
+]
 
 unfoldable pub outputOf : List ℕ → List ℕ → List ℕ → List ℕ
 outputOf line mem out = elim (asksList line) [
@@ -105,18 +144,25 @@ pub record Replied (number : ℕ) (line mem mem' out out' page : List ℕ) (r : 
 
 -- ---- for the functions that make up an answer
 
--- a question, its list aside
-abbrev pub readOf : Question → ListRead
-readOf q = record { cells = q .cells; count = length (q .list); out = q .out; after = q .after }
+-- the lists were read into the memory: how many words the first has, and both
+pub record ReadLists (n : Lists) (r : ListsRead) (mem mem' : List ℕ) : Type 0 where
+  pub count : r .first ≡ length (n .first)
+  pub total : r .both ≡ length (n .first ++ n .second)
+  pub place : r .after ≡ n .after
+  pub memory : mem' ≡ memoryWith (n .first) (n .second) mem
 
--- it was read, its list into the memory
+-- a question, its lists aside
+abbrev pub readOf : Question → ListRead
+readOf q = record { kind = q .kind; first = length (q .first); both = length (q .first ++ q .second); out = q .out; after = q .after }
+
+-- it was read, its lists into the memory
 pub record ReadQuestion (q : Question) (r : ListRead) (mem mem' : List ℕ) : Type 0 where
   pub read : r ≡ readOf q
-  pub memory : mem' ≡ memoryWith q mem
+  pub memory : mem' ≡ memoryWith (q .first) (q .second) mem
 
-pub record AnsweredIn (cells : Bool) (list : List ℕ) (asked : ℕ) (r : Answer) (out out' : List ℕ) : Type 0 where
-  pub answer : r ≡ answerOf (resultIn cells list asked out)
-  pub output : out' ≡ onFirst asked (outputAfter (resultIn cells list asked out)) out
+pub record AnsweredIn (kind : ℕ) (a b : List ℕ) (asked : ℕ) (r : Answer) (out out' : List ℕ) : Type 0 where
+  pub answer : r ≡ answerOf (resultIn kind a b asked out)
+  pub output : out' ≡ onFirst asked (outputAfter (resultIn kind a b asked out)) out
 
 -- the text of an answer, its numbers taken from the output's first places
 unfoldable pub answerText : Answer → List ℕ → List ℕ
@@ -126,5 +172,5 @@ answerText (Answer.Refused n) out = refusedText n
 -- a question of some number was answered
 pub record Told (number : ℕ) (q : Question) (mem mem' out out' page : List ℕ) (r : ℕ) (page' : List ℕ) : Type 0 where
   pub wrote : Whole (textAt (q .after) number q out) page r page'
-  pub memory : mem' ≡ memoryWith q mem
+  pub memory : mem' ≡ memoryWith (q .first) (q .second) mem
   pub output : out' ≡ outputAt (q .after) q out

@@ -1,79 +1,139 @@
-// Any line of `cover`, answered: a question about a list, `ranges COUNT ID... [options]` or `cells COUNT FIRST LAST... [options]`, is asked of `ranges`, any
-// other line of `requests`.
+// Any line of `cover`, answered: a question about a list, `ranges COUNT ID... [options]` or `cells COUNT FIRST LAST... [options]`, is asked of `ranges`, one
+// about two lists, `union|common|difference COUNT ID... COUNT ID... [options]`, of `sets`, any other line of `requests`.
 ghost use mathlib.Core.Path.{_≡_};
 ghost use Prim.Native.Nat.{_+_, _*_, _≤_};
-ghost use lib.ListN.{length};
+ghost use lib.ListN.{length, take, drop};
+ghost use Rattle.text.specs.Text.{ReadList};
 ghost use Rattle.ranges.specs.Ranges.{wordsOf, Answered};
 ghost use Rattle.replies.specs.Write.{Wrote};
-ghost use Rattle.lines.specs.Lines.{wordAfter, asksList, questionOf, ReadQuestion, resultFor, AnsweredIn, answerText, Told, Replied};
+ghost use Rattle.lines.specs.Lines.{wordAfter, asksList, secondAfter, listsAfter, ReadLists, questionOf, ReadQuestion, opOf, resultFor, AnsweredIn, answerText, Told, Replied};
 use ranges::Answer;
+use sets::Op;
 use text::Fault;
 use text::Place;
 use text::Read;
 
-// What is asked about the list in the memory's first words: cells, or pairs; how many words it has, how many places of output may be filled; and the line's
-// end, or what is wrong with the line.
+// Lists in the memory's first words: how many words the first has, how many both have; and the place after them.
+struct ListsRead {
+    first: usize,
+    both: usize,
+    after: Place,
+}
+
+// What is asked about the lists in the memory's first words: the number of the word; how many words the first list has, how many both have; how many places
+// of output may be filled; and the line's end, or what is wrong with the line.
 struct ListRead {
-    cells: bool,
-    count: usize,
+    kind: u64,
+    first: usize,
+    both: usize,
     out: u64,
     after: Place,
 }
 
-// The word for what is asked about a list, counted from 0.
+// The word for what is asked about lists, counted from 0.
 fn read_word(line: &[u8], p: Place) -> Read
     ensures { λ r. ⌜ r ≡ wordAfter (now (line .entry)) p ⌝ }
 {
-    text::read_choice(line, p, b"ranges cells", 2, Fault::UnknownKind)
+    text::read_choice(
+        line,
+        p,
+        b"ranges cells union common difference",
+        5,
+        Fault::UnknownKind,
+    )
 }
 
 // Whether a line begins with such a word.
 fn asks_list(line: &[u8]) -> bool
     ensures { λ r. ⌜ r ≡ asksList (now (line .entry)) ⌝ }
 {
-    if text::is_word(b"ranges", line, 0) {
-        return true;
+    let word = read_word(line, Place::At(0));
+    let after = word.after;
+    match after {
+        Place::At(_) => true,
+        Place::Bad(_) => false,
     }
-    text::is_word(b"cells", line, 0)
 }
 
-// The question that a line is, its list read into the memory.
+// The second list, into the memory; none where the word asks about one.
+fn read_second(line: &[u8], p: Place, kind: u64, mem: &mut [u64]) -> Read
+    ensures { λ r. ⌜ ReadList (secondAfter kind (length (now (mem .entry))) (now (line .entry)) p) r (now (mem .entry)) (now (mem .exit)) ⌝ }
+{
+    if kind < 2 {
+        return Read { value: 0, after: p };
+    }
+    text::read_list(line, p, mem)
+}
+
+// The lists, one behind the other into the memory.
+fn read_lists(line: &[u8], p: Place, kind: u64, mem: &mut [u64]) -> ListsRead
+    ensures { λ r. ⌜ ReadLists (listsAfter kind (length (now (mem .entry))) (now (line .entry)) p) r (now (mem .entry)) (now (mem .exit)) ⌝ }
+{
+    let a = text::read_list(line, p, mem);
+    let first = a.value as usize;
+    let pa = a.after;
+    let b = read_second(line, pa, kind, &mut mem[first..]);
+    let after = b.after;
+    ListsRead {
+        first,
+        both: first + b.value as usize,
+        after,
+    }
+}
+
+// The question that a line is, its lists read into the memory.
 fn read_question(line: &[u8], mem: &mut [u64]) -> ListRead
     ensures { λ r. ⌜ ReadQuestion (questionOf (length (now (mem .entry))) (now (line .entry))) r (now (mem .entry)) (now (mem .exit)) ⌝ }
 {
     let start = text::read_start(line);
     let word = read_word(line, start);
     let pw = word.after;
-    let list = text::read_list(line, pw, mem);
-    let pl = list.after;
+    let lists = read_lists(line, pw, word.value, mem);
+    let pl = lists.after;
     let o = requests::read_options(line, pl);
     let po = o.after;
     let values = o.values;
     let after = text::read_end(line, po);
     ListRead {
-        cells: word.value == 1,
-        count: list.value as usize,
+        kind: word.value,
+        first: lists.first,
+        both: lists.both,
         out: requests::value_or(65536, values[1]),
         after,
     }
 }
 
-// Answers with the output that is lent: its length is that which it is answered for.
-fn answer_for(cells: bool, list: &[u64], out: &mut [u64]) -> Answer
-    ensures { λ r. ⌜ Answered (resultFor cells (now (list .entry)) (length (now (out .entry)))) r (now (out .entry)) (now (out .exit)) ⌝ }
+// Which leaves of two lists are asked for, by the place of the word among the last three.
+fn op_of(k: u64) -> Op
+    ensures { λ r. ⌜ r ≡ opOf k ⌝ }
 {
-    if cells {
-        return ranges::cells(list, out);
+    match k {
+        0 => Op::Union,
+        1 => Op::Common,
+        _ => Op::Difference,
     }
-    ranges::pairs(list, out)
 }
 
-// Answers with as much of the output as is asked for.
-fn answer_in(cells: bool, list: &[u64], asked: u64, out: &mut [u64]) -> Answer
-    ensures { λ r. ⌜ AnsweredIn cells (now (list .entry)) asked r (now (out .entry)) (now (out .exit)) ⌝ }
+// Answers with the output that is lent: its length is that which it is answered for.
+fn answer_for(kind: u64, a: &[u64], b: &[u64], out: &mut [u64]) -> Answer
+    ensures { λ r. ⌜ Answered (resultFor kind (now (a .entry)) (now (b .entry)) (length (now (out .entry)))) r (now (out .entry)) (now (out .exit)) ⌝ }
+{
+    if kind == 0 {
+        return ranges::pairs(a, out);
+    }
+    if kind == 1 {
+        return ranges::cells(a, out);
+    }
+    sets::combine(op_of(kind - 2), a, b, out)
+}
+
+// Answers with as much of the output as is asked for; of the lists' words so many are the first's.
+fn answer_in(kind: u64, lists: &[u64], first: usize, asked: u64, out: &mut [u64]) -> Answer
+    requires { ⌜ first ≤ length (now lists) ⌝ }
+    ensures { λ r. ⌜ AnsweredIn kind (take first (now (lists .entry))) (drop first (now (lists .entry))) asked r (now (out .entry)) (now (out .exit)) ⌝ }
 {
     let o = requests::lesser(asked as usize, out.len());
-    answer_for(cells, list, &mut out[..o])
+    answer_for(kind, &lists[..first], &lists[first..], &mut out[..o])
 }
 
 // Writes an answer, with the numbers that stand in the output's first places.
@@ -87,7 +147,7 @@ fn put_answer(a: Answer, out: &[u64], page: &mut [u8]) -> usize
     }
 }
 
-// The answer to a line that asks about a list.
+// The answer to a line that asks about lists.
 fn answer_list(line: &[u8], number: u64, mem: &mut [u64], out: &mut [u64], page: &mut [u8]) -> usize
     requires { ⌜ 17 * length (now out) + 256 ≤ length (now page) ⌝ }
     ensures { λ r. ⌜ Told number (questionOf (length (now (mem .entry))) (now (line .entry))) (now (mem .entry)) (now (mem .exit)) (now (out .entry)) (now (out .exit)) (now (page .entry)) r (now (page .exit)) ⌝ }
@@ -96,8 +156,8 @@ fn answer_list(line: &[u8], number: u64, mem: &mut [u64], out: &mut [u64], page:
     let after = q.after;
     match after {
         Place::At(_) => {
-            let count = q.count;
-            let a = answer_in(q.cells, &mem[..count], q.out, out);
+            let both = q.both;
+            let a = answer_in(q.kind, &mem[..both], q.first, q.out, out);
             put_answer(a, out, page)
         }
         Place::Bad(f) => replies::put_error(page, number, f),

@@ -1,25 +1,30 @@
 -- `lines::answer_list`: a question, or a fault.
 use mathlib.Core.Path.{sym}
 use lib.Seq.{length-take-le}
-use Rattle.lines.proofs.Laws.{list-fits, answer-fits, told-asked, told-bad}
+use Rattle.lines.proofs.Laws.{lists-fit, first-fits, answer-fits, told-asked, told-bad}
 use borrow.Author.Needs.{needs}
 use Rattle.lines.proofs.answer_list.Statement.{statement}
 use Rattle.lines.proofs.answer_list.Tie as tie
 
 slice-reshare-prefix-answer-in : tie.Need-slice-reshare-prefix-answer-in
-slice-reshare-prefix-answer-in c = list-fits _ (c .before .before .before .before .read-question .result) _ _ (c .before .before .before .before .read-question .ensures)
+slice-reshare-prefix-answer-in c = lists-fit _ (c .before .before .before .before .read-question .result) _ _ (c .before .before .before .before .read-question .ensures)
 
 slice-aggregate-answer-in : tie.Need-slice-aggregate-answer-in
-slice-aggregate-answer-in c = sym (length-take-le _ _ (list-fits _ (c .before .before .before .before .before .read-question .result) _ _ (c .before .before .before .before .before .read-question .ensures)))
+slice-aggregate-answer-in c = sym (length-take-le _ _ (lists-fit _ (c .before .before .before .before .before .read-question .result) _ _ (c .before .before .before .before .before .read-question .ensures)))
+
+answer-in-requires : tie.Need-answer-in-requires
+answer-in-requires c κs = first-fits _ (c .before .before .before .before .before .before .read-question .result) _ _ (c .before .before .before .before .before .before .read-question .ensures)
 
 put-answer-requires : tie.Need-put-answer-requires
-put-answer-requires c κs = answer-fits _ _ _ _ _ _ (c .before .before .before .before .answer-in .ensures)
+put-answer-requires c κs = answer-fits _ _ _ _ _ _ _ (c .before .before .before .before .answer-in .ensures)
 
 returns : tie.Need-returns
-returns c = told-asked _ _ (c .before .before .before .before .before .before .before .before .before .before .before .before .before .before .read-question .result) _ _ _ _ _ _ (c .before .before .before .before .before .before .before .before .before .before .before .before .before .before .before .before .before .before .before .before .pre) (c .before .before .before .before .before .before .before .before .before .before .before .before .before .before .read-question .ensures) _ (c .before .before .before .before .before .before .before .answer-in .result) _ (c .before .before .before .before .before .before .before .before .before .before .enum-told .given .1) (c .before .before .before .before .before .before .before .answer-in .ensures) (c .before .before .put-answer .ensures)
+returns c = let q = c .before .before .before .before .before .before .before .before .before .before .before .before .before .before in
+    told-asked _ _ (q .read-question .result) _ _ _ _ _ _ (q .before .before .before .before .before .before .pre) (q .read-question .ensures) _ (c .before .before .before .before .before .before .before .answer-in .result) _ (c .before .before .before .before .before .before .before .before .before .before .enum-told .given .1) (c .before .before .before .before .before .before .before .answer-in .ensures) (c .before .before .put-answer .ensures)
 
 returns-2 : tie.Need-returns-2
-returns-2 c = told-bad _ _ (c .before .before .before .before .before .before .before .before .before .read-question .result) _ _ _ _ _ _ (c .before .before .before .before .before .before .before .before .before .before .before .before .before .before .before .pre) (c .before .before .before .before .before .before .before .before .before .read-question .ensures) _ (c .before .before .before .before .before .after .given .1) (c .before .before .put-error .ensures)
+returns-2 c = let q = c .before .before .before .before .before .before .before .before .before in
+    told-bad _ _ (q .read-question .result) _ _ _ _ _ _ (q .before .before .before .before .before .before .pre) (q .read-question .ensures) _ (c .before .before .before .before .before .after .given .1) (c .before .before .put-error .ensures)
 
 pub answer-list-spec : {M : Type 1} → statement M
 answer-list-spec =
@@ -29,7 +34,7 @@ answer-list-spec =
     (λ c. search needs)
     slice-reshare-prefix-answer-in
     slice-aggregate-answer-in
-    (λ c κs. search needs)
+    answer-in-requires
     put-answer-requires
     (λ c. search needs)
     (λ c κs. search needs)

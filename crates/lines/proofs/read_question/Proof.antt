@@ -5,7 +5,10 @@ use Rattle.lines.proofs.read_question.Statement.{statement}
 use Rattle.lines.proofs.read_question.Tie as tie
 
 returns : tie.Need-returns
-returns c = question-read _ _ _ (c .before .before .before .before .before .before .before .before .before .before .read-start .result) (c .before .before .before .before .before .before .before .before .before .read-word .result) (c .before .before .before .before .before .before .before .read-list .result) (c .before .before .before .before .read-options .result) _ _ (c .before .before .before .before .before .before .before .before .before .before .read-start .ensures) (c .before .before .before .before .before .before .before .before .before .read-word .ensures) (c .before .before .before .before .before .before .before .read-list .ensures) (c .before .before .before .before .read-options .ensures) (c .before .before .read-end .ensures) (c .value-or .ensures)
+returns c = let lists = c .before .before .before .before .before .before in
+    let word = lists .before .before in
+    question-read _ _ _ (word .before .read-start .result) (word .read-word .result) (lists .read-lists .result) (c .before .before .before .read-options .result) _ _
+    (word .before .read-start .ensures) (word .read-word .ensures) (lists .read-lists .ensures) (c .before .before .before .read-options .ensures) (c .before .read-end .ensures) (c .value-or .ensures)
 
 pub read-question-spec : {M : Type 1} → statement M
 read-question-spec =
