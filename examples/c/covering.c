@@ -1,5 +1,5 @@
-/* Coverings from C: a cap that is covered, a cell region, a list as leaf ranges and back, and three refusals. Writes what comes back;
- * exits with 1 where it is not what papers 01 and 02 say. */
+/* Coverings from C: a cap that is covered, a cell region, a list as leaf ranges and back, two lists as one, and three refusals. Writes
+ * what comes back; exits with 1 where it is not what papers 01 and 02 say. */
 #include <inttypes.h>
 #include <stdio.h>
 #include <string.h>
@@ -64,6 +64,17 @@ int main(void) {
     number = flaxbadger_cells(pair, 2, out, 64, &count);
     printf("and back: number %" PRIu64 ", %" PRIu64 " cells\n", number, count);
     ok &= number == 0 && count == 6 && memcmp(out, faces, sizeof faces) == 0;
+
+    /* Two customers' lists: the first three quarters of face 0, and its last three. Together they are the face; what they share is copied
+     * once instead of twice. */
+    const uint64_t quarters[4] = {UINT64_C(0x0400000000000000), UINT64_C(0x0c00000000000000), UINT64_C(0x1400000000000000), UINT64_C(0x1c00000000000000)};
+    const uint64_t *first = quarters, *second = quarters + 1;
+    number = flaxbadger_union(first, 3, second, 3, out, 64, &count);
+    printf("two lists as one: number %" PRIu64 ", %" PRIu64 " cells, %016" PRIx64 "\n", number, count, out[0]);
+    ok &= number == 0 && count == 1 && out[0] == faces[0];
+    number = flaxbadger_common(first, 3, second, 3, out, 64, &count);
+    printf("shared: number %" PRIu64 ", %" PRIu64 " cells, %016" PRIx64 " and %016" PRIx64 "\n", number, count, out[0], out[1]);
+    ok &= number == 0 && count == 2 && out[0] == quarters[1] && out[1] == quarters[2];
 
     puts(ok ? "as expected" : "NOT as expected");
     return ok ? 0 : 1;

@@ -1,5 +1,5 @@
-// Coverings from Rust: safe functions over the archive's, a covering of a cap, its leaf ranges, and two refusals. Exits with 1 where an answer
-// is not what papers 01 and 02 say.
+// Coverings from Rust: safe functions over the archive's, a covering of a cap, its leaf ranges, two coverings as one list, and refusals. Exits
+// with 1 where an answer is not what papers 01 and 02 say.
 
 extern "C" {
     fn flaxbadger_covering_cap(
@@ -9,6 +9,10 @@ extern "C" {
         count: &mut u64, steps: &mut u64, aside: &mut u64,
     ) -> u64;
     fn flaxbadger_ranges(ids: *const u64, ids_len: usize, out: *mut u64, out_len: usize, count: &mut u64) -> u64;
+    fn flaxbadger_union(
+        first: *const u64, first_len: usize, second: *const u64, second_len: usize,
+        out: *mut u64, out_len: usize, count: &mut u64,
+    ) -> u64;
 }
 
 /// Levels and the number of cells that are aimed at.
@@ -51,6 +55,16 @@ fn ranges(ids: &[u64]) -> Result<Vec<u64>, u64> {
     if number == 0 { Ok(out) } else { Err(number) }
 }
 
+/// The cells of either list, each piece of ground once, or the number of the refusal (15 or 16: which list). A union is never longer than both lists.
+fn union(first: &[u64], second: &[u64]) -> Result<Vec<u64>, u64> {
+    let (mut out, mut count) = (vec![0u64; first.len() + second.len()], 0);
+    let number = unsafe {
+        flaxbadger_union(first.as_ptr(), first.len(), second.as_ptr(), second.len(), out.as_mut_ptr(), out.len(), &mut count)
+    };
+    out.truncate(count as usize);
+    if number == 0 { Ok(out) } else { Err(number) }
+}
+
 fn main() {
     let mut mem = vec![0u64; 4096];
     let mut out = vec![0u64; 64];
@@ -82,8 +96,16 @@ fn main() {
         println!("as leaf ranges: {} pairs", words.len() / 2);
     }
     ok &= pairs.is_ok_and(|words| !words.is_empty() && words.windows(2).all(|w| w[0] <= w[1]));
+
+    let mut other = vec![0u64; 64];
+    let beside = covering(Coverer { min_level: 0, ..c }, [0.0006, 0.0, (1.0f64 - 0.0006 * 0.0006).sqrt()], 1e-6, 1000, &mut mem, &mut other);
+    other.truncate(beside.map_or(0, |done| done.count));
+    let both = union(list, &other);
+    println!("with a cap beside it: {} and {} cells, as one list {:?}", list.len(), other.len(), both.as_ref().map(Vec::len));
+    ok &= both.is_ok_and(|ids| !ids.is_empty() && ids.len() < list.len() + other.len() && ids.windows(2).all(|w| w[0] < w[1]));
+
     list.reverse();
-    ok &= ranges(list) == Err(25);
+    ok &= ranges(list) == Err(25) && union(list, &other) == Err(15) && union(&other, list) == Err(16);
 
     println!("{}", if ok { "as expected" } else { "NOT as expected" });
     std::process::exit(if ok { 0 } else { 1 });

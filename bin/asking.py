@@ -1,0 +1,60 @@
+"""How bin/order and bin/sets ask the proved program cover, and what they say where its answer, or their own list, was cut."""
+
+import os
+import subprocess
+import sys
+
+HERE = os.path.dirname(os.path.abspath(__file__))
+LONGEST = 262_144  # bytes of a line
+REFUSALS = {
+    1: "max_level is over 30",
+    2: "min_level is over max_level",
+    3: "level_mod is not 1, 2 or 3",
+    4: "max_cells is over 1,000",
+    5: "the region is outside the domain",
+    6: "the working memory is under 4,096 words",
+    7: "the queue would hold 1,025 candidates at once",
+    8: "a 1,025th raw cell would be kept",
+    9: "the allowance of steps is used up",
+    10: "the list is longer than the output",
+    15: "the first list is not valid, ascending and free of overlap, or has over 4,096 ids",
+    16: "the second list is not valid, ascending and free of overlap, or has over 4,096 ids",
+    17: "the answer is longer than the output",
+    25: "the list is not valid, ascending and free of overlap",
+    26: "the pairs are longer than the output",
+}
+
+
+def answers(who, lines):
+    """What cover answers to each of the lines. An answer that was cut ends the script, which is called who."""
+    try:
+        ran = subprocess.run([os.path.join(HERE, "cover")], input="".join(line + "\n" for line in lines), stdout=subprocess.PIPE, text=True)
+    except OSError as fault:
+        sys.exit(f"{who}: cover can't be run: {fault.strerror}")
+    written = ran.stdout.split("\n")
+    if ran.returncode != 0 or written[len(lines):] != [f"end {len(lines)}", ""]:
+        sys.exit(f"{who}: the answer of cover was cut (its status was {ran.returncode}), so nothing is listed")
+    return written[:len(lines)]
+
+
+def words(who, line, answer):
+    """The words after `ok`; a refusal or an error ends the script."""
+    first, *rest = answer.split(" ")
+    if first == "ok":
+        return rest
+    if first == "refused":
+        number = int(rest[0])
+        sys.exit(f"refused, number {number}: {REFUSALS.get(number, 'unknown')}")
+    sys.exit(f"{who}: {line!r} was answered {answer!r}")
+
+
+def run(who, main):
+    """Runs a script's main; where standard output fails, the script ends with status 1."""
+    if sys.stdout is None:
+        sys.exit(f"{who}: standard output is closed")
+    try:
+        main()
+        sys.stdout.flush()
+    except OSError as fault:
+        os.dup2(os.open(os.devnull, os.O_WRONLY), sys.stdout.fileno())  # so that Python doesn't try once more
+        sys.exit(f"{who}: the list was cut: {fault.strerror}")
