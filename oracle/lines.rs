@@ -12,6 +12,8 @@
 //!                            answer ok STEPS ASIDE COUNT ID... or refused NUMBER
 //!     ranges LIST [OPTION...], cells LIST [OPTION...]
 //!                            LIST COUNT NUMBER..., any numbers, at most 16,384; answer ok COUNT NUMBER... or refused NUMBER
+//!     union LIST LIST [OPTION...], common LIST LIST [OPTION...], difference LIST LIST [OPTION...]
+//!                            lists and answer as for ranges
 //!     trace KIND ...         the candidates that the run takes, COUNT COST:ID...; hooked builds only
 //!     levels R COUNT         the level for each of COUNT floats from R upwards in their bits, as runs LEVEL:HOW-MANY...
 //!     normalize LIST, denormalize MIN MOD LIST, normalize_covering MIN MAX MOD MAX_CELLS LIST
@@ -20,9 +22,10 @@
 //!     face_ij_orientation, cellid_from_point, vertices, edges, cell_cap_bound, sqrt, st_to_uv, uv_to_st, vertex_neighbors,
 //!     bound, starts
 //!
-//! The values are the Rust's. The papers' refusals 1 to 6, 10, 25 and 26 are decided here, around it; 7, 8 and 9 by the hooks.
+//! The values are the Rust's. The papers' refusals 1 to 6, 10, 15 to 17, 25 and 26 are decided here, around it; 7, 8 and 9 by the hooks.
 //! The Rust has no function for ranges: first and last leaf are its range_min and range_max, joined here; a pair's cells are
-//! those of its max_tile, in the loop that stands in its comment.
+//! those of its max_tile, in the loop that stands in its comment. Of two lists it has union, intersection and difference; only the
+//! first gives a normalised list whatever comes in, so its normalize goes over each answer here.
 //! Domains: ids are valid; floats are finite (but for cover's regions and sqrt); a point is_unit (but for is_unit itself);
 //! a cap is in paper 01's domain, a radius at most 4; vertex_neighbors asks for a level above the id's own.
 //! The build with the unmodified region.rs has no steps, set-aside totals, raw lists and start cells: it writes `-` for
@@ -449,20 +452,41 @@ fn cells(words: &[CellID]) -> Option<Vec<CellID>> {
     Some(tiles)
 }
 
+/// The answer with this list, or this refusal where the output has too few places.
+fn fitted(found: &[CellID], out: u64, refusal: u8) -> String {
+    if found.len() as u64 > out { format!("refused {refusal}") } else { format!("ok {}", list(found)) }
+}
+
 fn listed(make: fn(&[CellID]) -> Option<Vec<CellID>>, fields: &mut Fields) -> Result<String, Word> {
     let words = fields.numbers()?;
     let (_, out, _) = fields.options()?;
-    Ok(match make(&words) {
-        None => String::from("refused 25"),
-        Some(found) if found.len() as u64 > out => String::from("refused 26"),
-        Some(found) => format!("ok {}", list(&found)),
-    })
+    Ok(make(&words).map_or(String::from("refused 25"), |found| fitted(&found, out, 26)))
+}
+
+/// What the crate makes of two lists, normalised. They are given to it as they stand: contains_cellid, which is for normalised lists,
+/// doesn't see that four siblings hold their parent, but difference then looks at the parent's quarters, where it does.
+fn joined(make: fn(&CellUnion, &CellUnion) -> CellUnion, fields: &mut Fields) -> Result<String, Word> {
+    let (first, second) = (CellUnion(fields.numbers()?), CellUnion(fields.numbers()?));
+    let (_, out, _) = fields.options()?;
+    let taken = |list: &CellUnion| list.0.len() as u64 <= IDS && list.is_valid();
+    if !taken(&first) {
+        return Ok(String::from("refused 15"));
+    }
+    if !taken(&second) {
+        return Ok(String::from("refused 16"));
+    }
+    let mut found = make(&first, &second);
+    found.normalize();
+    Ok(fitted(&found.0, out, 17))
 }
 
 fn probe(question: &str, fields: &mut Fields) -> Result<String, Word> {
     Ok(match question {
         "ranges" => listed(ranges, fields)?,
         "cells" => listed(cells, fields)?,
+        "union" => joined(CellUnion::union, fields)?,
+        "common" => joined(CellUnion::intersection, fields)?,
+        "difference" => joined(CellUnion::difference, fields)?,
         "valid" => truth(CellID(fields.bits()?).is_valid()),
         "is_unit" => truth(fields.vector()?.is_unit()),
         "cell_contains_point" => {
