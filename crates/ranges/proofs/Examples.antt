@@ -8,13 +8,10 @@ use lib.Count.{trailingZeros}
 use borrow.Author.Tests.{le-leb}
 use Rattle.cellid.specs.CellId.{Cell, validId, firstLeaf, lastLeaf, lowBit}
 use Rattle.order.specs.Order.{All}
-use Rattle.cellunion.specs.CellUnion.{covers}
-use Rattle.ranges.specs.Ranges.{leaves, listed, listFrom, isList, pairBefore, pairsOf, inPairs, follows, pairsFrom, fits, sizeFrom, size, tileBy, tile, eachPair, fitted, resultOf, pairsResult, cellsResult, done}
+use Rattle.cellunion.specs.CellUnion.{covers, normalise}
+use Rattle.ranges.specs.Ranges.{leaves, faces, listed, listFrom, isList, pairBefore, pairsOf, inPairs, follows, pairsFrom, fits, sizeFrom, size, tileBy, tile, eachPair, cellsOf, fitted, resultOf, pairsResult, cellsResult, done}
 use Rattle.ranges.proofs.Inputs.{is-list→}
-use Rattle.ranges.proofs.Laws.{list-leaves}
-
-abbrev pub faces : List ℕ
-faces = 0x1000000000000000 ∷ 0x3000000000000000 ∷ 0x5000000000000000 ∷ 0x7000000000000000 ∷ 0x9000000000000000 ∷ 0xb000000000000000 ∷ []
+use Rattle.ranges.proofs.Laws.{list-leaves, there-and-back}
 
 -- "Six faces become one pair, 0x0000000000000001 to 0xbfffffffffffffff."
 pub six-faces : pairsResult faces 2 ≡ done (0x0000000000000001 ∷ 0xbfffffffffffffff ∷ [])
@@ -43,3 +40,8 @@ faces-cells = is-list→ faces faces-list .0
 pub faces-leaves : (n : ℕ) → n < leaves → covers faces n ≡ true
 unfolding inPairs
 faces-leaves n h = sym (list-leaves faces faces-list n) ∙ ap (λ (ps : List ℕ). inPairs ps n) faces-pairs ∙ rw (le-leb 1 (2 * n + 1) (omega arith), le-leb (2 * n + 1) 0xbfffffffffffffff (omega arith))
+
+-- and they are normal
+pub faces-normal : normalise faces ≡ faces
+unfolding eachPair tile tileBy size sizeFrom fits
+faces-normal = sym (there-and-back faces faces-list) ∙ ap cellsOf faces-pairs

@@ -12,6 +12,10 @@ use Rattle.ranges.specs.declared.Answer.{Answer}
 abbrev pub leaves : ℕ
 leaves = 6 * 2 ^ 60
 
+-- the six faces, which have them all
+abbrev pub faces : List ℕ
+faces = 0x1000000000000000 ∷ 0x3000000000000000 ∷ 0x5000000000000000 ∷ 0x7000000000000000 ∷ 0x9000000000000000 ∷ 0xb000000000000000 ∷ []
+
 -- ---- a list: "valid, ascending and free of overlap"
 
 -- a valid id that may come next: its first leaf stands after b, the last leaf before it

@@ -1,61 +1,25 @@
--- Laws that people would try: what is made of up to three lists by any number of unions, common parts and differences depends on a table of eight tests
--- alone. So any two ways to make a list that have the same table give the same list, and a law is a row that is computed.
+-- The laws of specs/Algebra: a made list has the leaves that its table says, so two ways with the same table make the same list.
 use mathlib.Core.Path.{_≡_, refl, sym, ap₂, _∙_}
 use mathlib.Core.Logic.{⊎-elim}
-use mathlib.Core.Bool.{Bool, true, false, _&&_, Bool·beq}
+use mathlib.Core.Bool.{Bool, true, false, Bool·beq}
 use mathlib.Core.List.{List, [], _∷_}
 use Prim.Native.Nat.{ℕ, _≤_, _<_}
-use native.Mathlib.Omega.{arith}
 use lib.Dec.{ltb}
 use borrow.Author.Tests.{ltb-true, ltb-false}
 use Rattle.cellid.specs.CellId.{Cell}
 use Rattle.cellid.proofs.Laws.{and-true, same-bool}
-use Rattle.order.specs.Order.{All}
+use Rattle.order.specs.Order.{All, sort}
 use Rattle.order.proofs.OrderLaws.{which}
-use Rattle.cellunion.specs.CellUnion.{covers, normalise}
+use Rattle.cellunion.specs.CellUnion.{covers, pass, rev, normalise}
 use Rattle.cellunion.proofs.Norm.{normalise-same, normalise-again}
 use Rattle.ranges.specs.Ranges.{leaves}
 use Rattle.ranges.proofs.Inputs.{covers-end}
 use Rattle.ranges.proofs.Stretches.{covers-nil}
-use Rattle.ranges.proofs.Examples.{faces, faces-cells, faces-leaves}
-use Rattle.sets.specs.Sets.{wants, setOf}
+use Rattle.ranges.proofs.Examples.{faces-cells, faces-leaves, faces-normal}
+use Rattle.sets.specs.Sets.{wants}
+use Rattle.sets.specs.Algebra.{Made, first, second, third, none, whole, by, listOf, test, agree, alike, laws, allAlike}
 use Rattle.sets.specs.declared.Op.{Op}
-use Rattle.sets.specs.declared.Op.the-variants.{Union, Common, Difference}
 use Rattle.sets.proofs.Laws.{set-leaves, set-normal}
-
--- a way to make a list of three: one of them, none, the whole sphere, or what is made of two
-pub data Made : Type 0 where
-  first : Made
-  second : Made
-  third : Made
-  none : Made
-  whole : Made
-  by : Op → Made → Made → Made
-
--- the list that is made
-unfoldable pub listOf : List ℕ → List ℕ → List ℕ → Made → List ℕ
-listOf a b c first = a
-listOf a b c second = b
-listOf a b c third = c
-listOf a b c none = []
-listOf a b c whole = faces
-listOf a b c (by op s t) = setOf op (listOf a b c s) (listOf a b c t)
-
--- whether it has a leaf, by whether the three have it
-unfoldable pub test : Made → Bool → Bool → Bool → Bool
-test first x y z = x
-test second x y z = y
-test third x y z = z
-test none x y z = false
-test whole x y z = true
-test (by op s t) x y z = wants op (test s x y z) (test t x y z)
-
--- two ways have the same table of eight
-unfoldable pub agree : Made → Made → Bool → Bool → Bool
-agree s t x y = Bool·beq (test s x y true) (test t x y true) && Bool·beq (test s x y false) (test t x y false)
-
-unfoldable pub alike : Made → Made → Bool
-alike s t = agree s t true true && (agree s t true false && (agree s t false true && agree s t false false))
 
 agree-at : (s t : Made) (x y z : Bool) → agree s t x y ≡ true → test s x y z ≡ test t x y z
 unfolding agree
@@ -96,10 +60,19 @@ module _ (a b c : List ℕ) (A : All Cell a) (B : All Cell b) (C : All Cell c) w
   made-leaves whole n h = faces-leaves n h
   made-leaves (by op s t) n h = set-leaves op (listOf a b c s) (listOf a b c t) (made-cells s) (made-cells t) n ∙ ap₂ (wants op) (made-leaves s n h) (made-leaves t n h)
 
-  -- what is made of two is normal already
+  -- what is made of two is normal already ..
   pub made-normal : (op : Op) (s t : Made) → normalise (listOf a b c (by op s t)) ≡ listOf a b c (by op s t)
   unfolding listOf
   made-normal op s t = normalise-again _ (set-normal op (listOf a b c s) (listOf a b c t) (made-cells s) (made-cells t))
+
+  -- .. as are none, and the whole sphere
+  pub none-normal : normalise (listOf a b c none) ≡ listOf a b c none
+  unfolding listOf normalise sort pass rev
+  none-normal = refl
+
+  pub whole-normal : normalise (listOf a b c whole) ≡ listOf a b c whole
+  unfolding listOf
+  whole-normal = faces-normal
 
   -- two ways with the same table make the same list
   pub made-same : (s t : Made) → alike s t ≡ true → normalise (listOf a b c s) ≡ normalise (listOf a b c t)
@@ -108,43 +81,7 @@ module _ (a b c : List ℕ) (A : All Cell a) (B : All Cell b) (C : All Cell c) w
       (λ (u : ltb n leaves ≡ false). let g : leaves ≤ n = ltb-false _ _ u in covers-end (listOf a b c s) (made-cells s) n g ∙ sym (covers-end (listOf a b c t) (made-cells t) n g))
       (which (ltb n leaves)))
 
--- ---- the laws, a row each: two ways to make the same list
-
-abbrev pub laws : List (Made × Made)
-laws =
-    -- the same list twice
-    (by Union first first, first)
-    ∷ (by Common first first, first)
-    ∷ (by Difference first first, none)
-    -- an empty list
-    ∷ (by Union first none, first)
-    ∷ (by Common first none, none)
-    ∷ (by Difference first none, first)
-    ∷ (by Difference none first, none)
-    -- the whole sphere
-    ∷ (by Union first whole, whole)
-    ∷ (by Common first whole, first)
-    ∷ (by Difference first whole, none)
-    ∷ (by Difference whole (by Difference whole first), first)
-    -- either way round, and three in any order
-    ∷ (by Union first second, by Union second first)
-    ∷ (by Common first second, by Common second first)
-    ∷ (by Union (by Union first second) third, by Union first (by Union second third))
-    ∷ (by Common (by Common first second) third, by Common first (by Common second third))
-    -- the difference and the common part are the first list, without overlap
-    ∷ (by Union (by Difference first second) (by Common first second), first)
-    ∷ (by Common (by Difference first second) second, none)
-    ∷ (by Union (by Difference first second) second, by Union first second)
-    ∷ (by Difference first (by Common first second), by Difference first second)
-    -- one list less two others, part by part
-    ∷ (by Difference first (by Union second third), by Difference (by Difference first second) third)
-    ∷ (by Common first (by Union second third), by Union (by Common first second) (by Common first third))
-    ∷ (by Difference (by Union first second) third, by Union (by Difference first third) (by Difference second third))
-    ∷ []
-
-allAlike : List (Made × Made) → Bool
-allAlike [] = true
-allAlike (r ∷ l) = alike (r .0) (r .1) && allAlike l
+-- ---- the laws
 
 laws-alike : allAlike laws ≡ true
 unfolding alike agree test wants allAlike
