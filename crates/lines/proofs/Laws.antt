@@ -27,7 +27,7 @@ use Rattle.sets.specs.declared.Op.{Op}
 use Rattle.sets.specs.Sets.{setOf, isPickList, setResult}
 use Rattle.lines.specs.declared.ListRead.{ListRead}
 use Rattle.lines.specs.declared.ListsRead.{ListsRead}
-use Rattle.lines.specs.Lines.{wordAfter, isAt, asksList, secondAfter, listsAfter, ReadLists, Question, questionOf, readOf, ReadQuestion, opOf, resultFor, resultIn, resultOf, resultText, AnsweredIn, answerText, textAt, memoryWith, outputAt, Told, textOf, memoryOf, outputOf, Replied}
+use Rattle.lines.specs.Lines.{wordAfter, isAt, asksList, secondAfter, listsAfter, ReadLists, Question, questionOf, ReadQuestion, opOf, resultFor, resultIn, resultOf, resultText, AnsweredIn, answerText, textAt, memoryWith, outputAt, Told, textOf, memoryOf, outputOf, Replied}
 
 -- ---- reading
 

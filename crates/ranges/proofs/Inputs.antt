@@ -19,7 +19,7 @@ use Rattle.cellunion.proofs.Counts.{hi-le}
 use Rattle.ranges.specs.Ranges.{leaves, listed, listFrom, isList, pairBefore, pairsOf, follows, pairsFrom, isPairs, inPairs, tile, eachPair, cellsOf}
 use Rattle.ranges.specs.Stretches.{each, stretches, pair}
 use Rattle.ranges.proofs.Tiles.{between, between→, between←, between-none, tile-nil}
-use Rattle.ranges.proofs.Stretches.{covers-nil, rest, skip-yes, skip-no, skip-none, rest-end, rest-same, stretches-same, stretches-has}
+use Rattle.ranges.proofs.Stretches.{covers-nil, rest, skip-yes, skip-no, skip-none, rest-end, rest-same, stretches-has}
 
 -- ---- lists
 

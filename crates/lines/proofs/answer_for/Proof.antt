@@ -1,5 +1,4 @@
 -- `lines::answer_for`: pairs, cells, or what is made of two lists.
-use native.Mathlib.Omega.{arith}
 use Rattle.lines.proofs.Laws.{answered-pairs, answered-cells, answered-set}
 use borrow.Author.Needs.{needs}
 use Rattle.lines.proofs.answer_for.Statement.{statement}
