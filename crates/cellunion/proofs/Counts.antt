@@ -11,7 +11,7 @@ use lib.Pow.{pow-add}
 use borrow.Author.Tests.{ltb-true, ltb-false}
 use Rattle.cellid.specs.CellId.{Cell, bitAt, placeAt, levelOf, firstLeaf, lastLeaf}
 use Rattle.cellid.proofs.Laws.{level-cell}
-use Rattle.cellunion.specs.CellUnion.{lo, hi, hasLeaf, covers, SameLeaves, Apart, one, countTo, leafSum}
+use Rattle.cellunion.specs.CellUnion.{lo, hi, hasLeaf, covers, Apart, one, countTo, leafSum}
 use Rattle.order.specs.Order.{All}
 use Rattle.order.proofs.OrderLaws.{which}
 use Rattle.cellunion.proofs.Spans.{lo-is, hi-is, span, leaf→, leaf←}
@@ -99,6 +99,3 @@ leaf-count N (x ∷ l) C A B =
 -- counted over all leaves
 pub leaves-count : (l : List ℕ) → All Cell l → Apart l → countTo (covers l) (6 * 2 ^ 60) ≡ leafSum l
 leaves-count l C A = leaf-count (6 * 2 ^ 60) l C A (at-all (λ y. hi y ≤ 6 * 2 ^ 60) l (λ y m. hi-le (all-at Cell l C y m)))
-
-pub same-sum : (a b : List ℕ) → All Cell a → All Cell b → Apart a → Apart b → SameLeaves a b → leafSum a ≡ leafSum b
-same-sum a b A B P Q same = sym (leaves-count a A P) ∙ count-cong (covers a) (covers b) (6 * 2 ^ 60) same ∙ leaves-count b B Q
