@@ -3,11 +3,12 @@
 use mathlib.Core.Path.{_≡_, refl, sym, ap, ap₂, _∙_}
 use mathlib.Core.Bool.{Bool, true, false}
 use mathlib.Core.List.{List, [], _++_, append-assoc, append-nil}
-use Prim.Native.Nat.{ℕ, zero, suc, _+_, _-_, _*_, min, _≤_, _<_}
+use Prim.Native.Nat.{ℕ, _+_, _-_, _*_, min, _≤_, _<_}
 use native.Mathlib.Omega.{arith}
 use lib.Dec.{leb, ltb, eqb}
 use lib.ListN.{length, getD, take, drop, length-append, length-drop, drop-of-length-le}
-use lib.Seq.{take-append-seam, drop-append-seam, drop-drop, take-length}
+use lib.Seq.{take-append-seam, drop-append-seam, drop-drop}
+use borrow.Rule.Slice.PartAt.{part-to-end}
 use borrow.Author.Tests.{leb-true, lt-ltb, le-ltb, eq-eqb, ne-eqb}
 use Rattle.text.specs.declared.Fault.{Fault}
 use Rattle.text.specs.declared.Place.{Place}
@@ -68,10 +69,7 @@ first-read n r mem mem' R = (
 pub read-fits : (n : Numbers) (r : Read) (mem mem' : List ℕ) → ReadList n r mem mem' → r .value ≤ length mem'
 read-fits n r mem mem' R = rw (R .count, R .words, length-append (n .values) _) (omega arith)
 
--- a part that is lent to its end
-to-end : (l : List ℕ) (k : ℕ) → take (length l - k) (drop k l) ≡ drop k l
-to-end l k = ap (λ (n : ℕ). take n (drop k l)) (sym (length-drop k l)) ∙ take-length (drop k l)
-
+-- behind a part that is lent to its end there is nothing
 past-end : (l part : List ℕ) (k : ℕ) → part ++ drop (length l - k) (drop k l) ≡ part
 past-end l part k = ap (λ (t : List ℕ). part ++ t) (drop-of-length-le (drop k l) {i = length l - k} (omega (arith, length-drop k l))) ∙ append-nil part
 
@@ -83,7 +81,7 @@ lists-read kind l p a b mem mid part A B =
     let n = listAfter (length mem) l p in
     let F = first-read n a mem mid A in
     let m = secondAfter kind (length mem - length (n .values)) l (n .after) in
-    let r : take (length mid - a .value) (drop (a .value) mid) ≡ drop (length (n .values)) mem = to-end mid (a .value) ∙ F .1 in
+    let r : take (length mid - a .value) (drop (a .value) mid) ≡ drop (length (n .values)) mem = part-to-end mid (a .value) ∙ F .1 in
     let C : ReadList m b (drop (length (n .values)) mem) part = rw (r, length-drop (length (n .values)) mem, A .place) at B in
     record {
       count = A .count;
@@ -128,12 +126,6 @@ module _ (q : Question) (r : ListRead) (mem mem' : List ℕ) (R : ReadQuestion q
 
 -- ---- what is asked for, within a part of the output
 
-pub op-last : (k : ℕ) → (k ≡ 0 → ⊥) → (k ≡ 1 → ⊥) → Op.Difference ≡ opOf k
-unfolding opOf
-op-last zero a b = absurd (a refl)
-op-last (suc zero) a b = absurd (b refl)
-op-last (suc (suc k)) a b = refl
-
 module _ (kind : ℕ) (a b : List ℕ) (r : Answer) (out out' : List ℕ) where
   pub answered-pairs : kind ≡ 0 → Answered (pairsResult a (length out)) r out out' → Answered (resultFor kind a b (length out)) r out out'
   unfolding resultFor
@@ -151,7 +143,7 @@ pub answered-in : (kind : ℕ) (lists : List ℕ) (first asked : ℕ) (r : Answe
     → Answered (resultFor kind (take first lists) (take (length lists - first) (drop first lists)) (length (take o out))) r (take o out) part
     → AnsweredIn kind (take first lists) (drop first lists) asked r out (part ++ drop o out)
 unfolding resultIn
-answered-in kind lists first asked r out part o e = rw (e, to-end lists first, length-min, take-min, drop-min) (λ A. record {
+answered-in kind lists first asked r out part o e = rw (e, part-to-end lists first, length-min, take-min, drop-min) (λ A. record {
   answer = A .answer;
   output = ap (λ (l : List ℕ). l ++ drop asked out) (A .output);
 })

@@ -1,5 +1,5 @@
 -- Any set of leaves, given as a test of leaf numbers: all leaves are gone through in order, and each stretch of those that pass becomes a pair, or cells. A
--- list's pairs and the cells of pairs are instances (proofs/Inputs); nothing here is ever run.
+-- list's pairs and the cells of pairs are instances (proofs/Inputs), and so is what two lists make together (crate sets); nothing here is ever run.
 use mathlib.Core.Bool.{Bool, true, false}
 use mathlib.Core.List.{List, [], _∷_, _++_}
 use Prim.Native.Nat.{ℕ, zero, suc, _+_, _-_, _*_}

@@ -1,2 +1,2 @@
 pub mod Laws
-mod Reading
+pub mod Reading

@@ -1,7 +1,7 @@
 -- Laws of `specs/Line.antt`: what was read, part by part, is what the line asks.
 use mathlib.Core.Path.{_≡_, refl}
 use mathlib.Core.List.{List, [], _∷_}
-use Prim.Native.Nat.{ℕ, zero, suc, _+_, _-_, _%_, _≤_, _<_}
+use Prim.Native.Nat.{ℕ, zero, suc, _+_, _-_, _≤_, _<_}
 use native.Mathlib.Omega.{arith}
 use lib.Dec.{leb, eqb}
 use lib.ListN.{length, getD, take, drop, set, length-drop}
@@ -22,20 +22,11 @@ use Rattle.requests.specs.declared.line.RegionRead.{RegionRead}
 use Rattle.requests.specs.declared.line.Options.{Options}
 use Rattle.requests.specs.Line.{kinds, endingOf, fourAfter, covererAfter, capOf, capAfter, cellAfter, regions, regionAfter, keys, mostOf, none, valueOr, badOption, optionGiven, optionOf, optionFrom, nextOption, optionsAfter, requestOf}
 
-pub ending-raw : (k : ℕ) → (k % 3 ≡ 0 → ⊥) → (k % 3 ≡ 1 → ⊥) → Ending.Raw ≡ endingOf k
-unfolding endingOf
-ending-raw k a b = third (k % 3) a b
-  where
-    third : (n : ℕ) → (n ≡ 0 → ⊥) → (n ≡ 1 → ⊥) → Ending.Raw ≡ getD (Ending.Covering ∷ Ending.CellUnion ∷ []) n Ending.Raw
-    third zero a b = absurd (a refl)
-    third (suc zero) a b = absurd (b refl)
-    third (suc (suc n)) a b = refl
-
-pub most-mem : (k : ℕ) → (k ≡ 0 → ⊥) → (k ≡ 1 → ⊥) → 8192 ≡ mostOf k
-unfolding mostOf
-most-mem zero a b = absurd (a refl)
-most-mem (suc zero) a b = absurd (b refl)
-most-mem (suc (suc k)) a b = refl
+-- a number that is neither 0 nor 1 names the last of three
+pub last-of-three : {A : Type 0} (x y z : A) (k : ℕ) → (k ≡ 0 → ⊥) → (k ≡ 1 → ⊥) → z ≡ getD (x ∷ y ∷ []) k z
+last-of-three x y z zero a b = absurd (a refl)
+last-of-three x y z (suc zero) a b = absurd (b refl)
+last-of-three x y z (suc (suc k)) a b = refl
 
 -- ---- the parts of a request
 

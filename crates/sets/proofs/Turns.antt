@@ -25,7 +25,7 @@ use Rattle.ranges.proofs.Puts.{next-of, none-left, Put, put-part, put-last}
 use Rattle.sets.specs.declared.Cursor.{Cursor}
 use Rattle.sets.specs.declared.Op.{Op}
 use Rattle.sets.specs.Sets.{wants, wanted, setOf}
-use Rattle.sets.specs.Steps.{begun, edge, cursorAt, after, movedTo, doneWith, openFrom}
+use Rattle.sets.specs.Steps.{begun, edge, cursorAt, nextPlace, movedTo, doneWith, openFrom}
 
 -- ---- one list: the cells to come, which all end after p
 
@@ -152,12 +152,12 @@ module _ (l : List ℕ) (c : Cursor) (q : ℕ) where
   move-none h = rw (movedTo, lt-ltb q (c .edge) h)
 
   pub move-past : c .edge ≤ q → c .inside ≡ true → cursorAt l (c .at + 1) q ≡ movedTo l c q
-  unfolding movedTo after
-  move-past h t = rw (movedTo, le-ltb q (c .edge) h, after, t)
+  unfolding movedTo nextPlace
+  move-past h t = rw (movedTo, le-ltb q (c .edge) h, nextPlace, t)
 
   pub move-on : c .edge ≤ q → c .inside ≡ false → cursorAt l (c .at) q ≡ movedTo l c q
-  unfolding movedTo after
-  move-on h t = rw (movedTo, le-ltb q (c .edge) h, after, t)
+  unfolding movedTo nextPlace
+  move-on h t = rw (movedTo, le-ltb q (c .edge) h, nextPlace, t)
 
 module _ (l : List ℕ) (c : Cursor) (p q : ℕ) (S : Stands l c p) where
   moved-before : p ≤ q → q < c .edge → Moved l c c q

@@ -1,4 +1,5 @@
--- Where the sweep stands: at the leaf p, with the cells of each list that end after it, and the stretch [s, p) of wanted leaves just before it.
+-- Where the sweep stands: at the leaf p, with the cells of each list that end after it, and the stretch [s, p) of wanted leaves just before it; and which answers
+-- are short.
 use mathlib.Core.Bool.{Bool, true, false}
 use mathlib.Core.List.{List, [], _∷_}
 use Prim.Native.Nat.{ℕ, _+_}
@@ -25,11 +26,11 @@ unfoldable pub cursorAt : List ℕ → ℕ → ℕ → Cursor
 cursorAt l i p = record { at = i; edge = edge (drop i l) p; inside = begun (drop i l) p }
 
 -- the same at q, which is no further than the edge: at the edge the cell has ended if it had begun, and else begins
-unfoldable pub after : Cursor → ℕ
-after c = elim (c .inside) [ true ↦ c .at + 1 | false ↦ c .at ]
+unfoldable pub nextPlace : Cursor → ℕ
+nextPlace c = elim (c .inside) [ true ↦ c .at + 1 | false ↦ c .at ]
 
 unfoldable pub movedTo : List ℕ → Cursor → ℕ → Cursor
-movedTo l c q = elim (ltb q (c .edge)) [ true ↦ c | false ↦ cursorAt l (after c) q ]
+movedTo l c q = elim (ltb q (c .edge)) [ true ↦ c | false ↦ cursorAt l (nextPlace c) q ]
 
 -- the leaves from p to before q are wanted, or not: the cells that are done with then, and where the stretch begins that is open
 unfoldable pub doneWith : Bool → ℕ → ℕ → List ℕ

@@ -1,6 +1,6 @@
 -- `lines::op_of`: case by case.
 use Rattle.lines.specs.Lines.{opOf}
-use Rattle.lines.proofs.Laws.{op-last}
+use Rattle.requests.proofs.Reading.{last-of-three}
 use Rattle.lines.proofs.op_of.Statement.{statement}
 use Rattle.lines.proofs.op_of.Tie as tie
 
@@ -13,7 +13,8 @@ unfolding opOf
 returns-2 c = rw (c .match .keys2)
 
 returns-3 : tie.Need-returns-3
-returns-3 c = op-last _ (c .match .rest .0 .1) (c .match .rest .1)
+unfolding opOf
+returns-3 c = last-of-three _ _ _ _ (c .match .rest .0 .1) (c .match .rest .1)
 
 pub op-of-spec : {M : Type 1} → statement M
 op-of-spec = tie.close (tie.spec returns returns-2 returns-3)

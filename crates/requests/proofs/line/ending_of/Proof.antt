@@ -1,6 +1,6 @@
 -- `requests::line::ending_of`: case by case.
 use Rattle.requests.specs.Line.{endingOf}
-use Rattle.requests.proofs.Reading.{ending-raw}
+use Rattle.requests.proofs.Reading.{last-of-three}
 use Rattle.requests.proofs.line.ending_of.Statement.{statement}
 use Rattle.requests.proofs.line.ending_of.Tie as tie
 
@@ -13,7 +13,8 @@ unfolding endingOf
 returns-2 c = rw (c .match .keys2)
 
 returns-3 : tie.Need-returns-3
-returns-3 c = ending-raw _ (c .match .rest .0 .1) (c .match .rest .1)
+unfolding endingOf
+returns-3 c = last-of-three _ _ _ _ (c .match .rest .0 .1) (c .match .rest .1)
 
 pub ending-of-spec : {M : Type 1} → statement M
 ending-of-spec = tie.close (tie.spec returns returns-2 returns-3)

@@ -1,6 +1,6 @@
 -- `requests::line::most_of`: case by case.
 use Rattle.requests.specs.Line.{mostOf}
-use Rattle.requests.proofs.Reading.{most-mem}
+use Rattle.requests.proofs.Reading.{last-of-three}
 use Rattle.requests.proofs.line.most_of.Statement.{statement}
 use Rattle.requests.proofs.line.most_of.Tie as tie
 
@@ -13,7 +13,8 @@ unfolding mostOf
 returns-2 c = rw (c .match .keys2)
 
 returns-3 : tie.Need-returns-3
-returns-3 c = most-mem _ (c .match .rest .0 .1) (c .match .rest .1)
+unfolding mostOf
+returns-3 c = last-of-three _ _ _ _ (c .match .rest .0 .1) (c .match .rest .1)
 
 pub most-of-spec : {M : Type 1} → statement M
 most-of-spec = tie.close (tie.spec returns returns-2 returns-3)
