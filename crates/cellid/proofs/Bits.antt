@@ -5,7 +5,9 @@ use mathlib.Core.Bool.{Bool, true, false, _&&_, _||_, Bool·beq}
 use Prim.Native.Nat.{ℕ, zero, suc, _+_, _-_, _*_, _/_, _%_, _^_, _≤_, _<_, min, max}
 use native.Mathlib.Nat.{add-zero, mul-one, one-mul, zero-lt-suc, pow-suc, mul-sub, mul-comm, mul-assoc, add-mul, lt-of-mul-lt-mul-right, div-div-eq-div-mul, mod-eq-of-lt, div-eq-of-lt, eq-or-lt-of-le, le-of-suc-le-suc, not-suc-le-zero, lt-div-mul-add}
 use native.Mathlib.Omega.{arith}
+use mathlib.Core.List.{List}
 use lib.Arith.{bin-ind}
+use lib.ListN.{length, getD, List·getD-eq-default}
 use lib.Bits.{bitAnd, bitOr, bitXor, differ, xor-step, xor-shr, xor-self, shifted-half, shifted-even, and-step, and-block, and-high, or-block, or-step, or-zero-r, and-comm}
 use lib.Count.{trailingZeros}
 use lib.Pow.{pow-pos, pow-add, pow-lt, shr-mod}
@@ -60,18 +62,19 @@ abbrev pub NoneOf : ℕ → ℕ → Type 0
 NoneOf n zero = Unit
 NoneOf n (suc k) = NoneOf n k × (n ≡ k → ⊥)
 
-pub last-arm : (n k : ℕ) → n ≤ k → NoneOf n k → n ≡ k
-last-arm n k h r = least (at-least n k r)
+none-of : (n k : ℕ) → NoneOf n k → k ≤ n
+none-of n zero r = omega arith
+none-of n (suc k) (r, h) = next (none-of n k r)
   where
-    at-least : (n k : ℕ) → NoneOf n k → k ≤ n
-    at-least n zero r = omega arith
-    at-least n (suc k) (r, h) = next (at-least n k r)
-      where
-        next : k ≤ n → suc k ≤ n
-        next l = omega (arith, l, h)
+    next : k ≤ n → suc k ≤ n
+    next l = omega (arith, l, h)
 
-    least : k ≤ n → n ≡ k
-    least l = omega arith
+pub last-arm : (n k : ℕ) → n ≤ k → NoneOf n k → n ≡ k
+last-arm n k h r = let l = none-of n k r in omega arith
+
+-- or it names what stands for all others
+pub last-of : {A : Type 0} (l : List A) (z : A) (n : ℕ) → NoneOf n (length l) → z ≡ getD l n z
+last-of l z n r = sym (List·getD-eq-default l z (none-of n (length l) r))
 
 -- ---- products and powers
 

@@ -12,7 +12,7 @@ use lib.Dec.{leb, eqb}
 use lib.Pow.{pow-pos, pow-add, pow-lt, pow-mono, shl-shr}
 use borrow.Author.Tests.{leb-true, le-leb, eqb-true, eq-eqb}
 use Rattle.cellid.specs.CellId.{idOf, lowBit, levelOf, placeOf, bitAt, placeAt, parentAt, childOf, firstLeaf, lastLeaf, holds, meets, validId, IsCell, Cell}
-pub use Rattle.cellid.proofs.Bits.{bool-iff, and-true, or-true, true-or, no-true, same-bool, every-at, NoneOf, last-arm, odd-mul, pow-pair, one-shl, zeros-of, odd-part, and-power, same-above}
+pub use Rattle.cellid.proofs.Bits.{bool-iff, and-true, or-true, true-or, no-true, same-bool, every-at, NoneOf, last-arm, last-of, odd-mul, pow-pair, one-shl, zeros-of, odd-part, and-power, same-above}
 unfoldable pub use Rattle.cellid.proofs.Bits.{every}
 use Rattle.cellid.proofs.Bits.{and-neg, parent-bits}
 

@@ -1,7 +1,6 @@
 pub mod Tiles
 pub mod Stretches
 pub mod Inputs
-pub mod Puts
 pub mod Looks
 pub mod Writes
 pub mod Tilings

@@ -20,7 +20,7 @@ use Rattle.ranges.specs.Stretches.{pair}
 use Rattle.ranges.specs.Steps.{looked, added, wordsAfter}
 use Rattle.ranges.proofs.Inputs.{listed→, is-list→, before-joined, before-apart, pairs-nil, pairs-more, follows→, each-cons, each-nil, none-ruled}
 use Rattle.ranges.proofs.Tiles.{tiled}
-use Rattle.ranges.proofs.Puts.{next-of, none-left, next-two}
+use Rattle.cellid.proofs.Puts.{next-of, none-left, next-two}
 
 -- ---- the small tests
 

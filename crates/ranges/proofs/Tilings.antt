@@ -18,7 +18,7 @@ use Rattle.ranges.specs.Ranges.{leaves, pairsFrom, isPairs, fits, sizeFr
 use Rattle.ranges.specs.Steps.{aligned}
 use Rattle.ranges.proofs.Inputs.{Follows, pairs-cons, each-cons}
 use Rattle.ranges.proofs.Tiles.{sized, size-go, size-on, tile-go, tiled}
-use Rattle.ranges.proofs.Puts.{next-of, none-left, next-two, Put, put-part, put-done}
+use Rattle.cellid.proofs.Puts.{next-of, none-left, next-two, Put, put-part, put-done}
 
 -- ---- the largest cell
 

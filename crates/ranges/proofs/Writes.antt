@@ -18,7 +18,7 @@ use Rattle.cellid.proofs.Laws.{and-true, cell-pos}
 use Rattle.ranges.specs.Ranges.{leaves, joins, listed, listFrom, isList, pairBefore, pairsOf}
 use Rattle.ranges.specs.Steps.{held, closed, opened, pairsLeft}
 use Rattle.ranges.proofs.Inputs.{listed→, before-joined, before-apart, before-nil, pairs-nil, pairs-more}
-use Rattle.ranges.proofs.Puts.{next-of, none-left, Put, put-part, put-last}
+use Rattle.cellid.proofs.Puts.{next-of, none-left, Put, put-part, put-last}
 
 -- ---- the pair of the cells so far
 

@@ -21,7 +21,7 @@ use Rattle.ranges.specs.Stretches.{stretches}
 use Rattle.ranges.proofs.Tiles.{clash, tile-nil, tiled}
 use Rattle.ranges.proofs.Stretches.{covers-nil, rest, skip-yes, skip-no, rest-end, rest-same}
 use Rattle.ranges.proofs.Inputs.{is-list→, head-in, head-out, apart-from, before-first}
-use Rattle.ranges.proofs.Puts.{next-of, none-left, Put, put-part, put-last}
+use Rattle.cellid.proofs.Puts.{next-of, none-left, Put, put-part, put-last}
 use Rattle.sets.specs.declared.Cursor.{Cursor}
 use Rattle.sets.specs.declared.Op.{Op}
 use Rattle.sets.specs.Sets.{wants, wanted, setOf}

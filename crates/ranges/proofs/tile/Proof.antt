@@ -3,7 +3,7 @@ use mathlib.Core.Path.{refl}
 use Prim.Native.Nat.{_-_}
 use native.Mathlib.Omega.{arith}
 use Rattle.ranges.proofs.Tilings.{Tiling, tile-fits, tile-turn}
-use Rattle.ranges.proofs.Puts.{put-done}
+use Rattle.cellid.proofs.Puts.{put-done}
 use Rattle.ranges.proofs.Tiles.{tile-end, sized}
 use Rattle.ranges.proofs.tile.Statement.{statement}
 use Rattle.ranges.proofs.tile.Tie as tie

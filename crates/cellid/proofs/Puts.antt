@@ -21,7 +21,7 @@ next-two l i h =
 
 -- ---- words put over an output: what is put past its end changes nothing
 
-sets-append : (a b d : List ℕ) (at : ℕ) → sets d at (a ++ b) ≡ sets (sets d at a) (at + length a) b
+pub sets-append : (a b d : List ℕ) (at : ℕ) → sets d at (a ++ b) ≡ sets (sets d at a) (at + length a) b
 sets-append [] b d at = rw add-zero
 sets-append (x ∷ a) b d at = let e : suc at + length a ≡ at + suc (length a) = omega arith in rw e at (sets-append a b (set d at x) (suc at))
 
