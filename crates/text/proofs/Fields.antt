@@ -128,12 +128,12 @@ field-here (suc k) l at f h e = absurd (omega arith)
 
 -- ---- digits
 
-digits-then : (base : ℕ) (a b : List ℕ) → allDigits base (a ++ b) ≡ (allDigits base a && allDigits base b)
+pub digits-then : (base : ℕ) (a b : List ℕ) → allDigits base (a ++ b) ≡ (allDigits base a && allDigits base b)
 unfolding allDigits
 digits-then base [] b = refl
 digits-then base (x ∷ a) b = rw (allDigits, digits-then base a b) (sym (and-assoc (ltb (digitOf x) base) (allDigits base a) (allDigits base b)))
 
-value-then : (base n : ℕ) (a b : List ℕ) → valueFrom base n (a ++ b) ≡ valueFrom base (valueFrom base n a) b
+pub value-then : (base n : ℕ) (a b : List ℕ) → valueFrom base n (a ++ b) ≡ valueFrom base (valueFrom base n a) b
 unfolding valueFrom
 value-then base n [] b = refl
 value-then base n (x ∷ a) b = value-then base (n * base + digitOf x) a b

@@ -1,3 +1,3 @@
-mod Fields
+pub mod Fields
 mod Floats
 mod Laws

@@ -125,6 +125,10 @@ pub record Spells (base : ℕ) (l : List ℕ) (from to n : ℕ) : Type 0 where
   pub value : valueFrom base 0 (take (to - from) (drop from l)) ≡ n
   pub parted : from + leading false (drop from l) ≡ to + leading false (drop to l)
 
+-- and no digit follows them, unless they are sixteen
+abbrev pub Stopped : ℕ → List ℕ → ℕ → ℕ → Type 0
+Stopped base l from to = to < length l → to < from + 16 → base ≤ digitOf (getD l to 0)
+
 -- what the next field is read as, by a way to read its bytes and the place after them; a fault where there is none
 unfoldable pub fieldAs : (ℕ → List ℕ → Read) → List ℕ → ℕ → Read
 fieldAs reading l at = elim (isThere (fieldAt l at)) [

@@ -3,11 +3,11 @@
 // branches, and what is wrong with it is the first fault from the left. A number over its limit is told and never wraps.
 ghost use mathlib.Core.Path.{_≡_};
 ghost use mathlib.Core.Bool.{true, false, cond};
-ghost use Prim.Native.Nat.{_+_, _*_, _≤_, _<_};
+ghost use Prim.Native.Nat.{_+_, _*_, _≤_, _<_, min};
 ghost use lib.Dec.{ltb};
 ghost use lib.Ieee.{binary64, ofBits, toBits};
 ghost use lib.ListN.{length, drop};
-ghost use Rattle.text.specs.Text.{digitOf, allDigits, valueFrom, faulty, limited, numberOf, numberIn, isBlank, leading, until, fieldAt, fieldNo, same, bytesOf, placeAmong, Spells, fieldAs, numberAfter, numbersAfter, listAfter, ReadList, choiceAfter, endAfter, isPlain, allPlain, isSilent, startOf};
+ghost use Rattle.text.specs.Text.{digitOf, allDigits, valueFrom, faulty, limited, numberOf, numberIn, isBlank, leading, until, fieldAt, fieldNo, same, bytesOf, placeAmong, Spells, Stopped, fieldAs, numberAfter, numbersAfter, listAfter, ReadList, choiceAfter, endAfter, isPlain, allPlain, isSilent, startOf};
 
 // What is wrong with a line.
 pub enum Fault {
@@ -294,15 +294,15 @@ pub fn place_among(word: &[u8], words: &[u8], count: u64) -> u64
 // ---- one part of a line after another
 
 // Digits of a line: the place after them, and the number that they spell.
-struct Digits {
-    end: usize,
-    value: u64,
+pub struct Digits {
+    pub end: usize,
+    pub value: u64,
 }
 
 // The place sixteen bytes behind `start`, or the line's end.
 fn sixteen_on(start: usize, end: usize) -> usize
     requires { ⌜ start ≤ end ⌝ }
-    ensures { λ r. ⌜ (r ≤ end) × (r ≤ start + 16) ⌝ }
+    ensures { λ r. ⌜ r ≡ min end (start + 16) ⌝ }
 {
     if 16 < end - start {
         return start + 16;
@@ -311,9 +311,9 @@ fn sixteen_on(start: usize, end: usize) -> usize
 }
 
 // The digits of the base from `start` on, sixteen at most: no number of so many is too large.
-fn read_digits(line: &[u8], start: usize, base: u64) -> Digits
+pub fn read_digits(line: &[u8], start: usize, base: u64) -> Digits
     requires { ⌜ (base ≤ 16) × (start ≤ length (now line)) ⌝ }
-    ensures { λ r. ⌜ Spells base (now (line .entry)) start (r .end) (r .value) ⌝ }
+    ensures { λ r. ⌜ Spells base (now (line .entry)) start (r .end) (r .value) × Stopped base (now (line .entry)) start (r .end) ⌝ }
 {
     let stop = sixteen_on(start, line.len());
     let mut value = 0;

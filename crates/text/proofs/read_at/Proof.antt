@@ -7,7 +7,7 @@ use Rattle.text.proofs.read_at.Statement.{statement}
 use Rattle.text.proofs.read_at.Tie as tie
 
 returns : tie.Need-returns
-returns c = at-short _ _ _ _ _ _ _ _ _ (c .before .before .before .before .read-digits .ensures) (c .before .before .before .before .before .before .before .before .pre .2) (c .before .before .before .before .before .before .before .before .pre .3) (c .before .before .before .before .before .before .past .ensures .0) (c .before .before .before .if2 .taken) (sym (c .before .before .past2 .ensures .0) ∙ c .before .if3 .taken) (c .if4 .taken)
+returns c = at-short _ _ _ _ _ _ _ _ _ (c .before .before .before .before .read-digits .ensures .0) (c .before .before .before .before .before .before .before .before .pre .2) (c .before .before .before .before .before .before .before .before .pre .3) (c .before .before .before .before .before .before .past .ensures .0) (c .before .before .before .if2 .taken) (sym (c .before .before .past2 .ensures .0) ∙ c .before .if3 .taken) (c .if4 .taken)
 
 part-number-end : tie.Need-part-number-end
 part-number-end c = c .before .read-field .ensures .1 .1 (c .if5 .taken)
