@@ -14,10 +14,11 @@ use Rattle.text.specs.declared.Fault.{Fault}
 use Rattle.text.specs.declared.Place.{Place}
 use Rattle.text.specs.declared.Read.{Read}
 use Rattle.text.specs.Text.{Numbers, ReadList, listAfter, endAfter, startOf}
+use Rattle.tokens.specs.declared.Form.{Form}
 use Rattle.replies.specs.Write.{Wrote, listText, errorText}
 use Rattle.replies.proofs.Lengths.{wrote-whole, error-length, refused-length, list-length}
 use Rattle.requests.specs.declared.line.Options.{Options}
-use Rattle.requests.specs.Line.{valueOr, optionsAfter}
+use Rattle.requests.specs.Line.{valueOr, formOf, optionsAfter}
 use Rattle.requests.specs.Requests as Requests
 use Rattle.requests.specs.Requests.{onFirst}
 use Rattle.requests.proofs.Laws.{take-min, drop-min, length-min}
@@ -90,13 +91,13 @@ lists-read kind l p a b mem mid part A B =
       memory = ap₂ (λ (x y : List ℕ). x ++ y) (F .0) (past-end mid part (a .value) ∙ C .words) ∙ both-words (n .values) (m .values) mem;
     }
 
-pub question-read : (l mem mem' : List ℕ) (start : Place) (word : Read) (lists : ListsRead) (o : Options) (end : Place) (out : ℕ)
+pub question-read : (l mem mem' : List ℕ) (start : Place) (word : Read) (lists : ListsRead) (o : Options) (end : Place) (out : ℕ) (form : Form)
     → start ≡ startOf l → word ≡ wordAfter l start → ReadLists (listsAfter (word .value) (length mem) l (word .after)) lists mem mem' → o ≡ optionsAfter l (lists .after)
-    → end ≡ endAfter l (o .after) → out ≡ valueOr 65536 (getD (o .values) 1 0)
-    → ReadQuestion (questionOf (length mem) l) (record { kind = word .value; first = lists .first; both = lists .both; out = out; after = end }) mem mem'
+    → end ≡ endAfter l (o .after) → out ≡ valueOr 65536 (getD (o .values) 1 0) → form ≡ formOf (getD (o .values) 3 0)
+    → ReadQuestion (questionOf (length mem) l) (record { kind = word .value; first = lists .first; both = lists .both; out = out; form = form; after = end }) mem mem'
 unfolding questionOf
-question-read l mem mem' start word lists o end out es ew R eo ee e =
-    rw (← es, ← ew) (record { read = rw (e, ee, eo, R .place, R .count, R .total); memory = R .memory })
+question-read l mem mem' start word lists o end out form es ew R eo ee e g =
+    rw (← es, ← ew) (record { read = rw (g, e, ee, eo, R .place, R .count, R .total); memory = R .memory })
 
 -- ---- the lists of a question, in the memory
 
@@ -155,10 +156,10 @@ unfolding answerOf wordsOf outputAfter
 count-fits (refused n) out rest = omega arith
 count-fits (done l) out rest = simp length-append (omega arith)
 
-answer-text : (R : Result) (out rest : List ℕ) → answerText (answerOf R) (outputAfter R out ++ rest) ≡ resultText R
+answer-text : (form : Form) (R : Result) (out rest : List ℕ) → answerText form (answerOf R) (outputAfter R out ++ rest) ≡ resultText form R
 unfolding answerOf outputAfter answerText resultText
-answer-text (refused n) out rest = refl
-answer-text (done l) out rest = ap listText (ap (take (length l)) (append-assoc l _ rest) ∙ take-append-seam l _)
+answer-text form (refused n) out rest = refl
+answer-text form (done l) out rest = ap (listText form) (ap (take (length l)) (append-assoc l _ rest) ∙ take-append-seam l _)
 
 pub answer-fits : (kind : ℕ) (a b : List ℕ) (asked : ℕ) (r : Answer) (out out' : List ℕ) → AnsweredIn kind a b asked r out out' → wordsOf r ≤ length out'
 answer-fits kind a b asked r out out' A = rw (A .answer, A .output) (count-fits (resultIn kind a b asked out) _ _)
@@ -166,19 +167,19 @@ answer-fits kind a b asked r out out' A = rw (A .answer, A .output) (count-fits 
 -- ---- the length of an answer: it has no more numbers than the output has places
 
 abbrev Short : ℕ → Result → Type 0
-Short room R = length (resultText R) ≤ 17 * room + 256
+Short room R = (form : Form) → length (resultText form R) ≤ 17 * room + 256
 
 fitted-short : (k : ℕ) (l : List ℕ) (room : ℕ) → Short room (fitted k l room)
 unfolding fitted resultText
 fitted-short k l room = by (leb (length l) room) (λ h. leb-true _ _ h)
   where
     by : (b : Bool) → (b ≡ true → length l ≤ room) → Short room (elim b [ true ↦ done l | false ↦ refused k ])
-    by true h = omega (arith, list-length l, h refl)
-    by false h = omega (arith, refused-length k)
+    by true h form = omega (arith, list-length form l, h refl)
+    by false h form = omega (arith, refused-length k)
 
 refused-short : (k room : ℕ) → Short room (refused k)
 unfolding resultText
-refused-short k room = omega (arith, refused-length k)
+refused-short k room form = omega (arith, refused-length k)
 
 unless-short : (good : Bool) (k room : ℕ) (R : Result) → Short room R → Short room (elim good [ false ↦ refused k | true ↦ R ])
 unless-short true k room R h = h
@@ -199,15 +200,15 @@ for-short kind a b room = by (eqb kind 0) (eqb kind 1)
     by false true = unless-short (isPairs a) 25 room _ (fitted-short 26 (cellsOf a) room)
     by false false = unless-short (isPickList a) 15 room _ (unless-short (isPickList b) 16 room _ (fitted-short 17 (setOf (opOf (kind - 2)) a b) room))
 
-question-short : (q : Question) (out : List ℕ) → length (resultText (resultOf q out)) ≤ 17 * length out + 256
+question-short : (q : Question) (out : List ℕ) → length (resultText (q .form) (resultOf q out)) ≤ 17 * length out + 256
 unfolding resultIn
-question-short q out = omega (arith, for-short (q .kind) (q .first) (q .second) (min (q .out) (length out)))
+question-short q out = omega (arith, for-short (q .kind) (q .first) (q .second) (min (q .out) (length out)) (q .form))
 
 -- ---- a question
 
 module _ (number : ℕ) (q : Question) (out : List ℕ) (p : Place) where
   module _ (end : ℕ) (e : p ≡ Place.At end) where
-    text-asked : textAt p number q out ≡ resultText (resultOf q out)
+    text-asked : textAt p number q out ≡ resultText (q .form) (resultOf q out)
     unfolding textAt
     text-asked = rw e
 
@@ -242,13 +243,13 @@ module _ (number : ℕ) (q : Question) (asked : ListRead) (mem mem' out page : L
       }
 
   pub told-asked : (end : ℕ) (a : Answer) (out' : List ℕ) → asked .after ≡ Place.At end
-      → AnsweredIn (asked .kind) (take (asked .first) (take (asked .both) mem')) (drop (asked .first) (take (asked .both) mem')) (asked .out) a out out' → Wrote 0 (answerText a out') page r page'
+      → AnsweredIn (asked .kind) (take (asked .first) (take (asked .both) mem')) (drop (asked .first) (take (asked .both) mem')) (asked .out) a out out' → Wrote 0 (answerText (asked .form) a out') page r page'
       → Told number q mem mem' out out' page r page'
   told-asked end a out' e B w =
       let p : q .after ≡ Place.At end = place-is (Place.At end) e in
       let A : AnsweredIn (q .kind) (q .first) (q .second) (q .out) a out out' =
       of-question q a out out' _ _ _ _ (ap (λ (a : ListRead). a .kind) (R .read)) (first-there q asked mem mem' R) (second-there q asked mem mem' R) (ap (λ (a : ListRead). a .out) (R .read)) B in
-      let t : answerText a out' ≡ resultText (resultOf q out) = rw (A .answer, A .output) (answer-text (resultOf q out) _ _) in
+      let t : answerText (asked .form) a out' ≡ resultText (q .form) (resultOf q out) = rw (ap (λ (a : ListRead). a .form) (R .read), A .answer, A .output) (answer-text (q .form) (resultOf q out) _ _) in
       record {
         wrote = rw (text-asked number q out (q .after) end p) (wrote-whole (omega (arith, question-short q out)) (rw t at w));
         memory = R .memory;

@@ -11,8 +11,9 @@ use Rattle.text.specs.declared.Fault.{Fault}
 use Rattle.text.specs.declared.Place.{Place}
 use Rattle.text.specs.declared.Read.{Read}
 use Rattle.text.specs.Text.{Numbers, choiceAfter, listAfter, endAfter, startOf}
+use Rattle.tokens.specs.declared.Form.{Form}
 use Rattle.replies.specs.Write.{Whole, refusedText, listText, errorText}
-use Rattle.requests.specs.Line.{valueOr, optionsAfter}
+use Rattle.requests.specs.Line.{valueOr, formOf, optionsAfter}
 use Rattle.requests.specs.Requests.{onFirst}
 use Rattle.requests.specs.Requests as Requests
 use Rattle.ranges.specs.declared.Answer.{Answer}
@@ -58,21 +59,29 @@ listsAfter kind most l p =
     let b = secondAfter kind (most - length (a .values)) l (a .after) in
     record { first = a .values; second = b .values; after = b .after }
 
--- the number of the word, the lists, the places of output, and the line's end, or what is wrong with the line
+-- the number of the word, the lists, the places of output, how ids are written, and the line's end, or what is wrong with the line
 pub record Question : Type 0 where
   pub kind : ℕ
   pub first : List ℕ
   pub second : List ℕ
   pub out : ℕ
+  pub form : Form
   pub after : Place
 
--- one part after another; of the options out= alone says anything
+-- one part after another; of the options out= and tokens= alone say anything
 unfoldable pub questionOf : ℕ → List ℕ → Question
 questionOf most l =
     let word = wordAfter l (startOf l) in
     let lists = listsAfter (word .value) most l (word .after) in
     let o = optionsAfter l (lists .after) in
-    record { kind = word .value; first = lists .first; second = lists .second; out = valueOr 65536 (getD (o .values) 1 0); after = endAfter l (o .after) }
+    record {
+      kind = word .value;
+      first = lists .first;
+      second = lists .second;
+      out = valueOr 65536 (getD (o .values) 1 0);
+      form = formOf (getD (o .values) 3 0);
+      after = endAfter l (o .after);
+    }
 
 -- ---- what it comes to
 
@@ -98,14 +107,14 @@ abbrev pub resultOf : Question → List ℕ → Result
 resultOf q out = resultIn (q .kind) (q .first) (q .second) (q .out) out
 
 -- `ok COUNT NUMBER...` or `refused NUMBER`
-unfoldable pub resultText : Result → List ℕ
-resultText (Ranges.refused n) = refusedText n
-resultText (Ranges.done l) = listText l
+unfoldable pub resultText : Form → Result → List ℕ
+resultText form (Ranges.refused n) = refusedText n
+resultText form (Ranges.done l) = listText form l
 
 -- ---- a question of some number: its answer's text, the working memory, in which its lists were read, and the output afterwards
 
 unfoldable pub textAt : Place → ℕ → Question → List ℕ → List ℕ
-textAt (Place.At end) number q out = resultText (resultOf q out)
+textAt (Place.At end) number q out = resultText (q .form) (resultOf q out)
 textAt (Place.Bad f) number q out = errorText number f
 
 -- a list or two stand in the first words
@@ -153,7 +162,7 @@ pub record ReadLists (n : Lists) (r : ListsRead) (mem mem' : List ℕ) : Type 0 
 
 -- a question, its lists aside
 abbrev pub readOf : Question → ListRead
-readOf q = record { kind = q .kind; first = length (q .first); both = length (q .first ++ q .second); out = q .out; after = q .after }
+readOf q = record { kind = q .kind; first = length (q .first); both = length (q .first ++ q .second); out = q .out; form = q .form; after = q .after }
 
 -- it was read, its lists into the memory
 pub record ReadQuestion (q : Question) (r : ListRead) (mem mem' : List ℕ) : Type 0 where
@@ -165,9 +174,9 @@ pub record AnsweredIn (kind : ℕ) (a b : List ℕ) (asked : ℕ) (r : Answer) (
   pub output : out' ≡ onFirst asked (outputAfter (resultIn kind a b asked out)) out
 
 -- the text of an answer, its numbers taken from the output's first places
-unfoldable pub answerText : Answer → List ℕ → List ℕ
-answerText (Answer.Done count) out = listText (take count out)
-answerText (Answer.Refused n) out = refusedText n
+unfoldable pub answerText : Form → Answer → List ℕ → List ℕ
+answerText form (Answer.Done count) out = listText form (take count out)
+answerText form (Answer.Refused n) out = refusedText n
 
 -- a question of some number was answered
 pub record Told (number : ℕ) (q : Question) (mem mem' out out' page : List ℕ) (r : ℕ) (page' : List ℕ) : Type 0 where

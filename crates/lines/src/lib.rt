@@ -12,6 +12,7 @@ use sets::Op;
 use text::Fault;
 use text::Place;
 use text::Read;
+use tokens::Form;
 
 // Lists in the memory's first words: how many words the first has, how many both have; and the place after them.
 struct ListsRead {
@@ -21,12 +22,13 @@ struct ListsRead {
 }
 
 // What is asked about the lists in the memory's first words: the number of the word; how many words the first list has, how many both have; how many places
-// of output may be filled; and the line's end, or what is wrong with the line.
+// of output may be filled; how ids are to be written; and the line's end, or what is wrong with the line.
 struct ListRead {
     kind: u64,
     first: usize,
     both: usize,
     out: u64,
+    form: Form,
     after: Place,
 }
 
@@ -99,6 +101,7 @@ fn read_question(line: &[u8], mem: &mut [u64]) -> ListRead
         first: lists.first,
         both: lists.both,
         out: requests::value_or(65536, values[1]),
+        form: requests::form_of(values[3]),
         after,
     }
 }
@@ -137,12 +140,12 @@ fn answer_in(kind: u64, lists: &[u64], first: usize, asked: u64, out: &mut [u64]
 }
 
 // Writes an answer, with the numbers that stand in the output's first places.
-fn put_answer(a: Answer, out: &[u64], page: &mut [u8]) -> usize
+fn put_answer(form: Form, a: Answer, out: &[u64], page: &mut [u8]) -> usize
     requires { ⌜ wordsOf a ≤ length (now out) ⌝ }
-    ensures { λ r. ⌜ Wrote 0 (answerText a (now (out .entry))) (now (page .entry)) r (now (page .exit)) ⌝ }
+    ensures { λ r. ⌜ Wrote 0 (answerText form a (now (out .entry))) (now (page .entry)) r (now (page .exit)) ⌝ }
 {
     match a {
-        Answer::Done(count) => replies::put_list(page, &out[..count]),
+        Answer::Done(count) => replies::put_list(page, form, &out[..count]),
         Answer::Refused(refusal) => replies::put_refused(page, refusal),
     }
 }
@@ -158,7 +161,8 @@ fn answer_list(line: &[u8], number: u64, mem: &mut [u64], out: &mut [u64], page:
         Place::At(_) => {
             let both = q.both;
             let a = answer_in(q.kind, &mem[..both], q.first, q.out, out);
-            put_answer(a, out, page)
+            let form = q.form;
+            put_answer(form, a, out, page)
         }
         Place::Bad(f) => replies::put_error(page, number, f),
     }

@@ -25,6 +25,7 @@ use text::Base;
 use text::Fault;
 use text::Place;
 use text::Read;
+use tokens::Form;
 
 // Room for the longest answer: 65,536 ids of 17 bytes each, and what stands before and after them.
 type Page = [u8; 1114368];
@@ -151,7 +152,7 @@ fn number_of(k: u64, a: u64, g: Cap, id: u64, c: Cell, i: u64) -> u64
 
 fn put_digits(page: &mut Page, at: usize, hex: bool, x: u64) -> usize {
     if hex {
-        return replies::put_hex(page, at, x);
+        return replies::put_name(page, at, Form::Digits, x);
     }
     if x == NOTHING {
         return replies::put(page, at, b"-1");
@@ -179,7 +180,7 @@ fn put_numbers(k: u64, a: u64, g: Cap, id: u64, page: &mut Page) -> usize
 fn put_list(page: &mut Page, ids: &[u64], count: usize) -> usize {
     if count <= ids.len() {
         let n = replies::put_decimal(page, 0, count as u64);
-        return replies::put_ids(page, n, &ids[..count]);
+        return replies::put_ids(page, n, Form::Digits, &ids[..count]);
     }
     0
 }

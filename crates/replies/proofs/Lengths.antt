@@ -1,5 +1,5 @@
 -- Lengths of the texts of `specs/Write.antt`, and that a text is written whole where there is room for it.
-use mathlib.Core.Path.{_≡_, refl, _∙_}
+use mathlib.Core.Path.{_∙_}
 use mathlib.Core.List.{List, [], _∷_}
 use Prim.Native.Nat.{ℕ, zero, suc, _+_, _*_, _/_, _≤_}
 use native.Mathlib.Omega.{arith}
@@ -13,8 +13,10 @@ use Rattle.text.specs.Ascii.{ascii}
 use Rattle.text.specs.Text.{bytesOf, fieldNo}
 use Rattle.text.specs.declared.Fault.{Fault}
 use Rattle.text.specs.declared.Field.{Field}
-use Rattle.io.specs.Digits.{digits}
-use Rattle.replies.specs.Write.{Wrote, Whole, spelled, decimalText, hexText, idText, idsText, faultWords, placeOf, faultText, errorText, refusedText, endText, countedText, okText, listText}
+use Rattle.tokens.specs.declared.Form.{Form}
+use Rattle.tokens.specs.Tokens.{nameOf}
+use Rattle.tokens.proofs.Names.{name-short}
+use Rattle.replies.specs.Write.{Wrote, Whole, spelled, decimalText, idText, idsText, faultWords, placeOf, faultText, errorText, refusedText, endText, countedText, okText, listText}
 
 pub wrote-whole : {s d : List ℕ} {r : ℕ} {d' : List ℕ} → length s ≤ length d → Wrote 0 s d r d' → Whole s d r d'
 wrote-whole {s} {d} h w = record { count = omega arith; bytes = w .bytes ∙ rw zero-add at (sets-eq s d 0 (omega arith)) }
@@ -32,18 +34,10 @@ pub decimal-length : (n : ℕ) → length (decimalText n) ≤ 20
 unfolding decimalText
 decimal-length n = spelled-length 20 n
 
-pub digits-length : (base k n : ℕ) → length (digits base k n) ≡ k
-digits-length base zero n = refl
-digits-length base (suc k) n = rw (length-append (digits base k (n / base)) _, digits-length base k (n / base)) (omega arith)
-
-pub hex-length : (n : ℕ) → length (hexText n) ≡ 16
-unfolding hexText
-hex-length n = digits-length 16 16 n
-
-pub ids-length : (l : List ℕ) → length (idsText l) ≡ 17 * length l
+pub ids-length : (form : Form) (l : List ℕ) → length (idsText form l) ≤ 17 * length l
 unfolding idsText idText
-ids-length [] = refl
-ids-length (id ∷ l) = rw (idsText, idText, length-append (hexText id) (idsText l), hex-length id, ids-length l) (omega arith)
+ids-length form [] = omega arith
+ids-length form (id ∷ l) = rw (idsText, idText, length-append (nameOf form id) (idsText form l)) (omega (arith, name-short form id, ids-length form l))
 
 bytes-length : (l : List ℕ) (f : Field) → length (bytesOf l f) ≤ length l
 unfolding bytesOf
@@ -65,14 +59,14 @@ pub end-length : (answered : ℕ) → length (endText answered) ≤ 25
 unfolding endText ascii
 end-length answered = simp length-append (omega (arith, decimal-length answered))
 
-counted-length : (ids : List ℕ) → length (countedText ids) ≤ 17 * length ids + 21
+counted-length : (form : Form) (ids : List ℕ) → length (countedText form ids) ≤ 17 * length ids + 21
 unfolding countedText
-counted-length ids = simp (length-append, ids-length) (omega (arith, decimal-length (length ids)))
+counted-length form ids = simp length-append (omega (arith, ids-length form ids, decimal-length (length ids)))
 
-pub ok-length : (steps aside : ℕ) (ids : List ℕ) → length (okText steps aside ids) ≤ 17 * length ids + 66
+pub ok-length : (form : Form) (steps aside : ℕ) (ids : List ℕ) → length (okText form steps aside ids) ≤ 17 * length ids + 66
 unfolding okText ascii
-ok-length steps aside ids = simp length-append (omega (arith, decimal-length steps, decimal-length aside, counted-length ids))
+ok-length form steps aside ids = simp length-append (omega (arith, decimal-length steps, decimal-length aside, counted-length form ids))
 
-pub list-length : (ids : List ℕ) → length (listText ids) ≤ 17 * length ids + 24
+pub list-length : (form : Form) (ids : List ℕ) → length (listText form ids) ≤ 17 * length ids + 24
 unfolding listText ascii
-list-length ids = simp length-append (omega (arith, counted-length ids))
+list-length form ids = simp length-append (omega (arith, counted-length form ids))

@@ -1,34 +1,25 @@
 -- Laws of `specs/Write.antt`: what is written in parts is written whole, and what a number's digits are.
 use mathlib.Core.Path.{_≡_, refl, sym, ap, _∙_}
 use mathlib.Core.List.{List, [], _∷_, _++_}
-use Prim.Native.Nat.{ℕ, zero, suc, _+_, _-_, _*_, _/_, _%_, _^_, _≤_, _<_}
+use Prim.Native.Nat.{ℕ, zero, suc, _+_, _-_, _*_, _/_, _^_, _≤_, _<_}
 use native.Mathlib.Omega.{arith}
 use native.Mathlib.Decide.{decLt}
 use mathlib.Core.Logic.{by-cases}
 use native.Mathlib.Numerals.{add-one}
-use native.Mathlib.Nat.{add-zero, mod-eq-of-lt, div-lt-iff-lt-mul, le-div-iff-mul-le, pow-suc, pow-le-pow-right}
+use native.Mathlib.Nat.{mod-eq-of-lt, div-lt-iff-lt-mul, le-div-iff-mul-le, pow-suc, pow-le-pow-right}
 use lib.ListN.{length, getD, drop, set, length-append}
-use lib.Seq.{drop-cons, set-out, set-comm, sets, length-sets}
+use lib.Seq.{drop-cons, set-out, sets, length-sets}
 use borrow.Author.Tests.{lt-ltb, le-ltb}
-use Rattle.io.specs.Digits.{digits, glyph, Fewest}
-use Rattle.replies.specs.Write.{Wrote, spelled, decimalText, hexText, idText, idsText}
-use Rattle.replies.proofs.Lengths.{digits-length}
+use Rattle.io.specs.Digits.{digits, Fewest}
+use Rattle.cellid.proofs.Puts.{sets-append}
+use Rattle.tokens.specs.declared.Form.{Form}
+use Rattle.replies.specs.Write.{Wrote, spelled, decimalText, idText, idsText}
 
 -- ---- parts
 
 pub sets-out : (s d : List ℕ) (at : ℕ) → length d ≤ at → sets d at s ≡ d
 sets-out [] d at h = refl
 sets-out (x ∷ s) d at h = rw (set-out d at x h) (sets-out s d (suc at) (omega arith))
-
-sets-append : (a b d : List ℕ) (at : ℕ) → sets d at (a ++ b) ≡ sets (sets d at a) (at + length a) b
-sets-append [] b d at = rw add-zero
-sets-append (x ∷ a) b d at = let e : suc at + length a ≡ at + suc (length a) = omega arith in rw e at (sets-append a b (set d at x) (suc at))
-
--- a store behind a run of stores may go before it
-sets-set : (s d : List ℕ) (at k x : ℕ) → at + length s ≤ k → set (sets d at s) k x ≡ sets (set d k x) at s
-sets-set [] d at k x h = refl
-sets-set (y ∷ s) d at k x h =
-    sets-set s (set d at y) (suc at) k x (omega arith) ∙ ap (λ (l : List ℕ). sets l (suc at) s) (set-comm d at k y x (λ e. omega arith))
 
 pub sets-go : (s d : List ℕ) (n i : ℕ) → i < length s → sets d n (drop i s) ≡ sets (set d n (getD s i 0)) (n + 1) (drop (i + 1) s)
 sets-go s d n i h = rw (drop-cons s i 0 h, add-one i, add-one n)
@@ -79,21 +70,6 @@ decimal-text (suc k) n h b =
     let e : suc k - 1 ≡ k = omega arith in
     digits-spelled k n 20 (h .1) (λ p. rw e at (h .2 (omega arith))) (omega (arith, few 10 1 20 n (suc k) (omega arith) (omega arith) (omega arith) h))
 
--- a number's digits are stored from the last on
-pub digits-none : (d : List ℕ) (at n k : ℕ) → k ≤ 0 → sets d at (digits 16 k n) ≡ d
-digits-none d at n k h = let e : k ≡ 0 = omega arith in rw e
-
-pub digits-go : (d : List ℕ) (at n k g : ℕ) → 0 < k → g ≡ glyph (n % 16) → sets d at (digits 16 k n) ≡ sets (set d (at + (k - 1)) g) at (digits 16 (k - 1) (n / 16))
-digits-go d at n zero g h e = absurd (omega arith)
-digits-go d at n (suc k) g h e =
-    let p : suc k - 1 ≡ k = omega arith in
-    let l : length (digits 16 k (n / 16)) ≡ k = digits-length 16 k (n / 16) in
-    rw (p, e, sets-append (digits 16 k (n / 16)) (glyph (n % 16) ∷ []) d at, l) (sets-set (digits 16 k (n / 16)) d at (at + k) (glyph (n % 16)) (omega arith))
-
-pub hex-text : (k n : ℕ) → Fewest 16 16 n k → n < 2 ^ 64 → digits 16 k n ≡ hexText n
-unfolding hexText
-hex-text k n h b = let e : k ≡ 16 = omega (arith, few 16 16 16 n k (omega arith) (omega arith) (omega arith) h) in rw e
-
-pub ids-go : (l : List ℕ) (i : ℕ) → i < length l → idsText (drop i l) ≡ idText (getD l i 0) ++ idsText (drop (i + 1) l)
+pub ids-go : (form : Form) (l : List ℕ) (i : ℕ) → i < length l → idsText form (drop i l) ≡ idText form (getD l i 0) ++ idsText form (drop (i + 1) l)
 unfolding idsText
-ids-go l i h = rw (drop-cons l i 0 h, idsText, add-one i)
+ids-go form l i h = rw (drop-cons l i 0 h, idsText, add-one i)

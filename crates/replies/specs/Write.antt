@@ -9,7 +9,9 @@ use lib.Seq.{sets}
 use Rattle.text.specs.Ascii.{ascii}
 use Rattle.text.specs.Text.{bytesOf, fieldNo}
 use Rattle.text.specs.declared.Fault.{Fault}
-use Rattle.io.specs.Digits.{digits, glyph}
+use Rattle.io.specs.Digits.{glyph}
+use Rattle.tokens.specs.declared.Form.{Form}
+use Rattle.tokens.specs.Tokens.{nameOf}
 
 -- ---- writing
 
@@ -35,23 +37,19 @@ spelled (suc k) n = elim (ltb n 10) [ true ↦ glyph n ∷ [] | false ↦ spelle
 unfoldable pub decimalText : ℕ → List ℕ
 decimalText n = spelled 20 n
 
--- sixteen hexadecimal digits
-unfoldable pub hexText : ℕ → List ℕ
-hexText n = digits 16 16 n
-
 abbrev pub space : List ℕ
 space = 32 ∷ []
 
 abbrev pub newline : List ℕ
 newline = 10 ∷ []
 
--- an id, with a space before it
-unfoldable pub idText : ℕ → List ℕ
-idText id = space ++ hexText id
+-- an id's name, with a space before it
+unfoldable pub idText : Form → ℕ → List ℕ
+idText form id = space ++ nameOf form id
 
-unfoldable pub idsText : List ℕ → List ℕ
-idsText [] = []
-idsText (id ∷ l) = idText id ++ idsText l
+unfoldable pub idsText : Form → List ℕ → List ℕ
+idsText form [] = []
+idsText form (id ∷ l) = idText form id ++ idsText form l
 
 -- ---- answers
 
@@ -92,13 +90,13 @@ unfoldable pub endText : ℕ → List ℕ
 endText answered = ascii "end " ++ (decimalText answered ++ newline)
 
 -- COUNT ID..., to the line's end
-unfoldable pub countedText : List ℕ → List ℕ
-countedText ids = decimalText (length ids) ++ (idsText ids ++ newline)
+unfoldable pub countedText : Form → List ℕ → List ℕ
+countedText form ids = decimalText (length ids) ++ (idsText form ids ++ newline)
 
 -- ok STEPS ASIDE COUNT ID...
-unfoldable pub okText : ℕ → ℕ → List ℕ → List ℕ
-okText steps aside ids = ascii "ok " ++ (decimalText steps ++ (space ++ (decimalText aside ++ (space ++ countedText ids))))
+unfoldable pub okText : Form → ℕ → ℕ → List ℕ → List ℕ
+okText form steps aside ids = ascii "ok " ++ (decimalText steps ++ (space ++ (decimalText aside ++ (space ++ countedText form ids))))
 
 -- ok COUNT ID...
-unfoldable pub listText : List ℕ → List ℕ
-listText ids = ascii "ok " ++ countedText ids
+unfoldable pub listText : Form → List ℕ → List ℕ
+listText form ids = ascii "ok " ++ countedText form ids

@@ -1,13 +1,11 @@
 // Answers as bytes of a buffer: each function writes from a place on, as long as there is room, and answers the place after.
 ghost use mathlib.Core.Path.{_≡_};
 ghost use mathlib.Core.List.{_++_};
-ghost use Prim.Native.Nat.{_+_, _≤_, _<_};
-ghost use lib.ListN.{length};
-ghost use lib.Seq.{sets};
-ghost use Rattle.io.specs.Digits.{glyph as Digits·glyph};
 ghost use Rattle.text.specs.Text.{bytesOf, fieldNo};
-ghost use Rattle.replies.specs.Write.{Wrote, decimalText, hexText, idText, idsText, placeOf, faultText, errorText, refusedText, endText, countedText, okText, listText};
+ghost use Rattle.tokens.specs.Tokens.{nameOf};
+ghost use Rattle.replies.specs.Write.{Wrote, decimalText, idText, idsText, placeOf, faultText, errorText, refusedText, endText, countedText, okText, listText};
 use text::Fault;
+use tokens::Form;
 
 // Writes s.
 pub fn put(text: &mut [u8], at: usize, s: &[u8]) -> usize
@@ -43,76 +41,36 @@ pub fn put_number(text: &mut [u8], at: usize, s: &[u8], n: u64) -> usize
     put_decimal(text, next, n)
 }
 
-// The digit of a number below 16.
-fn glyph(d: u64) -> u8
-    requires { ⌜ d < 16 ⌝ }
-    ensures { λ r. ⌜ r ≡ Digits·glyph d ⌝ }
-{
-    match d {
-        0 => 48,
-        1 => 49,
-        2 => 50,
-        3 => 51,
-        4 => 52,
-        5 => 53,
-        6 => 54,
-        7 => 55,
-        8 => 56,
-        9 => 57,
-        10 => 97,
-        11 => 98,
-        12 => 99,
-        13 => 100,
-        14 => 101,
-        _ => 102,
-    }
-}
-
-// Writes n in sixteen hexadecimal digits where there is room for them, from the last on.
-fn spell(text: &mut [u8], at: usize, n: u64)
-    requires { ⌜ at + 16 ≤ length (now text) ⌝ }
-    ensures { λ _. ⌜ now (text .exit) ≡ sets (now (text .entry)) at (hexText n) ⌝ }
-{
-    let mut rest = n;
-    let mut k = 16;
-    while 0 < k {
-        k -= 1;
-        text[at + k] = glyph(rest % 16);
-        rest /= 16;
-    }
-}
-
-// Writes n in sixteen hexadecimal digits.
-pub fn put_hex(text: &mut [u8], at: usize, n: u64) -> usize
-    ensures { λ r. ⌜ Wrote at (hexText n) (now (text .entry)) r (now (text .exit)) ⌝ }
+// Writes an id's name.
+pub fn put_name(text: &mut [u8], at: usize, form: Form, id: u64) -> usize
+    ensures { λ r. ⌜ Wrote at (nameOf form id) (now (text .entry)) r (now (text .exit)) ⌝ }
 {
     if 16 <= text.len() {
         if at <= text.len() - 16 {
-            spell(text, at, n);
-            return at + 16;
+            return tokens::put_name(form, text, at, id);
         }
     }
-    let mut digits = [0u8; 16];
-    let k = io::hex(n, 16, &mut digits);
-    put(text, at, &digits[..k])
+    let mut name = [0u8; 16];
+    let k = tokens::put_name(form, &mut name, 0, id);
+    put(text, at, &name[..k])
 }
 
-// Writes a space and an id.
-fn put_id(text: &mut [u8], at: usize, id: u64) -> usize
-    ensures { λ r. ⌜ Wrote at (idText id) (now (text .entry)) r (now (text .exit)) ⌝ }
+// Writes a space and an id's name.
+fn put_id(text: &mut [u8], at: usize, form: Form, id: u64) -> usize
+    ensures { λ r. ⌜ Wrote at (idText form id) (now (text .entry)) r (now (text .exit)) ⌝ }
 {
     let n = put(text, at, b" ");
-    put_hex(text, n, id)
+    put_name(text, n, form, id)
 }
 
-// Writes the ids, a space before each.
-pub fn put_ids(text: &mut [u8], at: usize, ids: &[u64]) -> usize
-    ensures { λ r. ⌜ Wrote at (idsText (now (ids .entry))) (now (text .entry)) r (now (text .exit)) ⌝ }
+// Writes the names of the ids, a space before each.
+pub fn put_ids(text: &mut [u8], at: usize, form: Form, ids: &[u64]) -> usize
+    ensures { λ r. ⌜ Wrote at (idsText form (now (ids .entry))) (now (text .entry)) r (now (text .exit)) ⌝ }
 {
     let mut n = at;
     let mut i = 0;
     while i < ids.len() {
-        n = put_id(text, n, ids[i]);
+        n = put_id(text, n, form, ids[i]);
         i += 1;
     }
     n
@@ -187,29 +145,29 @@ pub fn put_end(text: &mut [u8], answered: u64) -> usize
     put(text, a, b"\n")
 }
 
-// Writes how many ids there are, the ids, and the line's end.
-fn put_counted(text: &mut [u8], at: usize, ids: &[u64]) -> usize
-    ensures { λ r. ⌜ Wrote at (countedText (now (ids .entry))) (now (text .entry)) r (now (text .exit)) ⌝ }
+// Writes how many ids there are, their names, and the line's end.
+fn put_counted(text: &mut [u8], at: usize, form: Form, ids: &[u64]) -> usize
+    ensures { λ r. ⌜ Wrote at (countedText form (now (ids .entry))) (now (text .entry)) r (now (text .exit)) ⌝ }
 {
     let a = put_decimal(text, at, ids.len() as u64);
-    let b = put_ids(text, a, ids);
+    let b = put_ids(text, a, form, ids);
     put(text, b, b"\n")
 }
 
 // The answer to a request that is met: `ok STEPS ASIDE COUNT ID...`.
-pub fn put_ok(text: &mut [u8], steps: u64, aside: u64, ids: &[u64]) -> usize
-    ensures { λ r. ⌜ Wrote 0 (okText steps aside (now (ids .entry))) (now (text .entry)) r (now (text .exit)) ⌝ }
+pub fn put_ok(text: &mut [u8], form: Form, steps: u64, aside: u64, ids: &[u64]) -> usize
+    ensures { λ r. ⌜ Wrote 0 (okText form steps aside (now (ids .entry))) (now (text .entry)) r (now (text .exit)) ⌝ }
 {
     let a = put_number(text, 0, b"ok ", steps);
     let b = put_number(text, a, b" ", aside);
     let c = put(text, b, b" ");
-    put_counted(text, c, ids)
+    put_counted(text, c, form, ids)
 }
 
 // The answer to a question about a list: `ok COUNT ID...`.
-pub fn put_list(text: &mut [u8], ids: &[u64]) -> usize
-    ensures { λ r. ⌜ Wrote 0 (listText (now (ids .entry))) (now (text .entry)) r (now (text .exit)) ⌝ }
+pub fn put_list(text: &mut [u8], form: Form, ids: &[u64]) -> usize
+    ensures { λ r. ⌜ Wrote 0 (listText form (now (ids .entry))) (now (text .entry)) r (now (text .exit)) ⌝ }
 {
     let a = put(text, 0, b"ok ");
-    put_counted(text, a, ids)
+    put_counted(text, a, form, ids)
 }

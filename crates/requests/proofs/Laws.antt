@@ -21,6 +21,7 @@ use Rattle.covering.specs.Covering.{Result, refused, done, fitted, earlyOf, lis
 use Rattle.text.specs.declared.Fault.{Fault}
 use Rattle.text.specs.declared.Place.{Place}
 use Rattle.text.specs.Text.{isSilent}
+use Rattle.tokens.specs.declared.Form.{Form}
 use Rattle.replies.specs.Write.{Wrote, okText, errorText}
 use Rattle.replies.proofs.Lengths.{wrote-whole, error-length, refused-length, ok-length}
 use Rattle.requests.specs.declared.line.Request.{Request}
@@ -71,10 +72,10 @@ unfolding answerOf valuesOf outputAfter
 count-fits (refused n) out rest = omega arith
 count-fits (done l steps aside) out rest = simp length-append (omega arith)
 
-answer-text : (R : Result) (out rest : List ℕ) → answerText (answerOf R) (outputAfter R out ++ rest) ≡ resultText R
+answer-text : (form : Form) (R : Result) (out rest : List ℕ) → answerText form (answerOf R) (outputAfter R out ++ rest) ≡ resultText form R
 unfolding answerOf outputAfter answerText resultText
-answer-text (refused n) out rest = refl
-answer-text (done l steps aside) out rest = ap (okText steps aside) (ap (take (length l)) (append-assoc l _ rest) ∙ take-append-seam l _)
+answer-text form (refused n) out rest = refl
+answer-text form (done l steps aside) out rest = ap (okText form steps aside) (ap (take (length l)) (append-assoc l _ rest) ∙ take-append-seam l _)
 
 pub asked-fits : (q : Request) (a : Answer) (mem mem' out out' : List ℕ) → AnsweredIn q a mem mem' out out' → valuesOf a .count ≤ length out'
 asked-fits q a mem mem' out out' A = rw (A .answer, A .output) (count-fits (resultIn q mem out) _ _)
@@ -83,19 +84,19 @@ asked-fits q a mem mem' out out' A = rw (A .answer, A .output) (count-fits (resu
 
 -- a text of a refusal, or of at most so many ids
 abbrev Short : ℕ → Result → Type 0
-Short room R = length (resultText R) ≤ 17 * room + 256
+Short room R = (form : Form) → length (resultText form R) ≤ 17 * room + 256
 
 refused-short : (room n : ℕ) → Short room (refused n)
 unfolding resultText
-refused-short room n = omega (arith, refused-length n)
+refused-short room n form = omega (arith, refused-length n)
 
 fitted-short : (room : ℕ) (l : List ℕ) (steps aside : ℕ) → Short room (fitted room l steps aside)
 unfolding fitted resultText
 fitted-short room l steps aside = by (leb (length l) room) (λ h. leb-true _ _ h)
   where
     by : (b : Bool) → (b ≡ true → length l ≤ room) → Short room (elim b [ true ↦ done l steps aside | false ↦ refused 10 ])
-    by true h = omega (arith, ok-length steps aside l, h refl)
-    by false h = refused-short room 10
+    by true h form = omega (arith, ok-length form steps aside l, h refl)
+    by false h form = refused-short room 10 form
 
 ended-short : (e : Ending) (c : RegionCoverer) (room : ℕ) (o : Outcome) → Short room (endedAs e c room o)
 unfolding endedAs
@@ -119,17 +120,17 @@ result-short q memory room =
     (checked-short (eqb early 0) room early _ (fitted-short room (fastCoveringFor c (boundOf (q .region))) 0 0))
     (checked-short (eqb early 0) room early _ (ended-short (q .ending) c room (ranOf (q .inner) c (q .region) (allowanceOf (q .allowance)))))
 
-in-short : (q : Request) (mem out : List ℕ) → length (resultText (resultIn q mem out)) ≤ 17 * length out + 256
+in-short : (q : Request) (mem out : List ℕ) → length (resultText (q .form) (resultIn q mem out)) ≤ 17 * length out + 256
 unfolding resultIn
 in-short q mem out =
     let room = min (q .out) (length out) in
-    omega (arith, result-short q (min (q .mem) (length mem)) room)
+    omega (arith, result-short q (min (q .mem) (length mem)) room (q .form))
 
 -- ---- a line
 
 module _ (q : Request) (number : ℕ) (mem out : List ℕ) (p : Place) where
   module _ (end : ℕ) (e : p ≡ Place.At end) where
-    text-asked : textAt p number q mem out ≡ resultText (resultIn q mem out)
+    text-asked : textAt p number q mem out ≡ resultText (q .form) (resultIn q mem out)
     unfolding textAt
     text-asked = rw e
 
@@ -168,11 +169,11 @@ module _ (number : ℕ) (line mem out page : List ℕ) where
       output = rw (outputOf, asks, ← read, output-bad q number mem out (q .after) f e);
     }
 
-    pub replied-asked : (end : ℕ) (a : Answer) (mem' out' : List ℕ) → q .after ≡ Place.At end → AnsweredIn q a mem mem' out out' → Wrote 0 (answerText a out') page r page'
+    pub replied-asked : (end : ℕ) (a : Answer) (mem' out' : List ℕ) → q .after ≡ Place.At end → AnsweredIn q a mem mem' out out' → Wrote 0 (answerText (q .form) a out') page r page'
         → Replied number line mem mem' out out' page r page'
     unfolding textOf memoryOf outputOf
     replied-asked end a mem' out' e A w =
-        let t : answerText a out' ≡ resultText (resultIn q mem out) = rw (A .answer, A .output) (answer-text (resultIn q mem out) _ _) in
+        let t : answerText (q .form) a out' ≡ resultText (q .form) (resultIn q mem out) = rw (A .answer, A .output) (answer-text (q .form) (resultIn q mem out) _ _) in
         record {
           wrote = rw (textOf, asks, ← read, text-asked q number mem out (q .after) end e) (wrote-whole (omega (arith, in-short q mem out)) (rw t at w));
           memory = rw (memoryOf, asks, ← read, memory-asked q number mem out (q .after) end e) (A .memory);

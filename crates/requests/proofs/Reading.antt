@@ -1,7 +1,7 @@
 -- Laws of `specs/Line.antt`: what was read, part by part, is what the line asks.
-use mathlib.Core.Path.{_≡_, refl}
+use mathlib.Core.Path.{_≡_}
 use mathlib.Core.List.{List, [], _∷_}
-use Prim.Native.Nat.{ℕ, zero, suc, _+_, _-_, _≤_, _<_}
+use Prim.Native.Nat.{ℕ, _+_, _-_, _≤_, _<_}
 use native.Mathlib.Omega.{arith}
 use lib.Dec.{leb, eqb}
 use lib.ListN.{length, getD, take, drop, set, length-drop}
@@ -16,17 +16,12 @@ use Rattle.text.specs.Text.{until, fieldAt, bytesOf, placeAmong, numberIn, numb
 use Rattle.cell.specs.declared.Cap.{Cap}
 use Rattle.region.specs.declared.Region.{Region}
 use Rattle.covering.specs.declared.Ending.{Ending}
+use Rattle.tokens.specs.declared.Form.{Form}
 use Rattle.requests.specs.declared.line.Four.{Four}
 use Rattle.requests.specs.declared.line.CovererRead.{CovererRead}
 use Rattle.requests.specs.declared.line.RegionRead.{RegionRead}
 use Rattle.requests.specs.declared.line.Options.{Options}
-use Rattle.requests.specs.Line.{kinds, endingOf, fourAfter, covererAfter, capOf, capAfter, cellAfter, regions, regionAfter, keys, mostOf, none, valueOr, badOption, optionGiven, optionOf, optionFrom, nextOption, optionsAfter, requestOf}
-
--- a number that is neither 0 nor 1 names the last of three
-pub last-of-three : {A : Type 0} (x y z : A) (k : ℕ) → (k ≡ 0 → ⊥) → (k ≡ 1 → ⊥) → z ≡ getD (x ∷ y ∷ []) k z
-last-of-three x y z zero a b = absurd (a refl)
-last-of-three x y z (suc zero) a b = absurd (b refl)
-last-of-three x y z (suc (suc k)) a b = refl
+use Rattle.requests.specs.Line.{kinds, endingOf, fourAfter, covererAfter, capOf, capAfter, cellAfter, regions, regionAfter, keys, mostOf, none, valueOr, formOf, badOption, optionGiven, optionOf, optionFrom, nextOption, optionsAfter, requestOf}
 
 -- ---- the parts of a request
 
@@ -78,12 +73,12 @@ module _ (w : List ℕ) (next : ℕ) (o r : Options) (e : ℕ) (at : e ≡ until
   unfolding optionOf
   option-none h d = rw (optionOf, ← at, le-ltb _ _ h) d
 
-  module _ (k : ℕ) (h : e < length w) (i : k ≡ placeAmong 3 keys 0 (take (e + 1) w)) where
-    pub option-other : 3 ≤ k → r ≡ badOption o Fault.ExtraField → r ≡ optionOf w next o
+  module _ (k : ℕ) (h : e < length w) (i : k ≡ placeAmong 4 keys 0 (take (e + 1) w)) where
+    pub option-other : 4 ≤ k → r ≡ badOption o Fault.ExtraField → r ≡ optionOf w next o
     unfolding optionOf
     option-other g d = rw (optionOf, ← at, lt-ltb _ _ h, ← at, ← i, le-ltb _ _ g) d
 
-    pub option-key : k < 3 → r ≡ optionGiven k (take (length w - (e + 1)) (drop (e + 1) w)) next o → r ≡ optionOf w next o
+    pub option-key : k < 4 → r ≡ optionGiven k (take (length w - (e + 1)) (drop (e + 1) w)) next o → r ≡ optionOf w next o
     unfolding optionOf
     option-key g d = rw (optionOf, ← at, lt-ltb _ _ h, ← at, ← i, lt-ltb _ _ g, ← at, ← i) (rw (rest-is (e + 1) w) at d)
 
@@ -101,16 +96,16 @@ module _ (l : List ℕ) (p : Place) (o : Options) where
   unfolding optionFrom
   next-bad f h = rw h
 
-pub options-read : (l : List ℕ) (p : Place) (a b c d : Options) → a ≡ nextOption l (record { values = none ∷ none ∷ none ∷ []; after = p }) → b ≡ nextOption l a → c ≡ nextOption l b → d ≡ nextOption l c
-    → d ≡ optionsAfter l p
+pub options-read : (l : List ℕ) (p : Place) (a b c d e : Options) → a ≡ nextOption l (record { values = none ∷ none ∷ none ∷ none ∷ []; after = p }) → b ≡ nextOption l a → c ≡ nextOption l b → d ≡ nextOption l c
+    → e ≡ nextOption l d → e ≡ optionsAfter l p
 unfolding optionsAfter
-options-read l p a b c d ea eb ec ed = rw (ed, ec, eb, ea)
+options-read l p a b c d e ea eb ec ed ee = rw (ee, ed, ec, eb, ea)
 
 -- ---- the request
 
-pub request-read : (l : List ℕ) (start : Place) (kind : Read) (c : CovererRead) (g : RegionRead) (o : Options) (end : Place) (k : Ending) (allowance out mem : ℕ)
+pub request-read : (l : List ℕ) (start : Place) (kind : Read) (c : CovererRead) (g : RegionRead) (o : Options) (end : Place) (k : Ending) (allowance out mem : ℕ) (form : Form)
     → start ≡ startOf l → kind ≡ choiceAfter kinds 7 Fault.UnknownKind l start → c ≡ covererAfter l (kind .after) → g ≡ regionAfter l (c .after) → o ≡ optionsAfter l (g .after)
-    → end ≡ endAfter l (o .after) → k ≡ endingOf (kind .value) → allowance ≡ valueOr 4294967295 (getD (o .values) 0 0) → out ≡ valueOr 65536 (getD (o .values) 1 0) → mem ≡ valueOr 4096 (getD (o .values) 2 0)
-    → record { ending = k; inner = leb 3 (kind .value); fast = eqb (kind .value) 6; coverer = c .coverer; region = g .region; allowance = allowance; out = out; mem = mem; after = end } ≡ requestOf l
+    → end ≡ endAfter l (o .after) → k ≡ endingOf (kind .value) → allowance ≡ valueOr 4294967295 (getD (o .values) 0 0) → out ≡ valueOr 65536 (getD (o .values) 1 0) → mem ≡ valueOr 4096 (getD (o .values) 2 0) → form ≡ formOf (getD (o .values) 3 0)
+    → record { ending = k; inner = leb 3 (kind .value); fast = eqb (kind .value) 6; coverer = c .coverer; region = g .region; allowance = allowance; out = out; mem = mem; form = form; after = end } ≡ requestOf l
 unfolding requestOf
-request-read l start kind c g o end k allowance out mem es ek ec eg eo ee e1 e2 e3 e4 = rw (e1, e2, e3, e4, ee, eo, eg, ec, ek, es)
+request-read l start kind c g o end k allowance out mem form es ek ec eg eo ee e1 e2 e3 e4 e5 = rw (e1, e2, e3, e4, e5, ee, eo, eg, ec, ek, es)

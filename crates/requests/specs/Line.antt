@@ -1,4 +1,4 @@
--- A request of `cover` as a line: `KIND MIN MAX MOD MAX_CELLS REGION [allow=N] [out=N] [mem=N]`, the options in any order.
+-- A request of `cover` as a line: `KIND MIN MAX MOD MAX_CELLS REGION [allow=N] [out=N] [mem=N] [tokens=N]`, the options in any order.
 use mathlib.Core.Bool.{true, false}
 use mathlib.Core.List.{List, [], _∷_}
 use Prim.Native.Nat.{ℕ, _+_, _%_}
@@ -14,6 +14,7 @@ use Rattle.point.specs.declared.Point.{Point}
 use Rattle.cell.specs.declared.Cap.{Cap}
 use Rattle.region.specs.declared.Region.{Region}
 use Rattle.covering.specs.declared.Ending.{Ending}
+use Rattle.tokens.specs.declared.Form.{Form}
 use Rattle.requests.specs.declared.line.CovererRead.{CovererRead}
 use Rattle.requests.specs.declared.line.Four.{Four}
 use Rattle.requests.specs.declared.line.RegionRead.{RegionRead}
@@ -76,14 +77,14 @@ regionAfter l p =
     let which = choiceAfter regions 2 Fault.UnknownRegion l p in
     elim (eqb (which .value) 0) [ true ↦ capAfter l (which .after) | false ↦ cellAfter l (which .after) ]
 
--- ---- options: the allowance, the places of output, the words of working memory
+-- ---- options: the allowance, the places of output, the words of working memory, whether ids are written as tokens
 
 abbrev pub keys : List ℕ
-keys = ascii "allow= out= mem="
+keys = ascii "allow= out= mem= tokens="
 
 -- the most that each may be
 unfoldable pub mostOf : ℕ → ℕ
-mostOf k = getD (4294967295 ∷ 65536 ∷ []) k 8192
+mostOf k = getD (4294967295 ∷ 65536 ∷ 8192 ∷ []) k 1
 
 -- what stands for an option that is not given: more than any may be
 abbrev pub none : ℕ
@@ -91,6 +92,10 @@ none = 0xffff_ffff_ffff_ffff
 
 unfoldable pub valueOr : ℕ → ℕ → ℕ
 valueOr default v = elim (eqb v none) [ true ↦ default | false ↦ v ]
+
+-- how ids are written: tokens where 1 is given, else sixteen digits
+unfoldable pub formOf : ℕ → Form
+formOf v = elim (eqb v 1) [ true ↦ Form.Token | false ↦ Form.Digits ]
 
 -- a fault among the options
 unfoldable pub badOption : Options → Fault → Options
@@ -110,8 +115,8 @@ unfoldable pub optionOf : List ℕ → ℕ → Options → Options
 optionOf w next o = elim (ltb (until 61 w) (length w)) [
   | false ↦ badOption o Fault.ExtraField
   | true ↦
-      let k = placeAmong 3 keys 0 (take (until 61 w + 1) w) in
-      elim (ltb k 3) [ true ↦ optionGiven k (drop (until 61 w + 1) w) next o | false ↦ badOption o Fault.ExtraField ]
+      let k = placeAmong 4 keys 0 (take (until 61 w + 1) w) in
+      elim (ltb k 4) [ true ↦ optionGiven k (drop (until 61 w + 1) w) next o | false ↦ badOption o Fault.ExtraField ]
 ]
 
 -- one option more, if there is one
@@ -122,9 +127,9 @@ optionFrom l (Place.At at) o = elim (isThere (fieldAt l at)) [ true ↦ optionOf
 abbrev pub nextOption : List ℕ → Options → Options
 nextOption l o = optionFrom l (o .after) o
 
--- three options at most; a fourth field is a fault, and which it is is told by its own turn
+-- four options at most; a fifth field is a fault, and which it is is told by its own turn
 unfoldable pub optionsAfter : List ℕ → Place → Options
-optionsAfter l p = nextOption l (nextOption l (nextOption l (nextOption l (record { values = none ∷ none ∷ none ∷ []; after = p }))))
+optionsAfter l p = nextOption l (nextOption l (nextOption l (nextOption l (nextOption l (record { values = none ∷ none ∷ none ∷ none ∷ []; after = p })))))
 
 -- ---- a request: one part after another; the place after it is a fault's where the line is no request
 
@@ -143,5 +148,6 @@ requestOf l =
       allowance = valueOr 4294967295 (getD (o .values) 0 0);
       out = valueOr 65536 (getD (o .values) 1 0);
       mem = valueOr 4096 (getD (o .values) 2 0);
+      form = formOf (getD (o .values) 3 0);
       after = endAfter l (o .after);
     }

@@ -9,6 +9,7 @@ use Rattle.covering.specs.Covering.{Result, resultOf, fastResultOf, answerOf, m
 use Rattle.covering.specs.Covering as Covering
 use Rattle.text.specs.declared.Place.{Place}
 use Rattle.text.specs.Text.{isSilent}
+use Rattle.tokens.specs.declared.Form.{Form}
 use Rattle.replies.specs.Write.{Whole, refusedText, okText, errorText}
 use Rattle.requests.specs.declared.line.Request.{Request}
 use Rattle.requests.specs.Line.{requestOf}
@@ -29,9 +30,9 @@ unfoldable pub resultIn : Request → List ℕ → List ℕ → Result
 resultIn q mem out = resultFor q (min (q .mem) (length mem)) (min (q .out) (length out))
 
 -- `ok STEPS ASIDE COUNT ID...` or `refused NUMBER`
-unfoldable pub resultText : Result → List ℕ
-resultText (Covering.refused n) = refusedText n
-resultText (Covering.done l steps aside) = okText steps aside l
+unfoldable pub resultText : Form → Result → List ℕ
+resultText form (Covering.refused n) = refusedText n
+resultText form (Covering.done l steps aside) = okText form steps aside l
 
 -- a change of the first n words
 abbrev pub onFirst : ℕ → (List ℕ → List ℕ) → List ℕ → List ℕ
@@ -40,7 +41,7 @@ onFirst n change l = change (take n l) ++ drop n l
 -- ---- a line of some number, read as a request: its answer's text, and the working memory and the output afterwards
 
 unfoldable pub textAt : Place → ℕ → Request → List ℕ → List ℕ → List ℕ
-textAt (Place.At end) number q mem out = resultText (resultIn q mem out)
+textAt (Place.At end) number q mem out = resultText (q .form) (resultIn q mem out)
 textAt (Place.Bad f) number q mem out = errorText number f
 
 unfoldable pub memoryAt : Place → Request → List ℕ → List ℕ → List ℕ
@@ -70,9 +71,9 @@ pub record Replied (number : ℕ) (line mem mem' out out' page : List ℕ) (r : 
 -- ---- for the functions that make up an answer
 
 -- the text of an answer, its ids taken from the output's first places
-unfoldable pub answerText : Answer → List ℕ → List ℕ
-answerText (Answer.Done count steps aside) out = okText steps aside (take count out)
-answerText (Answer.Refused n) out = refusedText n
+unfoldable pub answerText : Form → Answer → List ℕ → List ℕ
+answerText form (Answer.Done count steps aside) out = okText form steps aside (take count out)
+answerText form (Answer.Refused n) out = refusedText n
 
 pub record AnsweredIn (q : Request) (r : Answer) (mem mem' out out' : List ℕ) : Type 0 where
   pub answer : r ≡ answerOf (resultIn q mem out)

@@ -13,12 +13,14 @@ pub use line::Options;
 pub use line::RegionRead;
 use line::Request;
 pub use line::cap_of;
+pub use line::form_of;
 pub use line::read_coverer;
 pub use line::read_options;
 pub use line::read_region;
 use line::read_request;
 pub use line::value_or;
 use text::Place;
+use tokens::Form;
 
 // The allowance as a u32; a number that none holds allows as much as any.
 fn allowance_of(n: u64) -> u32
@@ -60,13 +62,13 @@ fn answer_in(q: Request, mem: &mut [u64], out: &mut [u64]) -> Answer
 }
 
 // Writes an answer, with the ids that stand in the output's first places.
-fn put_answer(a: Answer, out: &[u64], page: &mut [u8]) -> usize
+fn put_answer(form: Form, a: Answer, out: &[u64], page: &mut [u8]) -> usize
     requires { ⌜ valuesOf a .count ≤ length (now out) ⌝ }
-    ensures { λ r. ⌜ Wrote 0 (answerText a (now (out .entry))) (now (page .entry)) r (now (page .exit)) ⌝ }
+    ensures { λ r. ⌜ Wrote 0 (answerText form a (now (out .entry))) (now (page .entry)) r (now (page .exit)) ⌝ }
 {
     match a {
         Answer::Done(count, steps, aside) => {
-            replies::put_ok(page, steps as u64, aside, &out[..count])
+            replies::put_ok(page, form, steps as u64, aside, &out[..count])
         }
         Answer::Refused(refusal) => replies::put_refused(page, refusal),
     }
@@ -86,7 +88,8 @@ pub fn answer(line: &[u8], number: u64, mem: &mut [u64], out: &mut [u64], page: 
     match after {
         Place::At(_) => {
             let a = answer_in(q, mem, out);
-            put_answer(a, out, page)
+            let form = q.form;
+            put_answer(form, a, out, page)
         }
         Place::Bad(f) => replies::put_error(page, number, f),
     }

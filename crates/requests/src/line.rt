@@ -1,10 +1,10 @@
-// A request of `cover` as a line: `KIND MIN MAX MOD MAX_CELLS REGION [allow=N] [out=N] [mem=N]`, the options in any order. Any numbers and any bits of
+// A request of `cover` as a line: `KIND MIN MAX MOD MAX_CELLS REGION [allow=N] [out=N] [mem=N] [tokens=N]`, the options in any order. Any numbers and any bits of
 // floats are taken: whoever answers the request tests its domain.
 ghost use mathlib.Core.Path.{_≡_};
 ghost use Prim.Native.Nat.{_<_};
 ghost use Rattle.text.specs.Text.{choiceAfter};
 ghost use Rattle.text.specs.declared.Fault.{Fault};
-ghost use Rattle.requests.specs.Line.{kinds, regions, endingOf, fourAfter, covererAfter, pointOf, capOf, capAfter, cellAfter, regionAfter, mostOf, valueOr, badOption, optionGiven, optionOf, nextOption, optionsAfter, requestOf};
+ghost use Rattle.requests.specs.Line.{kinds, regions, endingOf, fourAfter, covererAfter, pointOf, capOf, capAfter, cellAfter, regionAfter, mostOf, valueOr, formOf, badOption, optionGiven, optionOf, nextOption, optionsAfter, requestOf};
 use cell::Cap;
 use covering::Ending;
 use fast::RegionCoverer;
@@ -14,6 +14,7 @@ use text::Base;
 use text::Fault;
 use text::Place;
 use text::Read;
+use tokens::Form;
 
 // Four numbers, and the place after them.
 pub struct Four {
@@ -33,9 +34,9 @@ pub struct RegionRead {
     pub after: Place,
 }
 
-// The options that were given, in the order allow, out, mem, and the place after them; u64::MAX stands for one that was not.
+// The options that were given, in the order allow, out, mem, tokens, and the place after them; u64::MAX stands for one that was not.
 pub struct Options {
-    pub values: [u64; 3],
+    pub values: [u64; 4],
     pub after: Place,
 }
 
@@ -49,6 +50,7 @@ pub struct Request {
     pub allowance: u64,
     pub out: u64,
     pub mem: u64,
+    pub form: Form,
     pub after: Place,
 }
 
@@ -164,7 +166,8 @@ fn most_of(k: u64) -> u64
     match k {
         0 => 4294967295,
         1 => 65536,
-        _ => 8192,
+        2 => 8192,
+        _ => 1,
     }
 }
 
@@ -180,7 +183,7 @@ fn bad_option(o: Options, f: Fault) -> Options
 
 // The k-th option, with the digits that spell its number.
 fn option_given(k: u64, digits: &[u8], next: usize, o: Options) -> Options
-    requires { ⌜ k < 3 ⌝ }
+    requires { ⌜ k < 4 ⌝ }
     ensures { λ r. ⌜ r ≡ optionGiven k (now (digits .entry)) next o ⌝ }
 {
     let mut values = o.values;
@@ -201,8 +204,8 @@ fn option_of(field: &[u8], next: usize, o: Options) -> Options
     let e = text::find(field, b'=');
     if e < field.len() {
         let from = e + 1;
-        let k = text::place_among(&field[..from], b"allow= out= mem=", 3);
-        if k < 3 {
+        let k = text::place_among(&field[..from], b"allow= out= mem= tokens=", 4);
+        if k < 4 {
             return option_given(k, &field[from..], next, o);
         }
         return bad_option(o, Fault::ExtraField);
@@ -229,18 +232,19 @@ fn next_option(line: &[u8], o: Options) -> Options
     }
 }
 
-// The options: three at most, each once. A fourth field is a fault, and which it is is told by its own turn.
+// The options: four at most, each once. A fifth field is a fault, and which it is is told by its own turn.
 pub fn read_options(line: &[u8], p: Place) -> Options
     ensures { λ r. ⌜ r ≡ optionsAfter (now (line .entry)) p ⌝ }
 {
     let none = Options {
-        values: [u64::MAX; 3],
+        values: [u64::MAX; 4],
         after: p,
     };
     let one = next_option(line, none);
     let two = next_option(line, one);
     let three = next_option(line, two);
-    next_option(line, three)
+    let four = next_option(line, three);
+    next_option(line, four)
 }
 
 // An option's value, or its default where it was not given.
@@ -251,6 +255,16 @@ pub fn value_or(default: u64, v: u64) -> u64
         return default;
     }
     v
+}
+
+// How ids are to be written, by the value of `tokens=`.
+pub fn form_of(v: u64) -> Form
+    ensures { λ r. ⌜ r ≡ formOf v ⌝ }
+{
+    if v == 1 {
+        return Form::Token;
+    }
+    Form::Digits
 }
 
 // The request that a line is.
@@ -279,6 +293,7 @@ pub fn read_request(line: &[u8]) -> Request
         allowance: value_or(4294967295, values[0]),
         out: value_or(65536, values[1]),
         mem: value_or(4096, values[2]),
+        form: form_of(values[3]),
         after,
     }
 }

@@ -5,10 +5,10 @@ use Rattle.lines.proofs.read_question.Statement.{statement}
 use Rattle.lines.proofs.read_question.Tie as tie
 
 returns : tie.Need-returns
-returns c = let lists = c .before .before .before .before .before .before in
+returns c = let lists = c .before .before .before .before .before .before .before in
     let word = lists .before .before in
-    question-read _ _ _ (word .before .read-start .result) (word .read-word .result) (lists .read-lists .result) (c .before .before .before .read-options .result) _ _
-    (word .before .read-start .ensures) (word .read-word .ensures) (lists .read-lists .ensures) (c .before .before .before .read-options .ensures) (c .before .read-end .ensures) (c .value-or .ensures)
+    question-read _ _ _ (word .before .read-start .result) (word .read-word .result) (lists .read-lists .result) (c .before .before .before .before .read-options .result) _ _ _
+    (word .before .read-start .ensures) (word .read-word .ensures) (lists .read-lists .ensures) (c .before .before .before .before .read-options .ensures) (c .before .before .read-end .ensures) (c .before .value-or .ensures) (c .form-of .ensures)
 
 pub read-question-spec : {M : Type 1} → statement M
 read-question-spec =
@@ -18,6 +18,8 @@ read-question-spec =
     (λ c κs. search needs)
     (λ c κs. search needs)
     (λ c κs. search needs)
+    (λ c κs. search needs)
+    (λ c. search needs)
     (λ c κs. search needs)
     (λ c. search needs)
     (λ c κs. search needs)

@@ -7,7 +7,7 @@ use Rattle.replies.proofs.put_id.Tie as tie
 
 returns : tie.Need-returns
 unfolding idText
-returns c = wrote-then (c .before .before .before .before .before .before .put .ensures) (c .before .before .put-hex .ensures)
+returns c = wrote-then (c .before .before .before .before .before .before .put .ensures) (c .before .before .put-name .ensures)
 
 pub put-id-spec : {M : Type 1} → statement M
 put-id-spec =

@@ -11,14 +11,14 @@ use Rattle.replies.proofs.put_ids.Statement.{statement}
 use Rattle.replies.proofs.put_ids.Tie as tie
 
 abbrev Inv-loop : tie.InvT-loop
-Inv-loop text₀ at ids n₀ i₀ text n i =
-    (i ≤ length ids) × (length text ≡ length text₀) × ((r : ℕ) (l : List ℕ) → Wrote n (idsText (drop i ids)) text r l → Wrote at (idsText ids) text₀ r l)
+Inv-loop text₀ at form ids n₀ i₀ text n i =
+    (i ≤ length ids) × (length text ≡ length text₀) × ((r : ℕ) (l : List ℕ) → Wrote n (idsText form (drop i ids)) text r l → Wrote at (idsText form ids) text₀ r l)
 
 abbrev μ-loop : tie.MeasureT-loop
-μ-loop text₀ at ids n₀ i₀ text n i = length ids - i
+μ-loop text₀ at form ids n₀ i₀ text n i = length ids - i
 
 loop-again : tie.Need-loop-again Inv-loop μ-loop
-loop-again c = (omega arith, search needs, λ r l w. c .before .before .before .before .before .before .loop .inv .2 r l (rw (ids-go (c .before .before .before .before .before .before .before .before .before .args .ids .now) (c .before .before .before .before .before .before .loop .i) (omega arith)) (wrote-then (c .before .before .put-id .ensures) w)))
+loop-again c = (omega arith, search needs, λ r l w. c .before .before .before .before .before .before .loop .inv .2 r l (rw (ids-go _ (c .before .before .before .before .before .before .before .before .before .args .ids .now) (c .before .before .before .before .before .before .loop .i) (omega arith)) (wrote-then (c .before .before .put-id .ensures) w)))
 
 returns : tie.Need-returns Inv-loop μ-loop
 unfolding idsText

@@ -1,6 +1,9 @@
 -- `requests::line::ending_of`: case by case.
 use Rattle.requests.specs.Line.{endingOf}
-use Rattle.requests.proofs.Reading.{last-of-three}
+use mathlib.Core.List.{[], _∷_}
+use Prim.Native.Nat.{_%_}
+use Rattle.cellid.proofs.Laws.{last-of}
+use Rattle.covering.specs.declared.Ending.{Ending}
 use Rattle.requests.proofs.line.ending_of.Statement.{statement}
 use Rattle.requests.proofs.line.ending_of.Tie as tie
 
@@ -14,7 +17,7 @@ returns-2 c = rw (c .match .keys2)
 
 returns-3 : tie.Need-returns-3
 unfolding endingOf
-returns-3 c = last-of-three _ _ _ _ (c .match .rest .0 .1) (c .match .rest .1)
+returns-3 c = last-of (Ending.Covering ∷ Ending.CellUnion ∷ []) Ending.Raw (c .before .args .k % 3) (c .match .rest)
 
 pub ending-of-spec : {M : Type 1} → statement M
 ending-of-spec = tie.close (tie.spec returns returns-2 returns-3)

@@ -1,6 +1,7 @@
 -- `requests::line::most_of`: case by case.
 use Rattle.requests.specs.Line.{mostOf}
-use Rattle.requests.proofs.Reading.{last-of-three}
+use mathlib.Core.List.{[], _∷_}
+use Rattle.cellid.proofs.Laws.{last-of}
 use Rattle.requests.proofs.line.most_of.Statement.{statement}
 use Rattle.requests.proofs.line.most_of.Tie as tie
 
@@ -14,7 +15,11 @@ returns-2 c = rw (c .match .keys2)
 
 returns-3 : tie.Need-returns-3
 unfolding mostOf
-returns-3 c = last-of-three _ _ _ _ (c .match .rest .0 .1) (c .match .rest .1)
+returns-3 c = rw (c .match .keys3)
+
+returns-4 : tie.Need-returns-4
+unfolding mostOf
+returns-4 c = last-of (4294967295 ∷ 65536 ∷ 8192 ∷ []) 1 (c .before .args .k) (c .match .rest)
 
 pub most-of-spec : {M : Type 1} → statement M
-most-of-spec = tie.close (tie.spec returns returns-2 returns-3)
+most-of-spec = tie.close (tie.spec returns returns-2 returns-3 returns-4)
