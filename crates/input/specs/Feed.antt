@@ -7,6 +7,7 @@ use Prim.Native.Nat.{ℕ, _+_, _-_, _≤_, _<_}
 use lib.Dec.{eqb, leb, ltb}
 use lib.ListN.{length, take, drop}
 use Rattle.text.specs.Text.{until}
+use Rattle.input.specs.declared.All.{All}
 use Rattle.input.specs.declared.Found.{Found}
 use Rattle.input.specs.declared.Feed.{Feed}
 
@@ -90,3 +91,9 @@ mayWait room waiting longest end filled = ltb end filled && leb longest (room - 
 -- how many bytes are left waiting: all, or none
 unfoldable pub leftWaiting : ℕ → ℕ → ℕ → ℕ → ℕ → ℕ
 leftWaiting room waiting longest end filled = cond (mayWait room waiting longest end filled) waiting 0
+
+-- how many bytes of a file are held
+unfoldable pub heldOf : All → ℕ
+heldOf (All.Held n) = n
+heldOf All.TooLong = 0
+heldOf All.Failed = 0

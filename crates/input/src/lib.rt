@@ -1,10 +1,10 @@
 // Lines of an input of any size, one after another, out of one buffer. A line that the buffer can't hold is passed over to its end, and a part of a line
-// that neither a newline nor the true end of the input closes is never answered.
+// that neither a newline nor the true end of the input closes is never answered. Or all of an input at once, as far as a buffer holds it.
 ghost use mathlib.Core.Path.{_≡_};
 ghost use mathlib.Core.Bool.{false, _&&_};
 ghost use Prim.Native.Nat.{_+_, _-_, _≤_, _<_};
 ghost use lib.ListN.{length, take};
-ghost use Rattle.input.specs.Feed.{between, lineEnd, lineTo, lastLine, tooLong, failure, isLast, Ready, NoLine, ReadOn, NextLine, mayWait, leftWaiting};
+ghost use Rattle.input.specs.Feed.{between, lineEnd, lineTo, lastLine, tooLong, failure, isLast, Ready, NoLine, ReadOn, NextLine, mayWait, leftWaiting, heldOf};
 use libc::STDERR_FILENO;
 use libc::STDOUT_FILENO;
 
@@ -42,6 +42,13 @@ pub struct Turn {
     pub feed: Feed,
     pub waiting: usize,
     pub failed: bool,
+}
+
+// All of a file: how many bytes of the buffer it fills; or that the buffer can't hold it, or that it can't be read.
+pub enum All {
+    Held(usize),
+    TooLong,
+    Failed,
 }
 
 // Room for a line of 262,144 bytes and its newline.
@@ -82,6 +89,25 @@ fn fill(fd: i32, buf: &mut [u8], filled: usize) -> Filled
         filled: filled + io::count(got, &buf[filled..]),
         failed: got < 0,
     }
+}
+
+// Reads a file to its end. Of a buffer that is full nobody knows whether it holds all, so a byte has to stay free.
+pub fn read_all(fd: i32, buf: &mut [u8]) -> All
+    ensures { λ r. ⌜ heldOf r ≤ length (now (buf .entry)) ⌝ }
+{
+    let mut filled = 0;
+    while filled < buf.len() {
+        let f = fill(fd, buf, filled);
+        if f.failed {
+            return All::Failed;
+        }
+        let more = f.filled;
+        if more == filled {
+            return All::Held(filled);
+        }
+        filled = more;
+    }
+    All::TooLong
 }
 
 // The line up to a newline at `end`.
