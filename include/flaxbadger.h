@@ -119,6 +119,27 @@ uint64_t flaxbadger_common(const uint64_t *first, size_t first_len, const uint64
 uint64_t flaxbadger_difference(const uint64_t *first, size_t first_len, const uint64_t *second, size_t second_len,
                                uint64_t *out, size_t out_len, uint64_t *count);
 
+/* TOKENS. An id's token is its 16 lowercase hexadecimal digits without the zeros at their end. A list as a text has a token a line, each
+ * line ended by one newline: the list 0x04.., 0x0c.., 0x14.. is the nine bytes 04, newline, 0c, newline, 14, newline; an empty list is an
+ * empty text.
+ *
+ * flaxbadger_write_tokens turns a list of ids_len valid ids, in any order, into such a text. flaxbadger_read_tokens turns such a text of
+ * text_len bytes (tokens of 1 to 16 digits with the last not 0, every id valid) back into the list. What was written is read as the
+ * list, and what was read is written as the same bytes. Lists and texts are of any length, with no byte 0 behind a text; there is no
+ * working memory.
+ *
+ * The result is 0, and count the number of bytes, or of ids, in the first places of the output; or the number of a refusal, with the
+ * output as it was and count 0:
+ *   11  an id that is not a cell; a line that is not the token of one: empty, over 16 digits, with 0 as the last, with a capital, a
+ *       blank, a carriage return or any other byte; a last line without its newline. first is the number, from 1, of the first such
+ *   12  the text, or the list, is longer than the output. 17 * ids_len bytes are always enough for a text, text_len / 2 words for a list
+ * 11 is tested first, over the whole input; but for 11, first is 0. The input is only read; it may not overlap the output, count or
+ * first, nor may any two of these, and what is said of pointers above holds here too, except that a text need not be aligned. */
+uint64_t flaxbadger_write_tokens(const uint64_t *ids, size_t ids_len, uint8_t *text, size_t text_len,
+                                 uint64_t *count, uint64_t *first);
+uint64_t flaxbadger_read_tokens(const uint8_t *text, size_t text_len, uint64_t *ids, size_t ids_len,
+                                uint64_t *count, uint64_t *first);
+
 #ifdef __cplusplus
 }
 #endif

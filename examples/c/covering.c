@@ -1,5 +1,5 @@
-/* Coverings from C: a cap that is covered, a cell region, a list as leaf ranges and back, two lists as one, and three refusals. Writes
- * what comes back; exits with 1 where it is not what papers 01 and 02 say. */
+/* Coverings from C: a cap that is covered, a cell region, a list as leaf ranges and back, two lists as one, a list as tokens and back, and five
+ * refusals. Writes what comes back; exits with 1 where it is not what papers 01 and 02 say. */
 #include <inttypes.h>
 #include <stdio.h>
 #include <string.h>
@@ -75,6 +75,24 @@ int main(void) {
     number = flaxbadger_common(first, 3, second, 3, out, 64, &count);
     printf("shared: number %" PRIu64 ", %" PRIu64 " cells, %016" PRIx64 " and %016" PRIx64 "\n", number, count, out[0], out[1]);
     ok &= number == 0 && count == 2 && out[0] == quarters[1] && out[1] == quarters[2];
+
+    /* The first list as tokens, which survey crews type, a line each; and back. A text of eight bytes is too short; a capital is refused, with the
+     * number of its line. */
+    const char typed[] = "04\n0c\n14\n";
+    uint8_t text[9];
+    uint64_t line;
+    number = flaxbadger_write_tokens(first, 3, text, 8, &count, &line);
+    ok &= number == 12 && count == 0 && line == 0;
+    number = flaxbadger_write_tokens(first, 3, text, 9, &count, &line);
+    printf("as tokens: number %" PRIu64 ", %" PRIu64 " bytes\n%.*s", number, count, (int)count, (const char *)text);
+    ok &= number == 0 && count == 9 && memcmp(text, typed, 9) == 0;
+    number = flaxbadger_read_tokens(text, 9, out, 64, &count, &line);
+    printf("and back: number %" PRIu64 ", %" PRIu64 " cells\n", number, count);
+    ok &= number == 0 && count == 3 && memcmp(out, first, 3 * sizeof *out) == 0;
+    text[4] = 'C';
+    number = flaxbadger_read_tokens(text, 9, out, 64, &count, &line);
+    printf("with a capital: number %" PRIu64 ", line %" PRIu64 "\n", number, line);
+    ok &= number == 11 && count == 0 && line == 2;
 
     puts(ok ? "as expected" : "NOT as expected");
     return ok ? 0 : 1;

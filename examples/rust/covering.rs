@@ -1,5 +1,5 @@
-// Coverings from Rust: safe functions over the archive's, a covering of a cap, its leaf ranges, two coverings as one list, and refusals. Exits
-// with 1 where an answer is not what papers 01 and 02 say.
+// Coverings from Rust: safe functions over the archive's, a covering of a cap, its leaf ranges, two coverings as one list, a list as tokens and back,
+// and refusals. Exits with 1 where an answer is not what papers 01 and 02 say.
 
 extern "C" {
     fn flaxbadger_covering_cap(
@@ -13,6 +13,8 @@ extern "C" {
         first: *const u64, first_len: usize, second: *const u64, second_len: usize,
         out: *mut u64, out_len: usize, count: &mut u64,
     ) -> u64;
+    fn flaxbadger_write_tokens(ids: *const u64, ids_len: usize, text: *mut u8, text_len: usize, count: &mut u64, first: &mut u64) -> u64;
+    fn flaxbadger_read_tokens(text: *const u8, text_len: usize, ids: *mut u64, ids_len: usize, count: &mut u64, first: &mut u64) -> u64;
 }
 
 /// Levels and the number of cells that are aimed at.
@@ -65,6 +67,22 @@ fn union(first: &[u64], second: &[u64]) -> Result<Vec<u64>, u64> {
     if number == 0 { Ok(out) } else { Err(number) }
 }
 
+/// Writes the list as tokens, a line each, and gives how many bytes they are; or the number of the refusal (11 or 12), and of 11 that of the first id
+/// that is no cell.
+fn write_tokens(ids: &[u64], text: &mut [u8]) -> Result<usize, (u64, u64)> {
+    let (mut count, mut first) = (0, 0);
+    let number = unsafe { flaxbadger_write_tokens(ids.as_ptr(), ids.len(), text.as_mut_ptr(), text.len(), &mut count, &mut first) };
+    if number == 0 { Ok(count as usize) } else { Err((number, first)) }
+}
+
+/// The ids of the tokens of a text, or the number of the refusal, and of 11 that of the first line that is malformed. A line has two bytes at least.
+fn read_tokens(text: &[u8]) -> Result<Vec<u64>, (u64, u64)> {
+    let (mut ids, mut count, mut first) = (vec![0u64; text.len() / 2], 0, 0);
+    let number = unsafe { flaxbadger_read_tokens(text.as_ptr(), text.len(), ids.as_mut_ptr(), ids.len(), &mut count, &mut first) };
+    ids.truncate(count as usize);
+    if number == 0 { Ok(ids) } else { Err((number, first)) }
+}
+
 fn main() {
     let mut mem = vec![0u64; 4096];
     let mut out = vec![0u64; 64];
@@ -106,6 +124,17 @@ fn main() {
 
     list.reverse();
     ok &= ranges(list) == Err(25) && union(list, &other) == Err(15) && union(&other, list) == Err(16);
+
+    let quarters = [0x0400000000000000, 0x0c00000000000000, 0x1400000000000000];
+    let mut text = [0u8; 9];
+    let written = write_tokens(&quarters, &mut text);
+    println!("three quarters as tokens: {written:?}, {:?}", String::from_utf8_lossy(&text));
+    ok &= written == Ok(9) && text == *b"04\n0c\n14\n" && read_tokens(&text) == Ok(quarters.to_vec());
+    ok &= write_tokens(&quarters, &mut text[..8]) == Err((12, 0)) && write_tokens(&[quarters[0], 0], &mut text) == Err((11, 2));
+
+    let capital = read_tokens(b"04\n0C\n");
+    println!("with a capital: {capital:?}");
+    ok &= capital == Err((11, 2));
 
     println!("{}", if ok { "as expected" } else { "NOT as expected" });
     std::process::exit(if ok { 0 } else { 1 });

@@ -11,7 +11,9 @@ use Rattle.covering.specs.declared.Ending.{Ending}
 use Rattle.covering.specs.Covering.{Result, resultOf, fastResultOf, valuesOf, Answered}
 use Rattle.ranges.specs.declared.Answer as ListAnswer
 use Rattle.ranges.specs.Ranges as Ranges
-use Rattle.capi.specs.Calls.{Told, Called, CalledOf}
+use Rattle.tokens.specs.declared.Answer as Tokens
+use Rattle.tokens.specs.Tokens as Names
+use Rattle.capi.specs.Calls.{Told, Called, CalledOf, NamesTold, NamesCalled}
 
 module _ (a : Answer) (number : ℕ) (m m′ o o′ : List ℕ) (count steps aside : ℕ) (t : Told (valuesOf a) number count steps aside) where
   called : (R : Result) → Answered R a m m′ o o′ → Called R number m m′ o o′ count steps aside
@@ -53,3 +55,12 @@ words-called R a number count o o′ A t = record { is = t .0 ∙ ap Ranges.numb
 
 pub words-determined : (R : Ranges.Result) (n n′ : ℕ) (o o₁ o₂ : List ℕ) (k k′ : ℕ) → CalledOf R n o o₁ k → CalledOf R n′ o o₂ k′ → (n ≡ n′) × (o₁ ≡ o₂) × (k ≡ k′)
 words-determined R n n′ o o₁ o₂ k k′ a b = (a .is ∙ sym (b .is), a .output ∙ sym (b .output), a .counted ∙ sym (b .counted))
+
+-- ---- tokens
+
+pub names-called : (R : Names.Result) (a : Tokens.Answer) (number count first : ℕ) (o o′ : List ℕ) → Names.Answered R a o o′ → NamesTold a number count first → NamesCalled R number o o′ count first
+names-called R a number count first o o′ A t = record { told = subst (λ (x : Tokens.Answer). NamesTold x number count first) (A .answer) t; output = A .output }
+
+pub names-determined : (R : Names.Result) (n n′ : ℕ) (o o₁ o₂ : List ℕ) (k k′ f f′ : ℕ) → NamesCalled R n o o₁ k f → NamesCalled R n′ o o₂ k′ f′ → (n ≡ n′) × (o₁ ≡ o₂) × (k ≡ k′) × (f ≡ f′)
+names-determined R n n′ o o₁ o₂ k k′ f f′ a b =
+    (a .told .is ∙ sym (b .told .is), a .output ∙ sym (b .output), a .told .counted ∙ sym (b .told .counted), a .told .named ∙ sym (b .told .named))

@@ -4,6 +4,8 @@ use mathlib.Core.List.{List}
 use Prim.Native.Nat.{ℕ}
 use lib.Ieee.{Float}
 use Rattle.ranges.specs.Ranges as Ranges
+use Rattle.tokens.specs.declared.Answer as Tokens
+use Rattle.tokens.specs.Tokens as Names
 use Rattle.region.specs.declared.Region.{Region}
 use Rattle.fast.specs.declared.RegionCoverer.{RegionCoverer}
 use Rattle.covering.specs.Covering.{Result, Values, answerOf, valuesOf, memoryAfter, outputAfter}
@@ -38,3 +40,16 @@ pub record CalledOf (R : Ranges.Result) (number : ℕ) (out out′ : List ℕ) (
   pub is : number ≡ Ranges.numberOf (Ranges.answerOf R)
   pub counted : count ≡ Ranges.wordsOf (Ranges.answerOf R)
   pub output : out′ ≡ Ranges.outputAfter R out
+
+-- ---- tokens
+
+-- an answer's number, how many bytes or ids were written, and the number of the first that is bad
+pub record NamesTold (a : Tokens.Answer) (number count first : ℕ) : Type 0 where
+  pub is : number ≡ Names.numberOf a
+  pub counted : count ≡ Names.writtenOf a
+  pub named : first ≡ Names.firstOf a
+
+-- all that such a call leaves
+pub record NamesCalled (R : Names.Result) (number : ℕ) (out out′ : List ℕ) (count first : ℕ) : Type 0 where
+  pub told : NamesTold (Names.answerOf R) number count first
+  pub output : out′ ≡ Names.outputAfter R out

@@ -8,13 +8,16 @@ ghost use Rattle.covering.specs.Covering.{resultOf, fastResultOf, valuesOf};
 ghost use Rattle.ranges.specs.Ranges.{pairsResult, cellsResult, numberOf, wordsOf};
 ghost use Rattle.sets.specs.declared.Op.{Op};
 ghost use Rattle.sets.specs.Sets.{setResult};
-ghost use Rattle.capi.specs.Calls.{regionCoverer, capRegion, cellRegion, Told, Called, CalledOf};
+ghost use Rattle.tokens.specs.declared.Form.{Form};
+ghost use Rattle.tokens.specs.Tokens.{writeResult, readResult};
+ghost use Rattle.capi.specs.Calls.{regionCoverer, capRegion, cellRegion, Told, Called, CalledOf, NamesTold, NamesCalled};
 use cell::Cap;
 use covering::Answer;
 use fast::RegionCoverer;
 use point::Point;
 use region::Region;
 use sets::Op;
+use tokens::Form;
 
 fn region_coverer(min_level: u64, max_level: u64, level_mod: u64, max_cells: u64) -> RegionCoverer
     ensures { λ r. ⌜ r ≡ regionCoverer «min_level» «max_level» «level_mod» «max_cells» ⌝ }
@@ -476,4 +479,56 @@ pub extern "C" fn flaxbadger_difference(
 {
     let a = sets::combine(Op::Difference, first, second, out);
     tell_words(a, count)
+}
+
+// The number of an answer about tokens; how many bytes or ids were written, and the number from 1 of the first line or id that is bad, go through the
+// references.
+fn tell_names(a: tokens::Answer, count: &mut u64, first: &mut u64) -> u64
+    ensures { λ r. ⌜ NamesTold a r (now (count .exit)) (now (first .exit)) ⌝ }
+{
+    match a {
+        tokens::Answer::Done(n) => {
+            *count = n as u64;
+            *first = 0;
+            0
+        }
+        tokens::Answer::Malformed(k) => {
+            *count = 0;
+            *first = k;
+            11
+        }
+        tokens::Answer::NoRoom => {
+            *count = 0;
+            *first = 0;
+            12
+        }
+    }
+}
+
+// A list as a text, a token a line.
+#[no_mangle]
+pub extern "C" fn flaxbadger_write_tokens(
+    ids: &[u64],
+    text: &mut [u8],
+    count: &mut u64,
+    first: &mut u64,
+) -> u64
+    ensures { λ r. ⌜ NamesCalled (writeResult Form.Token (now (ids .entry)) (length (now (text .entry)))) r (now (text .entry)) (now (text .exit)) (now (count .exit)) (now (first .exit)) ⌝ }
+{
+    let a = tokens::write(Form::Token, ids, text);
+    tell_names(a, count, first)
+}
+
+// Such a text as the list.
+#[no_mangle]
+pub extern "C" fn flaxbadger_read_tokens(
+    text: &[u8],
+    ids: &mut [u64],
+    count: &mut u64,
+    first: &mut u64,
+) -> u64
+    ensures { λ r. ⌜ NamesCalled (readResult Form.Token (now (text .entry)) (length (now (ids .entry)))) r (now (ids .entry)) (now (ids .exit)) (now (count .exit)) (now (first .exit)) ⌝ }
+{
+    let a = tokens::read(Form::Token, text, ids);
+    tell_names(a, count, first)
 }
