@@ -1,4 +1,7 @@
-"""How bin/order and bin/sets ask the proved program cover, and what they say where its answer, or their own list, was cut."""
+"""How the scripts for people ask the proved programs, and what they say where an answer, or their own list, was cut.
+
+`cover` answers lines. The filters `read_tokens` and `write_tokens` turn a text with a name a line into as many lines, or refuse it.
+"""
 
 import os
 import subprocess
@@ -25,6 +28,9 @@ REFUSALS = {
 }
 
 
+# ---- cover
+
+
 def answers(who, lines):
     """What cover answers to each of the lines. An answer that was cut ends the script, which is called who."""
     try:
@@ -46,6 +52,56 @@ def words(who, line, answer):
         number = int(rest[0])
         sys.exit(f"refused, number {number}: {REFUSALS.get(number, 'unknown')}")
     sys.exit(f"{who}: {line!r} was answered {answer!r}")
+
+
+# ---- the filters
+
+
+def start(who, program, text, **more):
+    """A filter, started on a text. All of the text is there before, so that what ends this script can't cut it."""
+    try:
+        with os.fdopen(os.memfd_create(program), "r+b") as file:
+            file.write(text)
+            file.seek(0)
+            return subprocess.Popen([os.path.join(HERE, "run"), program], stdin=file, stderr=subprocess.PIPE, **more)
+    except OSError as fault:
+        sys.exit(f"{who}: {program} can't be run: {fault.strerror}")
+
+
+def refusal(filter):
+    """Waits for a filter's end. What it refuses, as it says it; None if nothing. Anything else that is said is passed on as it comes."""
+    found = None
+    for line in filter.stderr:
+        if line.startswith(b"refused "):
+            found = line.decode().rstrip("\n")
+        elif not found:
+            tell(line.decode(errors="replace"), end="")
+    filter.wait()
+    return found
+
+
+def turned(who, program, text):
+    """What a filter turns a text into, line by line, and what it refuses, or None. An answer that was cut ends the script."""
+    with os.fdopen(os.memfd_create("answer"), "r+b") as file:
+        filter = start(who, program, text, stdout=file)
+        refused = refusal(filter)
+        file.seek(0)
+        written = file.read().decode()
+    if not refused and (filter.returncode != 0 or written.count("\n") != text.count(b"\n")):
+        sys.exit(f"{who}: the answer of {program} was cut (its status was {filter.returncode}), so nothing is listed")
+    return written.splitlines(), refused
+
+
+# ---- the scripts
+
+
+def tell(words, end="\n"):
+    """Says something on standard error; where that can't be written, it is left out."""
+    if sys.stderr is not None:
+        try:
+            print(words, end=end, file=sys.stderr, flush=True)
+        except OSError:
+            os.dup2(os.open(os.devnull, os.O_WRONLY), 2)
 
 
 def run(who, main):

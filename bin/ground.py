@@ -1,4 +1,4 @@
-"""The ground of cells, for the tables and pictures of bin/order and bin/sets: levels, tokens, areas, a view from above. None of it is proved."""
+"""The ground of cells, for the tables and pictures of bin/order and bin/sets: levels, areas, a view from above. None of it is proved."""
 
 import math
 import sys
@@ -9,11 +9,17 @@ POS_TO_IJ = ((0, 1, 3, 2), (0, 2, 3, 1), (3, 2, 0, 1), (3, 1, 0, 2))
 POS_TO_ORIENTATION = (1, 0, 0, 3)
 
 
+def cell_of(name):
+    """The cell of an id or a token that a proved program has written."""
+    return int(name.ljust(16, "0"), 16)
+
+
 def level_of(cell):
     return 30 - ((cell & -cell).bit_length() - 1) // 2
 
 
 def token_of(cell):
+    """A cell's name in a picture."""
     return f"{cell:016x}".rstrip("0")
 
 
@@ -71,6 +77,13 @@ def area(cell):
         return 4 * math.atan(math.sqrt(max(0.0, product)))
 
     return triangle(*corners[:3]) + triangle(corners[2], corners[3], corners[0])
+
+
+def middle(cells):
+    """The point around which cells lie; any where they lie around the whole globe."""
+    corners = [(area(cell), corner) for cell in cells for corner in border(cell, 1)]
+    point = [sum(size * corner[k] for size, corner in corners) for k in range(3)]
+    return unit(point) if math.hypot(*point) > 1e-9 * sum(size for size, _ in corners) else (1.0, 0.0, 0.0)
 
 
 class View:
