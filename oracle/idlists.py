@@ -1,6 +1,6 @@
 """Lists of cell ids: the rules, the largest cells of some leaves, lists at random, and lists that break a rule.
 
-Used by oracle/ranges and oracle/sets. A leaf has a number n from 0 on, and the id 2n + 1; a stretch is (first leaf's number,
+Used by oracle/ranges, oracle/sets and oracle/tokens. A leaf has a number n from 0 on, and the id 2n + 1; a stretch is (first leaf's number,
 number after the last's). A Picker with the same seed gives the same lists.
 """
 
@@ -22,6 +22,11 @@ def valid(id):
     """Three bits for a face, 0 to 5; then twice as many bits as there are levels; a 1; zeros, twice as many as levels are left."""
     zeros = len(f"{id:064b}") - len(f"{id:064b}".rstrip("0"))
     return id >> 61 <= 5 and zeros % 2 == 0 and zeros <= 60
+
+
+def token(id):
+    """Sixteen digits, without the zeros at their end."""
+    return f"{id:016x}".rstrip("0")
 
 
 def leaves(id):

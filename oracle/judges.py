@@ -1,6 +1,6 @@
 """A program's answers about lists of cells, held against a second reading of the rules, the Rust and C++ S2.
 
-Used by oracle/ranges and oracle/sets: here are their arguments, the judges, the run in batches, and what is printed.
+Used by oracle/ranges, oracle/sets and oracle/tokens: here are their arguments, the judges, the run in batches, and what is printed.
 """
 
 import argparse
@@ -12,7 +12,7 @@ import sys
 
 import cpp
 import questions
-from idlists import PLACES
+from idlists import PLACES, token
 
 HERE = os.path.dirname(os.path.abspath(__file__))
 ROOT = os.path.dirname(HERE)
@@ -25,28 +25,32 @@ Question = collections.namedtuple("Question", "sort marks line answer")  # marks
 
 
 def asked(kind, name, line, found, refusal, limits=True):
-    """A question and its answer; then with an output that just suffices, and with one a place short. refusal is the number for such outputs."""
+    """A question and its answer; then in tokens, with an output that just suffices, and with one a place short. refusal is the number for such outputs."""
     answer, refused = f"ok {questions.counted(found)}", f"refused {refusal}"
     short = len(found) > PLACES
     yield Question(f"{kind}: {name}", {"output too short": short}, line, refused if short else answer)
     if limits and not short:
+        tokens = " ".join(["ok", str(len(found)), *map(token, found)])
+        yield Question(f"{kind}: in tokens", {"output too short": False}, f"{line} tokens=1", tokens)
         yield Question(f"{kind}: out= just suffices", {"output too short": False}, f"{line} out={len(found)}", answer)
         if found:
             yield Question(f"{kind}: out= one short", {"output too short": True}, f"{line} out={len(found) - 1}", refused)
 
 
-def arguments(name, doc, things):
+def arguments(name, doc, things, program="bin/cover"):
+    """The script's arguments; program says which is asked where none is named."""
     parser = argparse.ArgumentParser(prog=f"oracle/{name}", description=doc, formatter_class=argparse.RawDescriptionHelpFormatter)
     parser.add_argument("number", type=int, metavar="N", help=f"how many {things}")
     parser.add_argument("seed", type=int, metavar="SEED", help=f"of the {things}")
-    parser.add_argument("program", nargs="?", default=os.path.join(ROOT, "bin", "cover"), metavar="PROGRAM", help="a command (bin/cover)")
+    parser.add_argument("program", nargs="?", metavar="PROGRAM", help=f"a command ({program})")
     parser.add_argument("--s2", default=cpp.INSTALLED, metavar="WORDS", help=cpp.HELP)
     options = parser.parse_args()
     if options.number < 0:
         parser.error("N is below 0")
-    options.program = shlex.split(options.program) or [""]
-    if shutil.which(options.program[0]) is None:
-        parser.error(f"{' '.join(options.program)!r} is no program")
+    if options.program is not None:
+        options.program = shlex.split(options.program) or [""]
+        if shutil.which(options.program[0]) is None:
+            parser.error(f"{' '.join(options.program)!r} is no program")
     return options
 
 
@@ -78,13 +82,12 @@ def table(head, sums):
         print("  " + first.ljust(widths[0]) + "".join(f"  {word.rjust(width)}" for word, width in zip(others, widths[1:])))
 
 
-def main(name, doc, things, sorts, Picker, all_questions):
-    """The whole of the script oracle/NAME: asks about N things and ends with its status.
+def differing(name, options, things, sorts, Picker, all_questions):
+    """Asks about N things, prints what was asked, and gives how many answers differ.
 
     Picker makes them from the seed. all_questions(picker, tally, find) gives the questions about one more: tally counts under its sort
     what it is made of, find is told what the second reading holds against itself: whether it is so, in words, and of which numbers.
     """
-    options = arguments(name, doc, things)
     asked = programs(name, options)
     picker, wrong, shown = Picker(options.seed), 0, collections.Counter()
     tally, sums = (collections.defaultdict(collections.Counter) for _ in range(2))
@@ -114,4 +117,11 @@ def main(name, doc, things, sorts, Picker, all_questions):
     table("how made", {sort: tally[sort] for sort in sorts if sort in tally})
     table("asked", dict(sorted(sums.items())))
     print(f"{sum(row['times'] for row in sums.values()):,} answers compared, {wrong:,} different")
-    sys.exit(1 if wrong else 0)
+    return wrong
+
+
+def main(name, doc, *what):
+    """The whole of the script oracle/NAME about lines of cover: what is said in `differing`, from the things on. Ends with its status."""
+    options = arguments(name, doc, what[0])
+    options.program = options.program or [os.path.join(ROOT, "bin", "cover")]
+    sys.exit(1 if differing(name, options, *what) else 0)

@@ -8,12 +8,15 @@
 //!
 //!     KIND MIN MAX MOD MAX_CELLS REGION [OPTION...]
 //!                            KIND covering, cellunion, raw, interior, icellunion, iraw or fast; REGION cap X Y Z R or cell ID;
-//!                            OPTION allow=N, out=N or mem=N, in any order, each at most once;
-//!                            answer ok STEPS ASIDE COUNT ID... or refused NUMBER
+//!                            OPTION allow=N, out=N, mem=N or tokens=N, in any order, each at most once; with tokens=1 ids are
+//!                            written as tokens; answer ok STEPS ASIDE COUNT ID... or refused NUMBER
 //!     ranges LIST [OPTION...], cells LIST [OPTION...]
 //!                            LIST COUNT NUMBER..., any numbers, at most 16,384; answer ok COUNT NUMBER... or refused NUMBER
 //!     union LIST LIST [OPTION...], common LIST LIST [OPTION...], difference LIST LIST [OPTION...]
 //!                            lists and answer as for ranges
+//!     write_tokens ROOM LIST answer ok BYTES TEXT, a text as two hex digits a byte, refused 11 FIRST or refused 12
+//!     read_tokens ROOM [TEXT]
+//!                            no TEXT for an empty one; answer ok COUNT ID..., refused 11 FIRST or refused 12
 //!     trace KIND ...         the candidates that the run takes, COUNT COST:ID...; hooked builds only
 //!     levels R COUNT         the level for each of COUNT floats from R upwards in their bits, as runs LEVEL:HOW-MANY...
 //!     normalize LIST, denormalize MIN MOD LIST, normalize_covering MIN MAX MOD MAX_CELLS LIST
@@ -22,10 +25,11 @@
 //!     face_ij_orientation, cellid_from_point, vertices, edges, cell_cap_bound, sqrt, st_to_uv, uv_to_st, vertex_neighbors,
 //!     bound, starts
 //!
-//! The values are the Rust's. The papers' refusals 1 to 6, 10, 15 to 17, 25 and 26 are decided here, around it; 7, 8 and 9 by the hooks.
+//! The values are the Rust's. The papers' refusals 1 to 6, 10 to 12, 15 to 17, 25 and 26 are decided here, around it; 7, 8 and 9 by the hooks.
 //! The Rust has no function for ranges: first and last leaf are its range_min and range_max, joined here; a pair's cells are
 //! those of its max_tile, in the loop that stands in its comment. Of two lists it has union, intersection and difference; only the
-//! first gives a normalised list whatever comes in, so its normalize goes over each answer here.
+//! first gives a normalised list whatever comes in, so its normalize goes over each answer here. Of a text of tokens only the lines
+//! are told apart here: a line is well-formed if its from_token is valid and its to_token writes that as the same bytes.
 //! Domains: ids are valid; floats are finite (but for cover's regions and sqrt); a point is_unit (but for is_unit itself);
 //! a cap is in paper 01's domain, a radius at most 4; vertex_neighbors asks for a level above the id's own.
 //! The build with the unmodified region.rs has no steps, set-aside totals, raw lists and start cells: it writes `-` for
@@ -137,6 +141,14 @@ impl Region for Bound {
 
 type Word = &'static str;
 
+/// Steps that may be taken, places of output, words of memory, and whether ids are written as tokens.
+struct Options {
+    allowance: u64,
+    out: u64,
+    memory: u64,
+    tokens: bool,
+}
+
 /// The fields of a line, one after another.
 struct Fields<'a>(std::iter::Peekable<std::vec::IntoIter<&'a str>>);
 
@@ -202,15 +214,23 @@ impl<'a> Fields<'a> {
         (0..count).map(|_| self.bits().map(CellID)).collect()
     }
 
-    /// The options to the end of the line: allowance, places of output, words of memory.
-    fn options(&mut self) -> Result<(u64, u64, u64), Word> {
-        let (mut allowance, mut out, mut memory) = (None, None, None);
+    /// A text to the end of the line, two hex digits a byte.
+    fn text(&mut self) -> Result<Vec<u8>, Word> {
+        let word = self.word().unwrap_or_default();
+        let byte = |at| word.get(at..at + 2).and_then(|digits| u8::from_str_radix(digits, 16).ok()).ok_or("hex");
+        (0..word.len()).step_by(2).map(byte).collect()
+    }
+
+    /// The options to the end of the line.
+    fn options(&mut self) -> Result<Options, Word> {
+        let (mut allowance, mut out, mut memory, mut tokens) = (None, None, None, None);
         while let Ok(word) = self.word() {
             let (name, value) = word.split_once('=').ok_or("option")?;
             let place = match name {
                 "allow" => &mut allowance,
                 "out" => &mut out,
                 "mem" => &mut memory,
+                "tokens" => &mut tokens,
                 _ => return Err("option"),
             };
             if place.replace(decimal(value)?).is_some() {
@@ -218,10 +238,11 @@ impl<'a> Fields<'a> {
             }
         }
         let (allowance, out, memory) = (allowance.unwrap_or(0xffffffff), out.unwrap_or(65_536), memory.unwrap_or(4_096));
-        if allowance > 0xffffffff || u128::from(out) > hooks::ROOM || memory > WORDS {
+        let tokens = tokens.unwrap_or(0);
+        if allowance > 0xffffffff || u128::from(out) > hooks::ROOM || memory > WORDS || tokens > 1 {
             return Err("large");
         }
-        Ok((allowance, out, memory))
+        Ok(Options { allowance, out, memory, tokens: tokens == 1 })
     }
 
     /// A region inside the domain, or None for one outside it.
@@ -257,12 +278,22 @@ fn decimal(word: &str) -> Result<u64, Word> {
     word.parse().map_err(|_| "large")
 }
 
-fn list(ids: &[CellID]) -> String {
+fn counted(ids: &[CellID], name: fn(&CellID) -> String) -> String {
     let mut text = ids.len().to_string();
     for id in ids {
-        text.push_str(&format!(" {:016x}", id.0));
+        text.push(' ');
+        text.push_str(&name(id));
     }
     text
+}
+
+fn list(ids: &[CellID]) -> String {
+    counted(ids, |id| format!("{:016x}", id.0))
+}
+
+/// A list as the options want it.
+fn answered(ids: &[CellID], options: &Options) -> String {
+    if options.tokens { counted(ids, CellID::to_token) } else { list(ids) }
 }
 
 /// The bits of a float. Every NaN is written with paper 01's bits; the test is one of text, because the compiler takes one
@@ -372,13 +403,13 @@ fn may_be_long(bound: &[CellID], numbers: &Numbers) -> bool {
 fn cover(kind: Kind, fields: &mut Fields, trace: bool) -> Result<String, Word> {
     let numbers = Numbers::read(fields)?;
     let region = fields.region()?;
-    let (allowance, out, memory) = fields.options()?;
+    let options = fields.options()?;
     let refused = |number: u8| Ok(format!("refused {number}"));
     if numbers.refusal() != 0 {
         return refused(numbers.refusal());
     }
     let Some(region) = region else { return refused(5) };
-    if memory < 4_096 {
+    if options.memory < 4_096 {
         return refused(6);
     }
     let coverer = numbers.coverer();
@@ -388,7 +419,7 @@ fn cover(kind: Kind, fields: &mut Fields, trace: bool) -> Result<String, Word> {
     if (trace || kind == Kind::Raw || kind == Kind::Iraw) && !cfg!(hooked) {
         return Ok(String::from("-"));
     }
-    hooks::begin(allowance);
+    hooks::begin(options.allowance);
     ASKED.set(0);
     let found = match kind {
         Kind::Covering => coverer.covering(&region).0,
@@ -409,11 +440,11 @@ fn cover(kind: Kind, fields: &mut Fields, trace: bool) -> Result<String, Word> {
         return refused(run.refused);
     }
     let found = if kind == Kind::Raw || kind == Kind::Iraw { run.raw } else { found };
-    if cfg!(hooked) && (run.long || found.len() as u64 > out) {
+    if cfg!(hooked) && (run.long || found.len() as u64 > options.out) {
         return refused(10);
     }
     let numbers = if cfg!(hooked) { format!("{} {}", run.steps, run.aside) } else { String::from("- -") };
-    Ok(format!("ok {numbers} {}", list(&found)))
+    Ok(format!("ok {numbers} {}", answered(&found, &options)))
 }
 
 /// A list as pairs of first and last leaf; None for one outside the rules.
@@ -453,21 +484,21 @@ fn cells(words: &[CellID]) -> Option<Vec<CellID>> {
 }
 
 /// The answer with this list, or this refusal where the output has too few places.
-fn fitted(found: &[CellID], out: u64, refusal: u8) -> String {
-    if found.len() as u64 > out { format!("refused {refusal}") } else { format!("ok {}", list(found)) }
+fn fitted(found: &[CellID], options: &Options, refusal: u8) -> String {
+    if found.len() as u64 > options.out { format!("refused {refusal}") } else { format!("ok {}", answered(found, options)) }
 }
 
 fn listed(make: fn(&[CellID]) -> Option<Vec<CellID>>, fields: &mut Fields) -> Result<String, Word> {
     let words = fields.numbers()?;
-    let (_, out, _) = fields.options()?;
-    Ok(make(&words).map_or(String::from("refused 25"), |found| fitted(&found, out, 26)))
+    let options = fields.options()?;
+    Ok(make(&words).map_or(String::from("refused 25"), |found| fitted(&found, &options, 26)))
 }
 
 /// What the crate makes of two lists, normalised. They are given to it as they stand: contains_cellid, which is for normalised lists,
 /// doesn't see that four siblings hold their parent, but difference then looks at the parent's quarters, where it does.
 fn joined(make: fn(&CellUnion, &CellUnion) -> CellUnion, fields: &mut Fields) -> Result<String, Word> {
     let (first, second) = (CellUnion(fields.numbers()?), CellUnion(fields.numbers()?));
-    let (_, out, _) = fields.options()?;
+    let options = fields.options()?;
     let taken = |list: &CellUnion| list.0.len() as u64 <= IDS && list.is_valid();
     if !taken(&first) {
         return Ok(String::from("refused 15"));
@@ -477,7 +508,32 @@ fn joined(make: fn(&CellUnion, &CellUnion) -> CellUnion, fields: &mut Fields) ->
     }
     let mut found = make(&first, &second);
     found.normalize();
-    Ok(fitted(&found.0, out, 17))
+    Ok(fitted(&found.0, &options, 17))
+}
+
+/// The text of a list's tokens, with room for so many bytes.
+fn write_tokens(room: u64, ids: &[CellID]) -> String {
+    if let Some(at) = ids.iter().position(|id| !id.is_valid()) {
+        return format!("refused 11 {}", at + 1);
+    }
+    let text: String = ids.iter().map(|id| id.to_token() + "\n").collect();
+    if text.len() as u64 > room {
+        return String::from("refused 12");
+    }
+    let digits: String = text.bytes().map(|byte| format!("{byte:02x}")).collect();
+    format!("ok {} {digits}", text.len()).trim_end().to_string()
+}
+
+/// The list of a text of tokens, with room for so many ids.
+fn read_tokens(room: u64, text: &[u8]) -> String {
+    let mut ids = Vec::new();
+    for line in text.split_inclusive(|byte| *byte == b'\n') {
+        let token = line.strip_suffix(b"\n").and_then(|token| std::str::from_utf8(token).ok());
+        let id = token.map(CellID::from_token).filter(|id| id.is_valid() && Some(id.to_token().as_str()) == token);
+        let Some(id) = id else { return format!("refused 11 {}", ids.len() + 1) };
+        ids.push(id);
+    }
+    if ids.len() as u64 > room { String::from("refused 12") } else { format!("ok {}", list(&ids)) }
 }
 
 fn probe(question: &str, fields: &mut Fields) -> Result<String, Word> {
@@ -487,6 +543,8 @@ fn probe(question: &str, fields: &mut Fields) -> Result<String, Word> {
         "union" => joined(CellUnion::union, fields)?,
         "common" => joined(CellUnion::intersection, fields)?,
         "difference" => joined(CellUnion::difference, fields)?,
+        "write_tokens" => write_tokens(fields.number()?, &fields.numbers()?),
+        "read_tokens" => read_tokens(fields.number()?, &fields.text()?),
         "valid" => truth(CellID(fields.bits()?).is_valid()),
         "is_unit" => truth(fields.vector()?.is_unit()),
         "cell_contains_point" => {

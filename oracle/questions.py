@@ -45,6 +45,8 @@ MALFORMED = [
     "covering", "fast 0 30 1 8 cell 1000000000000000 out=x", "raw 0 30 1 8 cell 1000000000000000 mem=8193",
     "raw 0 30 1 8 cell 1000000000000000 mem=4096 allow=1 mem=4096", "covering 0 30 1 8 allow=1 cell 1000000000000000",
     "covering 0 30 1 8 cell 1000000000000000 allow=1 out=1 mem=4096 out=1", "iraw 0 30 1 8 cell 1000000000000000 out=1 out",
+    "covering 0 30 1 8 cell 1000000000000000 tokens=2", "raw 0 30 1 8 cell 1000000000000000 tokens=", "fast 0 30 1 8 cell 1000000000000000 token=1",
+    "fast 0 30 1 8 cell 1000000000000000 tokens=1 out=8 tokens=1", "raw 0 30 1 8 cell 1000000000000000 tokens=1 mem=4096 out=8 allow=9 tokens=0",
 ]
 
 POS_TO_IJ = [[0, 1, 3, 2], [0, 2, 3, 1], [3, 2, 0, 1], [3, 1, 0, 2]]
@@ -588,10 +590,12 @@ class Picker:
     # what only oracle/compare asks
 
     def turned(self, line):
-        """A request with its options in any order."""
+        """A request with its options in any order; now and then it says whether ids are to be written as tokens."""
         fields, options = line.split(" "), []
         while "=" in fields[-1]:
             options.append(fields.pop())
+        if fields[0] in KINDS and self.side.random() < 0.2:
+            options.append(f"tokens={self.side.choice([0, 1, 1, 1])}")
         self.side.shuffle(options)
         return " ".join(fields + options)
 

@@ -1,6 +1,6 @@
-// Answers the lines `ranges` and `cells` of `cover`, from standard input, with the functions of the C++ S2 library: range_min and range_max
-// of S2CellId, FromMinMax and Normalize of S2CellUnion. The last line is `end` and the number of answers. To be built with -DNDEBUG, so that
-// lists that break a rule get as far as IsValid. See oracle/ranges.
+// Answers the lines `ranges` and `cells` of `cover`, from standard input, with the functions of the C++ S2 library: range_min, range_max and
+// ToToken of S2CellId, FromMinMax and Normalize of S2CellUnion. The last line is `end` and the number of answers. To be built with -DNDEBUG, so
+// that lists that break a rule get as far as IsValid. See oracle/ranges.
 #include <cinttypes>
 #include <cstdio>
 #include <cstdlib>
@@ -16,6 +16,7 @@ struct Question {
   std::string kind;
   std::vector<S2CellId> words;
   size_t room = 65536;
+  bool tokens = false;
 };
 
 static bool ReadLine(const std::string& line, Question* q) {
@@ -28,8 +29,13 @@ static bool ReadLine(const std::string& line, Question* q) {
     q->words.push_back(S2CellId(std::strtoull(word.c_str(), nullptr, 16)));
   }
   if (fields >> word) {
-    if (word.compare(0, 4, "out=") != 0) return false;
-    q->room = std::strtoull(word.c_str() + 4, nullptr, 10);
+    if (word.compare(0, 4, "out=") == 0) {
+      q->room = std::strtoull(word.c_str() + 4, nullptr, 10);
+    } else if (word == "tokens=1") {
+      q->tokens = true;
+    } else {
+      return false;
+    }
   }
   return q->kind == "ranges" || q->kind == "cells";
 }
@@ -80,7 +86,13 @@ int main() {
       std::printf("refused 26\n");
     } else {
       std::printf("ok %zu", found.size());
-      for (S2CellId id : found) std::printf(" %016" PRIx64, id.id());
+      for (S2CellId id : found) {
+        if (q.tokens) {
+          std::printf(" %s", id.ToToken().c_str());
+        } else {
+          std::printf(" %016" PRIx64, id.id());
+        }
+      }
       std::printf("\n");
     }
   }

@@ -1,6 +1,6 @@
 // Answers the lines `union`, `common` and `difference` of `cover`, from standard input, with the functions of the C++ S2 library: Union,
-// Intersection, Difference and Normalize of S2CellUnion. The last line is `end` and the number of answers. To be built with -DNDEBUG, so
-// that lists that break a rule get as far as IsValid. See oracle/sets.
+// Intersection, Difference and Normalize of S2CellUnion, ToToken of S2CellId. The last line is `end` and the number of answers. To be built with
+// -DNDEBUG, so that lists that break a rule get as far as IsValid. See oracle/sets.
 #include <cinttypes>
 #include <cstdio>
 #include <cstdlib>
@@ -16,6 +16,7 @@ struct Question {
   std::string kind;
   std::vector<S2CellId> first, second;
   size_t room = 65536;
+  bool tokens = false;
 };
 
 static bool ReadList(std::istringstream* fields, std::vector<S2CellId>* ids) {
@@ -35,6 +36,8 @@ static bool ReadLine(const std::string& line, Question* q) {
   for (std::string word; fields >> word;) {
     if (word.compare(0, 4, "out=") == 0) {
       q->room = std::strtoull(word.c_str() + 4, nullptr, 10);
+    } else if (word == "tokens=1") {
+      q->tokens = true;
     } else if (word.compare(0, 6, "allow=") != 0 && word.compare(0, 4, "mem=") != 0) {
       return false;
     }
@@ -75,7 +78,13 @@ int main() {
       std::printf("refused %d\n", refusal);
     } else {
       std::printf("ok %zu", found.size());
-      for (S2CellId id : found) std::printf(" %016" PRIx64, id.id());
+      for (S2CellId id : found) {
+        if (q.tokens) {
+          std::printf(" %s", id.ToToken().c_str());
+        } else {
+          std::printf(" %016" PRIx64, id.id());
+        }
+      }
       std::printf("\n");
     }
   }
