@@ -1,4 +1,4 @@
-/* How bench/ranges.c and bench/sets.c take and give lists: files of 64-bit words as they stand in memory. */
+/* How bench/ranges.c, bench/sets.c and bench/tokens.c take and give lists: files of 64-bit words as they stand in memory. */
 #include <inttypes.h>
 #include <stdio.h>
 #include <stdlib.h>
