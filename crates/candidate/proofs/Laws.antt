@@ -1,6 +1,5 @@
 -- Laws of candidates and of the machine's masks.
 use mathlib.Core.Path.{_≡_}
-use mathlib.Core.Bool.{Bool}
 use Prim.Native.Nat.{ℕ, _+_, _-_, _*_, _%_, _^_, _≤_, _<_}
 use native.Mathlib.Nat.{mul-le-mul-right}
 use native.Mathlib.Omega.{arith}
@@ -9,9 +8,9 @@ use lib.Bits.{bitOr, or-shifted-r}
 use Rattle.cellid.specs.CellId.{Cell, levelOf, childOf}
 use Rattle.cellid.proofs.Leaves.{child-cell}
 use Rattle.cellid.proofs.Laws.{cell-pos, level-cell, one-shl}
-use Rattle.run.specs.Run.{Request}
-use Rattle.run.specs.Masks.{upTo}
-use Rattle.run.proofs.Masks.{Small, branch, branch-small, found-small, up-small}
+use Rattle.run.specs.Run.{Task}
+use Rattle.run.specs.Masks.{upTo, foundPart}
+use Rattle.run.proofs.Masks.{Small, part-small, up-small}
 use Rattle.candidate.specs.Candidate.{Roomy}
 
 pub positive : (id : ℕ) → Cell id → 0 < id
@@ -35,12 +34,12 @@ mask-or a f w k h g hf ha = rw (shl-exact {a = f} w (w * k) 64 hf (omega (arith,
 pub width-is : (n : ℕ) → n ≤ 2 → (1 * 2 ^ (2 * n)) % 2 ^ 64 ≡ 2 ^ (2 * n)
 width-is n h = one-shl (2 * n) (omega arith)
 
-pub roomy : (q : Request) (hits within : ℕ → Bool) (n id k : ℕ) → n ≤ 2 → k < 4
-    → Roomy (upTo (branch q hits within n) (2 ^ (2 * n)) id k) (branch q hits within n (childOf id k)) (2 ^ (2 * n)) k
-roomy q hits within n id k h g =
-    let part : (j : ℕ) → j < 4 → Small (2 ^ (2 * n)) (branch q hits within n (childOf id j)) =
-    λ j l. branch-small q hits within (2 ^ (2 * n)) (childOf id j) _ (found-small q hits within n (childOf id j)) in
-    let a = up-small (branch q hits within n) (2 ^ (2 * n)) id part k (omega arith) in
+pub roomy : (T : Task) (n id k : ℕ) → n ≤ 2 → k < 4
+    → Roomy (upTo (foundPart T n) (2 ^ (2 * n)) id k) (foundPart T n (childOf id k)) (2 ^ (2 * n)) k
+roomy T n id k h g =
+    let part : (j : ℕ) → j < 4 → Small (2 ^ (2 * n)) (foundPart T n (childOf id j)) =
+    λ j l. part-small T n (childOf id j) in
+    let a = up-small (foundPart T n) (2 ^ (2 * n)) id part k (omega arith) in
     record {
       wide = pow-mono {i = 2 * n} {j = 4} (omega arith);
       four = g;

@@ -3,22 +3,14 @@
 ghost use mathlib.Core.Path.{_≡_};
 ghost use Prim.Native.Nat.{_+_, _<_, _≤_};
 ghost use Rattle.cellid.specs.CellId.{Cell, levelOf};
-ghost use Rattle.region.specs.Region.{intersectsCell, containsCell};
 ghost use Rattle.run.specs.Run.{look, depth};
 ghost use Rattle.run.specs.Masks.{placeIn, found};
-ghost use Rattle.candidate.specs.Candidate.{requestOf, Asks, candidateOf, Roomy};
+ghost use Rattle.candidate.specs.Candidate.{taskOf, Asks, candidateOf, Roomy};
 use region::Region;
 use run::Found;
+use run::Request;
 
-// What is asked of a run.
-pub struct Asked {
-    pub min_level: u64,
-    pub max_level: u64,
-    pub level_mod: u64,
-    pub max_cells: u64,
-    pub inner: bool,
-}
-
+// What a cell is to a run: terminal, to be expanded, or neither.
 pub enum Candidate {
     Kept,
     Queued,
@@ -27,17 +19,17 @@ pub enum Candidate {
 
 // What the cell is to the run: kept if it is terminal, queued if it is to be expanded, none if it fails the intersection test or an inner run can't use it.
 // One intersection test; a containment test at min or deeper, but for an outer cell that is terminal by its level.
-pub fn new_candidate(q: Asked, g: Region, id: u64) -> Candidate
+pub fn new_candidate(q: Request, g: Region, id: u64) -> Candidate
     requires { ⌜ Asks q g ⌝ }
     requires { ⌜ Cell id ⌝ }
-    ensures { λ r. ⌜ r ≡ candidateOf (look (requestOf q) (intersectsCell g) (containsCell g) id) ⌝ }
+    ensures { λ r. ⌜ r ≡ candidateOf (look (taskOf q g) id) ⌝ }
 {
     if region::intersects_cell(g, id) {
         let level = cellid::level(id);
-        if level < q.min_level {
+        if level < q.coverer.min_level {
             return Candidate::Queued;
         }
-        if level + q.level_mod > q.max_level {
+        if level + q.coverer.level_mod > q.coverer.max_level {
             if q.inner {
                 if region::contains_cell(g, id) {
                     Candidate::Kept
@@ -60,20 +52,20 @@ pub fn new_candidate(q: Asked, g: Region, id: u64) -> Candidate
 }
 
 // The sets of the four children of a cell, which have one level, so that one rule holds for all four.
-fn children(q: Asked, g: Region, id: u64) -> Found
+fn children(q: Request, g: Region, id: u64) -> Found
     requires { ⌜ Asks q g ⌝ }
     requires { ⌜ Cell id × (levelOf id < 30) ⌝ }
-    ensures { λ r. ⌜ r ≡ found (requestOf q) (intersectsCell g) (containsCell g) 1 id ⌝ }
+    ensures { λ r. ⌜ r ≡ found (taskOf q g) 1 id ⌝ }
 {
     let l = region::look_children(g, id);
     let under = cellid::level(id) + 1;
-    if under < q.min_level {
+    if under < q.coverer.min_level {
         return Found {
             present: l.meets,
             terminal: 0,
         };
     }
-    if under + q.level_mod > q.max_level {
+    if under + q.coverer.level_mod > q.coverer.max_level {
         if q.inner {
             return Found {
                 present: l.inside,
@@ -103,11 +95,11 @@ fn placed(acc: Found, f: Found, width: u64, k: u64) -> Found
 }
 
 // The children `left` levels under a cell, one level inside another: the cells between are looked at four by four, each cell once.
-fn expand_children(q: Asked, g: Region, id: u64, left: u64) -> Found
+fn expand_children(q: Request, g: Region, id: u64, left: u64) -> Found
     requires { ⌜ Asks q g ⌝ }
     requires { ⌜ (0 < left) × (left ≤ 3) ⌝ }
     requires { ⌜ (Cell id × (levelOf id + left ≤ 30)) ⌝ }
-    ensures { λ r. ⌜ r ≡ found (requestOf q) (intersectsCell g) (containsCell g) left id ⌝ }
+    ensures { λ r. ⌜ r ≡ found (taskOf q g) left id ⌝ }
 {
     if left == 1 {
         return children(q, g, id);
@@ -137,18 +129,18 @@ fn expand_children(q: Asked, g: Region, id: u64, left: u64) -> Found
 }
 
 // The children of a candidate that is to be expanded: by one level below min, else by level_mod.
-pub fn expand(q: Asked, g: Region, id: u64) -> Found
+pub fn expand(q: Request, g: Region, id: u64) -> Found
     requires { ⌜ Asks q g ⌝ }
-    requires { ⌜ (Cell id × (levelOf id + depth (requestOf q) id ≤ 30)) ⌝ }
-    ensures { λ r. ⌜ r ≡ found (requestOf q) (intersectsCell g) (containsCell g) (depth (requestOf q) id) id ⌝ }
+    requires { ⌜ (Cell id × (levelOf id + depth (q) id ≤ 30)) ⌝ }
+    ensures { λ r. ⌜ r ≡ found (taskOf q g) (depth (q) id) id ⌝ }
 {
-    if cellid::level(id) < q.min_level {
+    if cellid::level(id) < q.coverer.min_level {
         children(q, g, id)
     } else {
-        if q.level_mod == 1 {
+        if q.coverer.level_mod == 1 {
             children(q, g, id)
         } else {
-            expand_children(q, g, id, q.level_mod)
+            expand_children(q, g, id, q.coverer.level_mod)
         }
     }
 }

@@ -13,22 +13,23 @@ use lib.Ieee.{Float, nan, le}
 use Rattle.cellid.specs.CellId.{Cell, idOf}
 use Rattle.order.specs.Order.{All}
 use Rattle.point.specs.declared.Point.{Point}
-use Rattle.neighbors.specs.Neighbors.{leafOfPoint, vertexNeighbors, listed, AtLevel}
+use Rattle.neighbors.specs.Neighbors.{leafOfPoint, vertexNeighbors, inFour, AtLevel}
 use Rattle.neighbors.specs.declared.Neighbors.{Neighbors}
 use Rattle.neighbors.proofs.Laws.{point-leaf, neighbors-few, neighbors-cells}
 use Rattle.cell.specs.declared.Cap.{Cap}
 use Rattle.cap.specs.declared.Bound.{Bound}
 use Rattle.cap.specs.Bound.{thresholds, levelIn, levelFor, sixFaces, boundAt, unionBound, inSix}
+use Rattle.cap.proofs.Table.{thirty}
 
 -- ---- the loop over the table
 pub level-next : (ts : List Float) (r : Float) (k : ℕ) → k < length ts → levelIn (drop k ts) r ≡ cond (le r (getD ts k nan)) (suc (levelIn (drop (k + 1) ts) r)) 0
 unfolding levelIn
 level-next ts r k h = rw (drop-cons ts k nan h, levelIn, add-one k)
 
-pub level-le : (ts : List Float) (r : Float) → levelIn ts r ≤ length ts
+pub level-in-le : (ts : List Float) (r : Float) → levelIn ts r ≤ length ts
 unfolding levelIn
-level-le [] r = lit≤ tt
-level-le (t ∷ ts) r = go (le r t) (level-le ts r)
+level-in-le [] r = lit≤ tt
+level-in-le (t ∷ ts) r = go (le r t) (level-in-le ts r)
   where
     go : (b : Bool) → levelIn ts r ≤ length ts → cond b (suc (levelIn ts r)) 0 ≤ suc (length ts)
     go true h = omega arith
@@ -36,14 +37,10 @@ level-le (t ∷ ts) r = go (le r t) (level-le ts r)
 
 pub level-for-le : (r : Float) → levelFor r ≤ 30
 unfolding levelFor thresholds
-level-for-le r = level-le thresholds r
+level-for-le r = level-in-le thresholds r
 
 pub level-at-most : (r : Float) (n : ℕ) → n ≡ levelFor r → n ≤ 30
 level-at-most r n e = omega (arith, level-for-le r, e)
-
-thirty : length thresholds ≡ 30
-unfolding thresholds
-thirty = refl
 
 module _ (r : Float) (k : ℕ) (h : k < 30) (so-far : levelFor r ≡ k + levelIn (drop k thresholds) r) where
   next : levelIn (drop k thresholds) r ≡ cond (le r (getD thresholds k nan)) (suc (levelIn (drop (k + 1) thresholds) r)) 0
@@ -80,7 +77,7 @@ in-six (a ∷ b ∷ c ∷ d ∷ e ∷ l) h = absurd (omega arith)
 neighbors-four : (id level : ℕ) → length (vertexNeighbors id level) ≤ 4
 neighbors-four id level = ⊎-elim (λ e. omega (arith, e)) (λ e. omega (arith, e)) (neighbors-few id level)
 
-pub listed-six : (n : Neighbors) (id level : ℕ) → n ≡ listed (vertexNeighbors id level) → six (n .ids) (n .count) ≡ inSix (vertexNeighbors id level)
+pub listed-six : (n : Neighbors) (id level : ℕ) → n ≡ inFour (vertexNeighbors id level) → six (n .ids) (n .count) ≡ inSix (vertexNeighbors id level)
 listed-six n id level e = rw e (in-six (vertexNeighbors id level) (neighbors-four id level))
 
 module _ (center : Point) where

@@ -1,6 +1,6 @@
 -- What the tests of caps promise.
 use mathlib.Core.Path.{_≡_, refl, sym, ap, _∙_}
-use mathlib.Core.Bool.{Bool, true, false, not, cond}
+use mathlib.Core.Bool.{Bool, true, false, cond}
 use Prim.Native.Nat.{ℕ, zero, suc, _+_, _-_, _%_, _<_}
 use native.Mathlib.Omega.{arith}
 use lib.ListN.{getD}
@@ -15,8 +15,8 @@ use Rattle.cell.specs.Cell.{vertexAt, edgeAt, vertexOf, verticesOf, cellOf}
 use Rattle.cell.specs.declared.Cell.{Cell}
 use Rattle.cell.specs.declared.Cap.{Cap}
 use Rattle.cap.specs.declared.Verdict.{Verdict}
-use Rattle.cap.specs.Cap.{isEmpty, capHolds, edgeSays, edgesSay, decide, touches, meetsCell, holdsCell, capIntersects, capContains}
-use Rattle.cap.proofs.Signs.{not-within, chord-plus}
+use Rattle.cap.specs.Cap.{isEmptyCap, capHolds, edgeSays, edgesSay, decide, touches, meetsCell, holdsCell, capIntersects, capContains}
+use Rattle.point.proofs.Signs.{not-within, chord-plus}
 
 -- the k-th of the four corners
 pub corner-at : (c : Cell) (k : ℕ) (d : Point) → k < 4 → getD (verticesOf c) k d ≡ vertexAt c k
@@ -26,15 +26,6 @@ corner-at c (suc zero) d h = refl
 corner-at c (suc (suc zero)) d h = refl
 corner-at c (suc (suc (suc zero))) d h = refl
 corner-at c (suc (suc (suc (suc k)))) d h = absurd (omega arith)
-
--- a test turned round
-pub denied : (b : Bool) → not b ≡ true → b ≡ false
-denied true h = sym h
-denied false h = refl
-
-pub granted : (b : Bool) → not b ≡ false → b ≡ true
-granted true h = refl
-granted false h = sym h
 
 -- what a test of a corner says, where the cell and the corner were computed on the way
 pub corner-held : (cap : Cap) (id k : ℕ) (c : Cell) (p : Point) (b : Bool) → c ≡ cellOf id → p ≡ vertexAt c k → b ≡ capHolds cap p → capHolds cap (vertexOf id k) ≡ b
@@ -59,11 +50,11 @@ unfolding capContains capIntersects holdsCell meetsCell
 contains-intersects cap id h = let first : capHolds cap (vertexOf id 0) ≡ true = and-true _ _ h .0 in rw first
 
 -- an empty cap has no point in it, intersects nothing and contains nothing
-pub empty-holds-none : (cap : Cap) (p : Point) → isEmpty cap ≡ true → capHolds cap p ≡ false
-unfolding isEmpty capHolds
+pub empty-holds-none : (cap : Cap) (p : Point) → isEmptyCap cap ≡ true → capHolds cap p ≡ false
+unfolding isEmptyCap capHolds
 empty-holds-none cap p h = not-within (chordAngle (cap .center) p) (cap .radius) (chord-plus (cap .center) p) h
 
-empty-touches-none : (cap : Cap) (c : Cell) → isEmpty cap ≡ true → touches cap c ≡ false
+empty-touches-none : (cap : Cap) (c : Cell) → isEmptyCap cap ≡ true → touches cap c ≡ false
 unfolding touches
 empty-touches-none cap c h = rw h (either (le (ofBits binary64 0x4000_0000_0000_0000) (cap .radius)))
   where
@@ -71,7 +62,7 @@ empty-touches-none cap c h = rw h (either (le (ofBits binary64 0x4000_0000_0000_
     either true = refl
     either false = refl
 
-pub empty-intersects-none : (cap : Cap) (id : ℕ) → isEmpty cap ≡ true → capIntersects cap id ≡ false
+pub empty-intersects-none : (cap : Cap) (id : ℕ) → isEmptyCap cap ≡ true → capIntersects cap id ≡ false
 unfolding capIntersects meetsCell
 empty-intersects-none cap id h =
     rw (
@@ -82,6 +73,6 @@ empty-intersects-none cap id h =
       empty-touches-none cap (cellOf id) h,
     )
 
-pub empty-contains-none : (cap : Cap) (id : ℕ) → isEmpty cap ≡ true → capContains cap id ≡ false
+pub empty-contains-none : (cap : Cap) (id : ℕ) → isEmptyCap cap ≡ true → capContains cap id ≡ false
 unfolding capContains holdsCell
 empty-contains-none cap id h = rw (empty-holds-none cap (vertexOf id 0) h)

@@ -1,4 +1,3 @@
-pub mod Signs
 pub mod Laws
 pub mod Table
 pub mod BoundLaws

@@ -9,8 +9,8 @@ use lib.ListN.{getD}
 use lib.Dec.{eqb}
 use borrow.Author.Tests.{eqb-true}
 use Rattle.cellid.specs.CellId as CellId
-use Rattle.cellid.specs.CellId.{levelOf}
-use Rattle.cellid.proofs.Laws.{every, every-at, level-cell}
+use Rattle.cellid.specs.CellId.{levelOf, one}
+use Rattle.cellid.proofs.Laws.{every, every-at, level-cell, one-le}
 use Rattle.hilbert.specs.Curve.{ijAt}
 use Rattle.hilbert.proofs.Laws.{ij-lt}
 use Rattle.point.specs.declared.Point.{Point}
@@ -21,11 +21,7 @@ use Rattle.cell.specs.declared.Cap.{Cap}
 use Rattle.cell.specs.declared.Quarters.{Quarters}
 use Rattle.cell.proofs.Siblings.{child-quarter, quarters-in}
 use Rattle.cap.specs.Cap.{capHolds, touches, complementOf, meetsCell, holdsCell, capIntersects, capContains}
-use Rattle.cap.specs.Siblings.{bitOf, fourBits, setBy, setOf, looksOf, heldOf, lookOf, looksAt, nowhere, heldNine, squareAt, heldAt, cornerAt, hasBit, turned}
-
-pub bit-le : (b : Bool) → bitOf b ≤ 1
-bit-le true = omega arith
-bit-le false = omega arith
+use Rattle.cap.specs.Siblings.{fourBits, setBy, setOf, looksOf, heldOf, lookOf, looksAt, nowhere, heldNine, squareAt, heldAt, cornerAt, hasBit, turned}
 
 -- ---- the corners of a quarter, and which of them lie in the cap, are read from the nine
 
@@ -55,7 +51,7 @@ scales-is q (suc (suc (suc (suc n)))) h = absurd (omega arith)
 
 pub held-le : (cap : Cap) (c : Cell) (r : ℕ) → r ≡ heldOf cap c → r ≤ 4
 unfolding heldOf
-held-le cap c r e = omega (arith, e, bit-le (capHolds cap (vertexAt c 0)), bit-le (capHolds cap (vertexAt c 1)), bit-le (capHolds cap (vertexAt c 2)), bit-le (capHolds cap (vertexAt c 3)))
+held-le cap c r e = omega (arith, e, one-le (capHolds cap (vertexAt c 0)), one-le (capHolds cap (vertexAt c 1)), one-le (capHolds cap (vertexAt c 2)), one-le (capHolds cap (vertexAt c 3)))
 
 -- a product of four numbers up to 4 fits, and where it isn't zero none of them is
 pub product-le : (a b c d : ℕ) → a ≤ 4 → b ≤ 4 → c ≤ 4 → d ≤ 4 → (a * b ≤ 16) × (a * b * c ≤ 64) × (a * b * c * d ≤ 256)
@@ -69,21 +65,24 @@ none-zero a b c d h = (λ e. h (rw e (omega arith)), λ e. h (rw e (omega arith)
 
 -- ---- what the number of corners in the cap decides
 
-look-none : (a b d e t u : Bool) → bitOf a + bitOf b + bitOf d + bitOf e ≡ 0 → bitOf (a || (b || (d || (e || t)))) + 16 * bitOf (a && (b && (d && (e && not u)))) ≡ bitOf t
+look-none : (a b d e t u : Bool) → one a + one b + one d + one e ≡ 0 → one (a || (b || (d || (e || t)))) + 16 * one (a && (b && (d && (e && not u)))) ≡ one t
+unfolding one
 look-none true b d e t u h = absurd (omega arith)
 look-none false true d e t u h = absurd (omega arith)
 look-none false false true e t u h = absurd (omega arith)
 look-none false false false true t u h = absurd (omega arith)
 look-none false false false false t u h = omega arith
 
-look-all : (a b d e t u : Bool) → bitOf a + bitOf b + bitOf d + bitOf e ≡ 4 → bitOf (a || (b || (d || (e || t)))) + 16 * bitOf (a && (b && (d && (e && not u)))) ≡ 1 + 16 * bitOf (not u)
+look-all : (a b d e t u : Bool) → one a + one b + one d + one e ≡ 4 → one (a || (b || (d || (e || t)))) + 16 * one (a && (b && (d && (e && not u)))) ≡ 1 + 16 * one (not u)
+unfolding one
 look-all true true true true t u h = refl
-look-all false b d e t u h = absurd (omega (arith, bit-le b, bit-le d, bit-le e))
-look-all true false d e t u h = absurd (omega (arith, bit-le d, bit-le e))
-look-all true true false e t u h = absurd (omega (arith, bit-le e))
+look-all false b d e t u h = absurd (omega (arith, one-le b, one-le d, one-le e))
+look-all true false d e t u h = absurd (omega (arith, one-le d, one-le e))
+look-all true true false e t u h = absurd (omega (arith, one-le e))
 look-all true true true false t u h = absurd (omega arith)
 
-look-some : (a b d e t u : Bool) → (bitOf a + bitOf b + bitOf d + bitOf e ≡ 0 → ⊥) → (bitOf a + bitOf b + bitOf d + bitOf e ≡ 4 → ⊥) → bitOf (a || (b || (d || (e || t)))) + 16 * bitOf (a && (b && (d && (e && not u)))) ≡ 1
+look-some : (a b d e t u : Bool) → (one a + one b + one d + one e ≡ 0 → ⊥) → (one a + one b + one d + one e ≡ 4 → ⊥) → one (a || (b || (d || (e || t)))) + 16 * one (a && (b && (d && (e && not u)))) ≡ 1
+unfolding one
 look-some true true true true t u h g = absurd (g refl)
 look-some true true true false t u h g = refl
 look-some true true false e t u h g = refl
@@ -93,11 +92,11 @@ look-some false false true e t u h g = refl
 look-some false false false true t u h g = refl
 look-some false false false false t u h g = absurd (h refl)
 
-pub none-held : (cap : Cap) (c : Cell) → heldOf cap c ≡ 0 → lookOf cap c ≡ bitOf (touches cap c)
+pub none-held : (cap : Cap) (c : Cell) → heldOf cap c ≡ 0 → lookOf cap c ≡ one (touches cap c)
 unfolding heldOf lookOf meetsCell holdsCell
 none-held cap c h = look-none (capHolds cap (vertexAt c 0)) (capHolds cap (vertexAt c 1)) (capHolds cap (vertexAt c 2)) (capHolds cap (vertexAt c 3)) (touches cap c) (touches (complementOf cap) c) h
 
-pub all-held : (cap : Cap) (c : Cell) (t : Bool) → heldOf cap c ≡ 4 → touches (complementOf cap) c ≡ t → lookOf cap c ≡ 1 + 16 * bitOf (not t)
+pub all-held : (cap : Cap) (c : Cell) (t : Bool) → heldOf cap c ≡ 4 → touches (complementOf cap) c ≡ t → lookOf cap c ≡ 1 + 16 * one (not t)
 unfolding heldOf lookOf meetsCell holdsCell
 all-held cap c t h e = rw (← e) (look-all (capHolds cap (vertexAt c 0)) (capHolds cap (vertexAt c 1)) (capHolds cap (vertexAt c 2)) (capHolds cap (vertexAt c 3)) (touches cap c) (touches (complementOf cap) c) h)
 
@@ -111,15 +110,15 @@ unfolding heldNine
 nine-le cap p h k e = rw e (go k)
   where
     go : (k : ℕ) → getD (heldNine cap p) k 0 ≤ 1
-    go zero = bit-le (capHolds cap (getD p 0 nowhere))
-    go (suc zero) = bit-le (capHolds cap (getD p 1 nowhere))
-    go (suc (suc zero)) = bit-le (capHolds cap (getD p 2 nowhere))
-    go (suc (suc (suc zero))) = bit-le (capHolds cap (getD p 3 nowhere))
-    go (suc (suc (suc (suc zero)))) = bit-le (capHolds cap (getD p 4 nowhere))
-    go (suc (suc (suc (suc (suc zero))))) = bit-le (capHolds cap (getD p 5 nowhere))
-    go (suc (suc (suc (suc (suc (suc zero)))))) = bit-le (capHolds cap (getD p 6 nowhere))
-    go (suc (suc (suc (suc (suc (suc (suc zero))))))) = bit-le (capHolds cap (getD p 7 nowhere))
-    go (suc (suc (suc (suc (suc (suc (suc (suc zero)))))))) = bit-le (capHolds cap (getD p 8 nowhere))
+    go zero = one-le (capHolds cap (getD p 0 nowhere))
+    go (suc zero) = one-le (capHolds cap (getD p 1 nowhere))
+    go (suc (suc zero)) = one-le (capHolds cap (getD p 2 nowhere))
+    go (suc (suc (suc zero))) = one-le (capHolds cap (getD p 3 nowhere))
+    go (suc (suc (suc (suc zero)))) = one-le (capHolds cap (getD p 4 nowhere))
+    go (suc (suc (suc (suc (suc zero))))) = one-le (capHolds cap (getD p 5 nowhere))
+    go (suc (suc (suc (suc (suc (suc zero)))))) = one-le (capHolds cap (getD p 6 nowhere))
+    go (suc (suc (suc (suc (suc (suc (suc zero))))))) = one-le (capHolds cap (getD p 7 nowhere))
+    go (suc (suc (suc (suc (suc (suc (suc (suc zero)))))))) = one-le (capHolds cap (getD p 8 nowhere))
     go (suc (suc (suc (suc (suc (suc (suc (suc (suc k))))))))) = omega arith
 
 pub held-read : (cap : Cap) (q : Quarters) (p : List Point) (h : List ℕ) (n r : ℕ) → n < 4 → p ≡ cornersOf q → h ≡ heldNine cap p → r ≡ heldAt h (cornerAt n) → r ≡ heldOf cap (quarterAt q n)
@@ -155,18 +154,18 @@ set-turned : (test : Cell → Bool) (id : ℕ) → CellId.Cell id → levelOf id
 unfolding setOf
 set-turned test id (L, p, c) h =
     let l : L < 30 = omega (arith, level-cell id L p c) in
-    turned-is (λ n. bitOf (test (quarterAt (quartersOf id) n))) (λ n. bit-le (test (quarterAt (quartersOf id) n))) (quartersOf id .orientation) (quarters-in id (L, p, c) .1)
+    turned-is (λ n. one (test (quarterAt (quartersOf id) n))) (λ n. one-le (test (quarterAt (quartersOf id) n))) (quartersOf id .orientation) (quarters-in id (L, p, c) .1)
     ∙ rw (child-quarter 0 c l (omega arith), child-quarter 1 c l (omega arith), child-quarter 2 c l (omega arith), child-quarter 3 c l (omega arith))
 
 -- two sets in one number
 abbrev pub both : (ℕ → Bool) → (ℕ → Bool) → ℕ → ℕ
-both f g k = bitOf (f k) + 16 * bitOf (g k)
+both f g k = one (f k) + 16 * one (g k)
 
 pub two-sets : (f g : ℕ → Bool) → let all = fourBits (both f g 0) (both f g 1) (both f g 2) (both f g 3) in (all % 16 ≡ setBy f) × (all / 16 ≡ setBy g)
-two-sets f g = (omega (arith, bit-le (f 0), bit-le (f 1), bit-le (f 2), bit-le (f 3)), omega (arith, bit-le (f 0), bit-le (f 1), bit-le (f 2), bit-le (f 3)))
+two-sets f g = (omega (arith, one-le (f 0), one-le (f 1), one-le (f 2), one-le (f 3)), omega (arith, one-le (f 0), one-le (f 1), one-le (f 2), one-le (f 3)))
 
 set-lt : (f : ℕ → Bool) → setBy f < 16
-set-lt f = omega (arith, bit-le (f 0), bit-le (f 1), bit-le (f 2), bit-le (f 3))
+set-lt f = omega (arith, one-le (f 0), one-le (f 1), one-le (f 2), one-le (f 3))
 
 looks-sets : (cap : Cap) (q : Quarters) → (looksAt cap q % 16 ≡ setBy (λ n. meetsCell cap (quarterAt q n))) × (looksAt cap q / 16 ≡ setBy (λ n. holdsCell cap (quarterAt q n)))
 unfolding lookOf looksAt
@@ -182,7 +181,7 @@ looks-are cap id c h =
 
 look-small : (cap : Cap) (c : Cell) → lookOf cap c ≤ 17
 unfolding lookOf
-look-small cap c = omega (arith, bit-le (meetsCell cap c), bit-le (holdsCell cap c))
+look-small cap c = omega (arith, one-le (meetsCell cap c), one-le (holdsCell cap c))
 
 pub looks-end : (cap : Cap) (id : ℕ) (q : Quarters) (all m s : ℕ) → CellId.Cell id → levelOf id < 30 → q ≡ quartersOf id → all ≡ looksAt cap q
     → m ≡ turned (q .orientation) (all % 16) → s ≡ turned (q .orientation) (all / 16) → record { meets = m; inside = s } ≡ looksOf (capIntersects cap) (capContains cap) id

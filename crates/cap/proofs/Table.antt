@@ -1,5 +1,5 @@
 -- The level table's rule, once for the whole table: it falls and lies above zero, by one computed test each, so a level is reached exactly where the
--- radius is at most its threshold.
+-- radius is at most its threshold, and a radius below zero reaches all of them.
 use mathlib.Core.Path.{_≡_, refl, sym, _∙_}
 use mathlib.Core.Bool.{Bool, true, false, cond, _&&_, _||_}
 use mathlib.Core.List.{List, [], _∷_}
@@ -15,6 +15,7 @@ use lib.Ieee.Fits.{up-pos, down-pos}
 use lib.Ieee.Positive.{positive, through}
 use borrow.Author.Tests.{ltb-true, lt-ltb, eqb-true, eq-eqb}
 use Rattle.cellid.proofs.Laws.{and-true, or-true, bool-iff, no-true}
+use Rattle.point.specs.Floats.{zeroF}
 use Rattle.point.proofs.Laws.{never}
 use Rattle.cap.specs.Bound.{thresholds, levelIn, levelFor, falling}
 
@@ -118,7 +119,7 @@ thresholds-above-zero : above-zero thresholds ≡ true
 unfolding thresholds ofBits
 thresholds-above-zero = refl
 
-thirty : length thresholds ≡ 30
+pub thirty : length thresholds ≡ 30
 unfolding thresholds
 thirty = refl
 
@@ -126,3 +127,30 @@ thirty = refl
 pub level-rule : (r : Float) (k : ℕ) → k < 30 → le r (getD thresholds k nan) ≡ ltb k (levelFor r)
 unfolding levelFor
 level-rule r k h = rule thresholds thresholds-fall thresholds-above-zero r k (rw thirty h)
+
+-- ---- a radius below zero
+
+below-positive : (r t : Float) → lt r zeroF ≡ true → positive t ≡ true → le r t ≡ true
+unfolding le lt eq ofBits
+below-positive r nan h p = never p
+below-positive r (inf s) h p = never p
+below-positive r (fin true n d) h p = never p
+below-positive nan (fin false n d) h p = never h
+below-positive (inf true) (fin false n d) h p = refl
+below-positive (inf false) (fin false n d) h p = never h
+below-positive (fin false m e) (fin false n d) h p = let l : m * up e * 1 < 0 * down e = ltb-true _ _ h in absurd (omega (arith, l))
+below-positive (fin true m e) (fin false n d) h p =
+    rw (lt-ltb 0 (m * up e * down d + n * up d * down e) (some (m * up e * down d) (n * up d * down e) (mul-pos (mul-pos (ltb-true 0 n p) (up-pos d)) (down-pos e))))
+  where
+    some : (a b : ℕ) → 0 < b → 0 < a + b
+    some a b k = omega arith
+
+all-reached : (ts : List Float) (r : Float) → above-zero ts ≡ true → lt r zeroF ≡ true → levelIn ts r ≡ length ts
+unfolding levelIn
+all-reached [] r p h = refl
+all-reached (t ∷ ts) r p h = let a = and-true (positive t) (above-zero ts) p in rw (below-positive r t h (a .0), all-reached ts r (a .1) h)
+
+-- an empty cap takes level 30
+pub empty-level : (r : Float) → lt r zeroF ≡ true → levelFor r ≡ 30
+unfolding levelFor
+empty-level r h = all-reached thresholds r thresholds-above-zero h ∙ thirty

@@ -13,11 +13,11 @@ use Rattle.cell.specs.declared.Cap.{Cap}
 use Rattle.cap.specs.declared.Verdict.{Verdict}
 
 -- a negative radius means empty, and the half turn full
-unfoldable pub isEmpty : Cap → Bool
-isEmpty c = lt (c .radius) zeroF
+unfoldable pub isEmptyCap : Cap → Bool
+isEmptyCap c = lt (c .radius) zeroF
 
-unfoldable pub isFull : Cap → Bool
-isFull c = eq (c .radius) straight
+unfoldable pub isFullCap : Cap → Bool
+isFullCap c = eq (c .radius) straight
 
 -- the point is at most the radius away
 unfoldable pub capHolds : Cap → Point → Bool
@@ -30,9 +30,9 @@ capAround r = record { center = record { x = oneF; y = zeroF; z = zeroF }; radiu
 -- the other side: full gives empty, empty gives full, any other the opposite centre and 4 - r
 unfoldable pub complementOf : Cap → Cap
 complementOf c =
-    cond (isFull c)
+    cond (isFullCap c)
     (capAround negative)
-    (cond (isEmpty c) (capAround straight) (record { center = mulOf (c .center) (neg oneF); radius = straight ⊖ c .radius }))
+    (cond (isEmptyCap c) (capAround straight) (record { center = mulOf (c .center) (neg oneF); radius = straight ⊖ c .radius }))
 
 -- ---- the edge test
 
@@ -63,7 +63,7 @@ edgesSay center sin2 c (suc n) =
 -- the cap has a point of the cell in it, where it has none of the corners
 unfoldable pub touches : Cap → Cell → Bool
 touches cap c =
-    cond (le right (cap .radius)) false (cond (isEmpty cap) false (cond (holdsPoint c (cap .center)) true (edgesSay (cap .center) (sin2Of (cap .radius)) c 4)))
+    cond (le right (cap .radius)) false (cond (isEmptyCap cap) false (cond (holdsPoint c (cap .center)) true (edgesSay (cap .center) (sin2Of (cap .radius)) c 4)))
 
 -- ---- the two tests
 

@@ -1,10 +1,10 @@
 -- The four children of a cell looked at together: two sets of four, by place on the curve. Definitions only.
 use Prim.Native.Nat.{ℕ, _+_, _*_, _/_, _%_, _^_}
-use mathlib.Core.Bool.{Bool, cond}
+use mathlib.Core.Bool.{Bool}
 use mathlib.Core.List.{List, [], _∷_}
 use lib.ListN.{getD}
 use lib.Ieee.{nan}
-use Rattle.cellid.specs.CellId.{childOf}
+use Rattle.cellid.specs.CellId.{childOf, one}
 use Rattle.hilbert.specs.Curve.{ijAt}
 use Rattle.point.specs.declared.Point.{Point}
 use Rattle.cell.specs.Cell.{vertexAt}
@@ -15,16 +15,13 @@ use Rattle.cell.specs.declared.Quarters.{Quarters}
 use Rattle.cap.specs.Cap.{capHolds, meetsCell, holdsCell}
 use Rattle.cap.specs.declared.Looks.{Looks}
 
-abbrev pub bitOf : Bool → ℕ
-bitOf b = cond b 1 0
-
 -- four bits as a number, the first the lowest
 abbrev pub fourBits : ℕ → ℕ → ℕ → ℕ → ℕ
 fourBits a b c d = a + 2 * b + 4 * c + 8 * d
 
 -- those of 0 to 3 for which a test holds
 abbrev pub setBy : (ℕ → Bool) → ℕ
-setBy test = fourBits (bitOf (test 0)) (bitOf (test 1)) (bitOf (test 2)) (bitOf (test 3))
+setBy test = fourBits (one (test 0)) (one (test 1)) (one (test 2)) (one (test 3))
 
 -- ---- the answer: the children for which a test holds
 
@@ -38,11 +35,11 @@ looksOf hits within id = record { meets = setOf hits id; inside = setOf within i
 
 -- how many of the corners lie in the cap
 unfoldable pub heldOf : Cap → Cell → ℕ
-heldOf cap c = bitOf (capHolds cap (vertexAt c 0)) + bitOf (capHolds cap (vertexAt c 1)) + bitOf (capHolds cap (vertexAt c 2)) + bitOf (capHolds cap (vertexAt c 3))
+heldOf cap c = one (capHolds cap (vertexAt c 0)) + one (capHolds cap (vertexAt c 1)) + one (capHolds cap (vertexAt c 2)) + one (capHolds cap (vertexAt c 3))
 
 -- both tests in one number; and of the four quarters two sets of four in one number
 unfoldable pub lookOf : Cap → Cell → ℕ
-lookOf cap c = bitOf (meetsCell cap c) + 16 * bitOf (holdsCell cap c)
+lookOf cap c = one (meetsCell cap c) + 16 * one (holdsCell cap c)
 
 unfoldable pub looksAt : Cap → Quarters → ℕ
 looksAt cap q = fourBits (lookOf cap (quarterAt q 0)) (lookOf cap (quarterAt q 1)) (lookOf cap (quarterAt q 2)) (lookOf cap (quarterAt q 3))
@@ -53,15 +50,15 @@ nowhere = record { x = nan; y = nan; z = nan }
 -- which of nine points lie in the cap
 unfoldable pub heldNine : Cap → List Point → List ℕ
 heldNine cap p =
-    bitOf (capHolds cap (getD p 0 nowhere))
-    ∷ bitOf (capHolds cap (getD p 1 nowhere))
-    ∷ bitOf (capHolds cap (getD p 2 nowhere))
-    ∷ bitOf (capHolds cap (getD p 3 nowhere))
-    ∷ bitOf (capHolds cap (getD p 4 nowhere))
-    ∷ bitOf (capHolds cap (getD p 5 nowhere))
-    ∷ bitOf (capHolds cap (getD p 6 nowhere))
-    ∷ bitOf (capHolds cap (getD p 7 nowhere))
-    ∷ bitOf (capHolds cap (getD p 8 nowhere))
+    one (capHolds cap (getD p 0 nowhere))
+    ∷ one (capHolds cap (getD p 1 nowhere))
+    ∷ one (capHolds cap (getD p 2 nowhere))
+    ∷ one (capHolds cap (getD p 3 nowhere))
+    ∷ one (capHolds cap (getD p 4 nowhere))
+    ∷ one (capHolds cap (getD p 5 nowhere))
+    ∷ one (capHolds cap (getD p 6 nowhere))
+    ∷ one (capHolds cap (getD p 7 nowhere))
+    ∷ one (capHolds cap (getD p 8 nowhere))
     ∷ []
 
 -- the corners of the square whose lower left one is at `at` of the nine

@@ -5,13 +5,14 @@
 ghost use mathlib.Core.Path.{_≡_};
 ghost use Prim.Native.Nat.{ℕ, _*_, _/_, _%_, _^_, _<_, _≤_};
 ghost use Rattle.cellid.specs.CellId as CellId;
+ghost use Rattle.cellid.specs.CellId.{one};
 ghost use Rattle.cell.specs.Cell.{verticesOf};
 ghost use Rattle.cell.specs.Siblings.{quarterAt, cornersOf, scaledOf, cellScales};
 ghost use lib.ListN.{getD};
 ghost use lib.Ieee.{nan};
 ghost use Rattle.cap.specs.Bound.{thresholds, levelFor, unionBound, inSix};
-ghost use Rattle.cap.specs.Cap.{isEmpty, isFull, capHolds, capAround, complementOf, edgeSays, edgesSay, touches, capIntersects, capContains};
-ghost use Rattle.cap.specs.Siblings.{bitOf, fourBits, looksOf, heldOf, lookOf, looksAt, heldNine, squareAt, heldAt, turned};
+ghost use Rattle.cap.specs.Cap.{isEmptyCap, isFullCap, capHolds, capAround, complementOf, edgeSays, edgesSay, touches, capIntersects, capContains};
+ghost use Rattle.cap.specs.Siblings.{fourBits, looksOf, heldOf, lookOf, looksAt, heldNine, squareAt, heldAt, turned};
 use cell::Cap;
 use cell::Cell;
 use cell::Quarters;
@@ -32,13 +33,13 @@ pub struct Bound {
 }
 
 pub fn is_empty(c: Cap) -> bool
-    ensures { λ r. ⌜ r ≡ isEmpty c ⌝ }
+    ensures { λ r. ⌜ r ≡ isEmptyCap c ⌝ }
 {
     c.radius < 0.0
 }
 
 pub fn is_full(c: Cap) -> bool
-    ensures { λ r. ⌜ r ≡ isFull c ⌝ }
+    ensures { λ r. ⌜ r ≡ isFullCap c ⌝ }
 {
     c.radius == point::STRAIGHT
 }
@@ -214,13 +215,13 @@ pub struct Looks {
 
 // 1 for true, 0 for false.
 pub fn mark(b: bool) -> u64
-    ensures { λ r. ⌜ r ≡ bitOf b ⌝ }
+    ensures { λ r. ⌜ r ≡ one b ⌝ }
 {
     if b { 1 } else { 0 }
 }
 
 fn held(cap: Cap, p: Point) -> u64
-    ensures { λ r. ⌜ r ≡ bitOf (capHolds cap p) ⌝ }
+    ensures { λ r. ⌜ r ≡ one (capHolds cap p) ⌝ }
 {
     mark(contains_point(cap, p))
 }

@@ -1,40 +1,33 @@
--- From a public answer to a call from C; and that a contract allows one result.
+-- From a public answer to a call from C, and back; and that a contract allows one result.
 use mathlib.Core.Path.{_≡_, sym, ap, _∙_, subst}
-use mathlib.Core.Bool.{Bool}
 use mathlib.Core.List.{List}
 use Prim.Native.Nat.{ℕ}
 use lib.ListN.{length}
 use Rattle.region.specs.declared.Region.{Region}
-use Rattle.fast.specs.declared.RegionCoverer.{RegionCoverer}
+use Rattle.run.specs.declared.RegionCoverer.{RegionCoverer}
 use Rattle.covering.specs.declared.Answer.{Answer}
-use Rattle.covering.specs.declared.Ending.{Ending}
-use Rattle.covering.specs.Covering.{Result, resultOf, fastResultOf, valuesOf, Answered}
+use Rattle.covering.specs.declared.Kind.{Kind}
+use Rattle.covering.specs.Covering.{Result, resultOf, Answered}
 use Rattle.ranges.specs.declared.Answer as ListAnswer
 use Rattle.ranges.specs.Ranges as Ranges
 use Rattle.tokens.specs.declared.Answer as Tokens
 use Rattle.tokens.specs.Tokens as Names
 use Rattle.capi.specs.Calls.{Told, Called, CalledOf, NamesTold, NamesCalled}
 
-module _ (a : Answer) (number : ℕ) (m m′ o o′ : List ℕ) (count steps aside : ℕ) (t : Told (valuesOf a) number count steps aside) where
-  called : (R : Result) → Answered R a m m′ o o′ → Called R number m m′ o o′ count steps aside
-  called R A = record {
-    told = subst (λ (x : Answer). Told (valuesOf x) number count steps aside) (A .answer) t;
-    memory = A .memory;
-    output = A .output;
-  }
+module _ {R : Result} {number count steps aside : ℕ} {mem mem′ out out′ : List ℕ} where
+  -- an answer that is told is all that a call leaves
+  pub answered-called : {a : Answer} → Answered R a mem mem′ out out′ → Told a number count steps aside → Called R number mem mem′ out out′ count steps aside
+  answered-called A t = record { told = subst (λ (x : Answer). Told x number count steps aside) (A .answer) t; memory = A .memory; output = A .output }
 
-  -- of the request and the region that the numbers make
-  module _ (c c′ : RegionCoverer) (g g′ : Region) (p : c ≡ c′) (q : g ≡ g′) where
-    pub run-called : (e : Ending) (inner : Bool) (allowance : ℕ) → Answered (resultOf e inner c g allowance (length m) (length o)) a m m′ o o′
-        → Called (resultOf e inner c′ g′ allowance (length m) (length o)) number m m′ o o′ count steps aside
-    run-called e inner allowance A =
-        subst (λ (x : RegionCoverer). Called (resultOf e inner x g′ allowance (length m) (length o)) number m m′ o o′ count steps aside) p
-        (subst (λ (y : Region). Called (resultOf e inner c y allowance (length m) (length o)) number m m′ o o′ count steps aside) q (called _ A))
+  -- and what a call leaves is an answer: whatever is promised of public answers is promised of calls
+  pub called-answered : Called R number mem mem′ out out′ count steps aside → Answered R (record { number = number; count = count; steps = steps; aside = aside }) mem mem′ out out′
+  called-answered C = record { answer = rw (C .told .is, C .told .counted, C .told .taken, C .told .total); memory = C .memory; output = C .output }
 
-    pub fast-called : Answered (fastResultOf c g (length m) (length o)) a m m′ o o′ → Called (fastResultOf c′ g′ (length m) (length o)) number m m′ o o′ count steps aside
-    fast-called A =
-        subst (λ (x : RegionCoverer). Called (fastResultOf x g′ (length m) (length o)) number m m′ o o′ count steps aside) p
-        (subst (λ (y : Region). Called (fastResultOf c y (length m) (length o)) number m m′ o o′ count steps aside) q (called _ A))
+-- of the request and the region that the numbers make
+pub call-made : (k : Kind) (c c′ : RegionCoverer) (g g′ : Region) (allowance number : ℕ) (mem mem′ out out′ : List ℕ) (count steps aside : ℕ) → c ≡ c′ → g ≡ g′
+    → Called (resultOf k c g allowance (length mem) (length out)) number mem mem′ out out′ count steps aside
+    → Called (resultOf k c′ g′ allowance (length mem) (length out)) number mem mem′ out out′ count steps aside
+call-made k c c′ g g′ allowance number mem mem′ out out′ count steps aside p q = rw (p, q) (λ C. C)
 
 -- any two results that a contract allows are one
 pub determined : (R : Result) (n n′ : ℕ) (m m₁ m₂ o o₁ o₂ : List ℕ) (k k′ s s′ t t′ : ℕ) → Called R n m m₁ o o₁ k s t → Called R n′ m m₂ o o₂ k′ s′ t′

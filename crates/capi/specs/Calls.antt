@@ -7,8 +7,9 @@ use Rattle.ranges.specs.Ranges as Ranges
 use Rattle.tokens.specs.declared.Answer as Tokens
 use Rattle.tokens.specs.Tokens as Names
 use Rattle.region.specs.declared.Region.{Region}
-use Rattle.fast.specs.declared.RegionCoverer.{RegionCoverer}
-use Rattle.covering.specs.Covering.{Result, Values, answerOf, valuesOf, memoryAfter, outputAfter}
+use Rattle.run.specs.declared.RegionCoverer.{RegionCoverer}
+use Rattle.covering.specs.declared.Answer.{Answer}
+use Rattle.covering.specs.Covering.{Result, answerOf, memoryAfter, outputAfter}
 
 abbrev pub regionCoverer : ℕ → ℕ → ℕ → ℕ → RegionCoverer
 regionCoverer low top step cells = record { «min_level» = low; «max_level» = top; «level_mod» = step; «max_cells» = cells }
@@ -21,15 +22,15 @@ abbrev pub cellRegion : ℕ → Region
 cellRegion id = Region.Cell id
 
 -- an answer's number and values
-pub record Told (v : Values) (number count steps aside : ℕ) : Type 0 where
-  pub is : number ≡ v .number
-  pub counted : count ≡ v .count
-  pub taken : steps ≡ v .steps
-  pub total : aside ≡ v .aside
+pub record Told (a : Answer) (number count steps aside : ℕ) : Type 0 where
+  pub is : number ≡ a .number
+  pub counted : count ≡ a .count
+  pub taken : steps ≡ a .steps
+  pub total : aside ≡ a .aside
 
 -- all that a call leaves: what was told, the working memory and the output
 pub record Called (R : Result) (number : ℕ) (mem mem′ out out′ : List ℕ) (count steps aside : ℕ) : Type 0 where
-  pub told : Told (valuesOf (answerOf R)) number count steps aside
+  pub told : Told (answerOf R) number count steps aside
   pub memory : mem′ ≡ memoryAfter R mem
   pub output : out′ ≡ outputAfter R out
 
@@ -37,8 +38,8 @@ pub record Called (R : Result) (number : ℕ) (mem mem′ out out′ : List ℕ)
 
 -- all that such a call leaves: the answer's number, how many words were written, and the output
 pub record CalledOf (R : Ranges.Result) (number : ℕ) (out out′ : List ℕ) (count : ℕ) : Type 0 where
-  pub is : number ≡ Ranges.numberOf (Ranges.answerOf R)
-  pub counted : count ≡ Ranges.wordsOf (Ranges.answerOf R)
+  pub is : number ≡ Ranges.numberOf (Ranges.listAnswer R)
+  pub counted : count ≡ Ranges.wordsOf (Ranges.listAnswer R)
   pub output : out′ ≡ Ranges.outputAfter R out
 
 -- ---- tokens
@@ -51,5 +52,5 @@ pub record NamesTold (a : Tokens.Answer) (number count first : ℕ) : Type 0 whe
 
 -- all that such a call leaves
 pub record NamesCalled (R : Names.Result) (number : ℕ) (out out′ : List ℕ) (count first : ℕ) : Type 0 where
-  pub told : NamesTold (Names.answerOf R) number count first
+  pub told : NamesTold (Names.tokenAnswer R) number count first
   pub output : out′ ≡ Names.outputAfter R out

@@ -1,10 +1,10 @@
 // The public answers for programs in C or Rust: functions on numbers and slices, under plain names, with no requirement on the caller. Each returns the
 // papers' number, 0 for success, and writes the values of the answer through `count`, `steps` and `aside`.
 ghost use mathlib.Core.Path.{_≡_};
-ghost use mathlib.Core.Bool.{true, false};
 ghost use lib.ListN.{length};
 ghost use Rattle.covering.specs.declared.Ending.{Ending};
-ghost use Rattle.covering.specs.Covering.{resultOf, fastResultOf, valuesOf};
+ghost use Rattle.covering.specs.declared.Kind.{Kind};
+ghost use Rattle.covering.specs.Covering.{resultOf};
 ghost use Rattle.ranges.specs.Ranges.{pairsResult, cellsResult, numberOf, wordsOf};
 ghost use Rattle.sets.specs.declared.Op.{Op};
 ghost use Rattle.sets.specs.Sets.{setResult};
@@ -13,9 +13,11 @@ ghost use Rattle.tokens.specs.Tokens.{writeResult, readResult};
 ghost use Rattle.capi.specs.Calls.{regionCoverer, capRegion, cellRegion, Told, Called, CalledOf, NamesTold, NamesCalled};
 use cell::Cap;
 use covering::Answer;
-use fast::RegionCoverer;
+use covering::Ending;
+use covering::Kind;
 use point::Point;
 use region::Region;
+use run::RegionCoverer;
 use sets::Op;
 use tokens::Form;
 
@@ -46,22 +48,30 @@ fn cell_region(id: u64) -> Region
 
 // The number of an answer; its values go through the references.
 fn tell(a: Answer, count: &mut u64, steps: &mut u64, aside: &mut u64) -> u64
-    ensures { λ r. ⌜ Told (valuesOf a) r (now (count .exit)) (now (steps .exit)) (now (aside .exit)) ⌝ }
+    ensures { λ r. ⌜ Told a r (now (count .exit)) (now (steps .exit)) (now (aside .exit)) ⌝ }
 {
-    match a {
-        Answer::Done(n, s, total) => {
-            *count = n as u64;
-            *steps = s as u64;
-            *aside = total;
-            0
-        }
-        Answer::Refused(number) => {
-            *count = 0;
-            *steps = 0;
-            *aside = 0;
-            number
-        }
-    }
+    *count = a.count as u64;
+    *steps = a.steps as u64;
+    *aside = a.aside;
+    a.number
+}
+
+// A request of any kind: the functions below are its cases, each for a cap and for a cell.
+fn call(
+    kind: Kind,
+    g: Region,
+    c: RegionCoverer,
+    allowance: u32,
+    mem: &mut [u64],
+    out: &mut [u64],
+    count: &mut u64,
+    steps: &mut u64,
+    aside: &mut u64,
+) -> u64
+    ensures { λ r. ⌜ Called (resultOf kind c g allowance (length (now (mem .entry))) (length (now (out .entry)))) r (now (mem .entry)) (now (mem .exit)) (now (out .entry)) (now (out .exit)) (now (count .exit)) (now (steps .exit)) (now (aside .exit)) ⌝ }
+{
+    let a = covering::respond(kind, c, g, allowance, mem, out);
+    tell(a, count, steps, aside)
 }
 
 // The covering: cells of levels min_level to max_level, in whole steps of level_mod, that cover the region as the outer run does. Of a cap.
@@ -82,12 +92,12 @@ pub extern "C" fn flaxbadger_covering_cap(
     steps: &mut u64,
     aside: &mut u64,
 ) -> u64
-    ensures { λ r. ⌜ Called (resultOf Ending.Covering false (regionCoverer «min_level» «max_level» «level_mod» «max_cells») (capRegion x y z radius) allowance (length (now (mem .entry))) (length (now (out .entry)))) r (now (mem .entry)) (now (mem .exit)) (now (out .entry)) (now (out .exit)) (now (count .exit)) (now (steps .exit)) (now (aside .exit)) ⌝ }
+    ensures { λ r. ⌜ Called (resultOf (Kind.Outer Ending.Covering) (regionCoverer «min_level» «max_level» «level_mod» «max_cells») (capRegion x y z radius) allowance (length (now (mem .entry))) (length (now (out .entry)))) r (now (mem .entry)) (now (mem .exit)) (now (out .entry)) (now (out .exit)) (now (count .exit)) (now (steps .exit)) (now (aside .exit)) ⌝ }
 {
     let c = region_coverer(min_level, max_level, level_mod, max_cells);
     let g = cap_region(x, y, z, radius);
-    let a = covering::covering(c, g, allowance, mem, out);
-    tell(a, count, steps, aside)
+    let kind = Kind::Outer(Ending::Covering);
+    call(kind, g, c, allowance, mem, out, count, steps, aside)
 }
 
 // The covering: cells of levels min_level to max_level, in whole steps of level_mod, that cover the region as the outer run does. Of a cell.
@@ -105,12 +115,12 @@ pub extern "C" fn flaxbadger_covering_cell(
     steps: &mut u64,
     aside: &mut u64,
 ) -> u64
-    ensures { λ r. ⌜ Called (resultOf Ending.Covering false (regionCoverer «min_level» «max_level» «level_mod» «max_cells») (cellRegion id) allowance (length (now (mem .entry))) (length (now (out .entry)))) r (now (mem .entry)) (now (mem .exit)) (now (out .entry)) (now (out .exit)) (now (count .exit)) (now (steps .exit)) (now (aside .exit)) ⌝ }
+    ensures { λ r. ⌜ Called (resultOf (Kind.Outer Ending.Covering) (regionCoverer «min_level» «max_level» «level_mod» «max_cells») (cellRegion id) allowance (length (now (mem .entry))) (length (now (out .entry)))) r (now (mem .entry)) (now (mem .exit)) (now (out .entry)) (now (out .exit)) (now (count .exit)) (now (steps .exit)) (now (aside .exit)) ⌝ }
 {
     let c = region_coverer(min_level, max_level, level_mod, max_cells);
     let g = cell_region(id);
-    let a = covering::covering(c, g, allowance, mem, out);
-    tell(a, count, steps, aside)
+    let kind = Kind::Outer(Ending::Covering);
+    call(kind, g, c, allowance, mem, out, count, steps, aside)
 }
 
 // The outer run's raw list, normalised; nothing is promised of levels. Of a cap.
@@ -131,12 +141,12 @@ pub extern "C" fn flaxbadger_cellunion_cap(
     steps: &mut u64,
     aside: &mut u64,
 ) -> u64
-    ensures { λ r. ⌜ Called (resultOf Ending.CellUnion false (regionCoverer «min_level» «max_level» «level_mod» «max_cells») (capRegion x y z radius) allowance (length (now (mem .entry))) (length (now (out .entry)))) r (now (mem .entry)) (now (mem .exit)) (now (out .entry)) (now (out .exit)) (now (count .exit)) (now (steps .exit)) (now (aside .exit)) ⌝ }
+    ensures { λ r. ⌜ Called (resultOf (Kind.Outer Ending.CellUnion) (regionCoverer «min_level» «max_level» «level_mod» «max_cells») (capRegion x y z radius) allowance (length (now (mem .entry))) (length (now (out .entry)))) r (now (mem .entry)) (now (mem .exit)) (now (out .entry)) (now (out .exit)) (now (count .exit)) (now (steps .exit)) (now (aside .exit)) ⌝ }
 {
     let c = region_coverer(min_level, max_level, level_mod, max_cells);
     let g = cap_region(x, y, z, radius);
-    let a = covering::cellunion(c, g, allowance, mem, out);
-    tell(a, count, steps, aside)
+    let kind = Kind::Outer(Ending::CellUnion);
+    call(kind, g, c, allowance, mem, out, count, steps, aside)
 }
 
 // The outer run's raw list, normalised; nothing is promised of levels. Of a cell.
@@ -154,12 +164,12 @@ pub extern "C" fn flaxbadger_cellunion_cell(
     steps: &mut u64,
     aside: &mut u64,
 ) -> u64
-    ensures { λ r. ⌜ Called (resultOf Ending.CellUnion false (regionCoverer «min_level» «max_level» «level_mod» «max_cells») (cellRegion id) allowance (length (now (mem .entry))) (length (now (out .entry)))) r (now (mem .entry)) (now (mem .exit)) (now (out .entry)) (now (out .exit)) (now (count .exit)) (now (steps .exit)) (now (aside .exit)) ⌝ }
+    ensures { λ r. ⌜ Called (resultOf (Kind.Outer Ending.CellUnion) (regionCoverer «min_level» «max_level» «level_mod» «max_cells») (cellRegion id) allowance (length (now (mem .entry))) (length (now (out .entry)))) r (now (mem .entry)) (now (mem .exit)) (now (out .entry)) (now (out .exit)) (now (count .exit)) (now (steps .exit)) (now (aside .exit)) ⌝ }
 {
     let c = region_coverer(min_level, max_level, level_mod, max_cells);
     let g = cell_region(id);
-    let a = covering::cellunion(c, g, allowance, mem, out);
-    tell(a, count, steps, aside)
+    let kind = Kind::Outer(Ending::CellUnion);
+    call(kind, g, c, allowance, mem, out, count, steps, aside)
 }
 
 // The outer run's raw list, in the order kept. Of a cap.
@@ -180,12 +190,12 @@ pub extern "C" fn flaxbadger_raw_cap(
     steps: &mut u64,
     aside: &mut u64,
 ) -> u64
-    ensures { λ r. ⌜ Called (resultOf Ending.Raw false (regionCoverer «min_level» «max_level» «level_mod» «max_cells») (capRegion x y z radius) allowance (length (now (mem .entry))) (length (now (out .entry)))) r (now (mem .entry)) (now (mem .exit)) (now (out .entry)) (now (out .exit)) (now (count .exit)) (now (steps .exit)) (now (aside .exit)) ⌝ }
+    ensures { λ r. ⌜ Called (resultOf (Kind.Outer Ending.Raw) (regionCoverer «min_level» «max_level» «level_mod» «max_cells») (capRegion x y z radius) allowance (length (now (mem .entry))) (length (now (out .entry)))) r (now (mem .entry)) (now (mem .exit)) (now (out .entry)) (now (out .exit)) (now (count .exit)) (now (steps .exit)) (now (aside .exit)) ⌝ }
 {
     let c = region_coverer(min_level, max_level, level_mod, max_cells);
     let g = cap_region(x, y, z, radius);
-    let a = covering::raw(c, g, allowance, mem, out);
-    tell(a, count, steps, aside)
+    let kind = Kind::Outer(Ending::Raw);
+    call(kind, g, c, allowance, mem, out, count, steps, aside)
 }
 
 // The outer run's raw list, in the order kept. Of a cell.
@@ -203,12 +213,12 @@ pub extern "C" fn flaxbadger_raw_cell(
     steps: &mut u64,
     aside: &mut u64,
 ) -> u64
-    ensures { λ r. ⌜ Called (resultOf Ending.Raw false (regionCoverer «min_level» «max_level» «level_mod» «max_cells») (cellRegion id) allowance (length (now (mem .entry))) (length (now (out .entry)))) r (now (mem .entry)) (now (mem .exit)) (now (out .entry)) (now (out .exit)) (now (count .exit)) (now (steps .exit)) (now (aside .exit)) ⌝ }
+    ensures { λ r. ⌜ Called (resultOf (Kind.Outer Ending.Raw) (regionCoverer «min_level» «max_level» «level_mod» «max_cells») (cellRegion id) allowance (length (now (mem .entry))) (length (now (out .entry)))) r (now (mem .entry)) (now (mem .exit)) (now (out .entry)) (now (out .exit)) (now (count .exit)) (now (steps .exit)) (now (aside .exit)) ⌝ }
 {
     let c = region_coverer(min_level, max_level, level_mod, max_cells);
     let g = cell_region(id);
-    let a = covering::raw(c, g, allowance, mem, out);
-    tell(a, count, steps, aside)
+    let kind = Kind::Outer(Ending::Raw);
+    call(kind, g, c, allowance, mem, out, count, steps, aside)
 }
 
 // Cells inside the region, of levels min_level to max_level in whole steps of level_mod. Of a cap.
@@ -229,12 +239,12 @@ pub extern "C" fn flaxbadger_interior_covering_cap(
     steps: &mut u64,
     aside: &mut u64,
 ) -> u64
-    ensures { λ r. ⌜ Called (resultOf Ending.Covering true (regionCoverer «min_level» «max_level» «level_mod» «max_cells») (capRegion x y z radius) allowance (length (now (mem .entry))) (length (now (out .entry)))) r (now (mem .entry)) (now (mem .exit)) (now (out .entry)) (now (out .exit)) (now (count .exit)) (now (steps .exit)) (now (aside .exit)) ⌝ }
+    ensures { λ r. ⌜ Called (resultOf (Kind.Inner Ending.Covering) (regionCoverer «min_level» «max_level» «level_mod» «max_cells») (capRegion x y z radius) allowance (length (now (mem .entry))) (length (now (out .entry)))) r (now (mem .entry)) (now (mem .exit)) (now (out .entry)) (now (out .exit)) (now (count .exit)) (now (steps .exit)) (now (aside .exit)) ⌝ }
 {
     let c = region_coverer(min_level, max_level, level_mod, max_cells);
     let g = cap_region(x, y, z, radius);
-    let a = covering::interior_covering(c, g, allowance, mem, out);
-    tell(a, count, steps, aside)
+    let kind = Kind::Inner(Ending::Covering);
+    call(kind, g, c, allowance, mem, out, count, steps, aside)
 }
 
 // Cells inside the region, of levels min_level to max_level in whole steps of level_mod. Of a cell.
@@ -252,12 +262,12 @@ pub extern "C" fn flaxbadger_interior_covering_cell(
     steps: &mut u64,
     aside: &mut u64,
 ) -> u64
-    ensures { λ r. ⌜ Called (resultOf Ending.Covering true (regionCoverer «min_level» «max_level» «level_mod» «max_cells») (cellRegion id) allowance (length (now (mem .entry))) (length (now (out .entry)))) r (now (mem .entry)) (now (mem .exit)) (now (out .entry)) (now (out .exit)) (now (count .exit)) (now (steps .exit)) (now (aside .exit)) ⌝ }
+    ensures { λ r. ⌜ Called (resultOf (Kind.Inner Ending.Covering) (regionCoverer «min_level» «max_level» «level_mod» «max_cells») (cellRegion id) allowance (length (now (mem .entry))) (length (now (out .entry)))) r (now (mem .entry)) (now (mem .exit)) (now (out .entry)) (now (out .exit)) (now (count .exit)) (now (steps .exit)) (now (aside .exit)) ⌝ }
 {
     let c = region_coverer(min_level, max_level, level_mod, max_cells);
     let g = cell_region(id);
-    let a = covering::interior_covering(c, g, allowance, mem, out);
-    tell(a, count, steps, aside)
+    let kind = Kind::Inner(Ending::Covering);
+    call(kind, g, c, allowance, mem, out, count, steps, aside)
 }
 
 // The inner run's raw list, normalised; nothing is promised of levels. Of a cap.
@@ -278,12 +288,12 @@ pub extern "C" fn flaxbadger_interior_cellunion_cap(
     steps: &mut u64,
     aside: &mut u64,
 ) -> u64
-    ensures { λ r. ⌜ Called (resultOf Ending.CellUnion true (regionCoverer «min_level» «max_level» «level_mod» «max_cells») (capRegion x y z radius) allowance (length (now (mem .entry))) (length (now (out .entry)))) r (now (mem .entry)) (now (mem .exit)) (now (out .entry)) (now (out .exit)) (now (count .exit)) (now (steps .exit)) (now (aside .exit)) ⌝ }
+    ensures { λ r. ⌜ Called (resultOf (Kind.Inner Ending.CellUnion) (regionCoverer «min_level» «max_level» «level_mod» «max_cells») (capRegion x y z radius) allowance (length (now (mem .entry))) (length (now (out .entry)))) r (now (mem .entry)) (now (mem .exit)) (now (out .entry)) (now (out .exit)) (now (count .exit)) (now (steps .exit)) (now (aside .exit)) ⌝ }
 {
     let c = region_coverer(min_level, max_level, level_mod, max_cells);
     let g = cap_region(x, y, z, radius);
-    let a = covering::interior_cellunion(c, g, allowance, mem, out);
-    tell(a, count, steps, aside)
+    let kind = Kind::Inner(Ending::CellUnion);
+    call(kind, g, c, allowance, mem, out, count, steps, aside)
 }
 
 // The inner run's raw list, normalised; nothing is promised of levels. Of a cell.
@@ -301,12 +311,12 @@ pub extern "C" fn flaxbadger_interior_cellunion_cell(
     steps: &mut u64,
     aside: &mut u64,
 ) -> u64
-    ensures { λ r. ⌜ Called (resultOf Ending.CellUnion true (regionCoverer «min_level» «max_level» «level_mod» «max_cells») (cellRegion id) allowance (length (now (mem .entry))) (length (now (out .entry)))) r (now (mem .entry)) (now (mem .exit)) (now (out .entry)) (now (out .exit)) (now (count .exit)) (now (steps .exit)) (now (aside .exit)) ⌝ }
+    ensures { λ r. ⌜ Called (resultOf (Kind.Inner Ending.CellUnion) (regionCoverer «min_level» «max_level» «level_mod» «max_cells») (cellRegion id) allowance (length (now (mem .entry))) (length (now (out .entry)))) r (now (mem .entry)) (now (mem .exit)) (now (out .entry)) (now (out .exit)) (now (count .exit)) (now (steps .exit)) (now (aside .exit)) ⌝ }
 {
     let c = region_coverer(min_level, max_level, level_mod, max_cells);
     let g = cell_region(id);
-    let a = covering::interior_cellunion(c, g, allowance, mem, out);
-    tell(a, count, steps, aside)
+    let kind = Kind::Inner(Ending::CellUnion);
+    call(kind, g, c, allowance, mem, out, count, steps, aside)
 }
 
 // The inner run's raw list, in the order kept. Of a cap.
@@ -327,12 +337,12 @@ pub extern "C" fn flaxbadger_interior_raw_cap(
     steps: &mut u64,
     aside: &mut u64,
 ) -> u64
-    ensures { λ r. ⌜ Called (resultOf Ending.Raw true (regionCoverer «min_level» «max_level» «level_mod» «max_cells») (capRegion x y z radius) allowance (length (now (mem .entry))) (length (now (out .entry)))) r (now (mem .entry)) (now (mem .exit)) (now (out .entry)) (now (out .exit)) (now (count .exit)) (now (steps .exit)) (now (aside .exit)) ⌝ }
+    ensures { λ r. ⌜ Called (resultOf (Kind.Inner Ending.Raw) (regionCoverer «min_level» «max_level» «level_mod» «max_cells») (capRegion x y z radius) allowance (length (now (mem .entry))) (length (now (out .entry)))) r (now (mem .entry)) (now (mem .exit)) (now (out .entry)) (now (out .exit)) (now (count .exit)) (now (steps .exit)) (now (aside .exit)) ⌝ }
 {
     let c = region_coverer(min_level, max_level, level_mod, max_cells);
     let g = cap_region(x, y, z, radius);
-    let a = covering::interior_raw(c, g, allowance, mem, out);
-    tell(a, count, steps, aside)
+    let kind = Kind::Inner(Ending::Raw);
+    call(kind, g, c, allowance, mem, out, count, steps, aside)
 }
 
 // The inner run's raw list, in the order kept. Of a cell.
@@ -350,12 +360,12 @@ pub extern "C" fn flaxbadger_interior_raw_cell(
     steps: &mut u64,
     aside: &mut u64,
 ) -> u64
-    ensures { λ r. ⌜ Called (resultOf Ending.Raw true (regionCoverer «min_level» «max_level» «level_mod» «max_cells») (cellRegion id) allowance (length (now (mem .entry))) (length (now (out .entry)))) r (now (mem .entry)) (now (mem .exit)) (now (out .entry)) (now (out .exit)) (now (count .exit)) (now (steps .exit)) (now (aside .exit)) ⌝ }
+    ensures { λ r. ⌜ Called (resultOf (Kind.Inner Ending.Raw) (regionCoverer «min_level» «max_level» «level_mod» «max_cells») (cellRegion id) allowance (length (now (mem .entry))) (length (now (out .entry)))) r (now (mem .entry)) (now (mem .exit)) (now (out .entry)) (now (out .exit)) (now (count .exit)) (now (steps .exit)) (now (aside .exit)) ⌝ }
 {
     let c = region_coverer(min_level, max_level, level_mod, max_cells);
     let g = cell_region(id);
-    let a = covering::interior_raw(c, g, allowance, mem, out);
-    tell(a, count, steps, aside)
+    let kind = Kind::Inner(Ending::Raw);
+    call(kind, g, c, allowance, mem, out, count, steps, aside)
 }
 
 // The quick, coarse covering of the region's bound, with no run and 0 steps. Of a cap.
@@ -375,12 +385,11 @@ pub extern "C" fn flaxbadger_fast_covering_cap(
     steps: &mut u64,
     aside: &mut u64,
 ) -> u64
-    ensures { λ r. ⌜ Called (fastResultOf (regionCoverer «min_level» «max_level» «level_mod» «max_cells») (capRegion x y z radius) (length (now (mem .entry))) (length (now (out .entry)))) r (now (mem .entry)) (now (mem .exit)) (now (out .entry)) (now (out .exit)) (now (count .exit)) (now (steps .exit)) (now (aside .exit)) ⌝ }
+    ensures { λ r. ⌜ Called (resultOf Kind.Fast (regionCoverer «min_level» «max_level» «level_mod» «max_cells») (capRegion x y z radius) 0 (length (now (mem .entry))) (length (now (out .entry)))) r (now (mem .entry)) (now (mem .exit)) (now (out .entry)) (now (out .exit)) (now (count .exit)) (now (steps .exit)) (now (aside .exit)) ⌝ }
 {
     let c = region_coverer(min_level, max_level, level_mod, max_cells);
     let g = cap_region(x, y, z, radius);
-    let a = covering::fast_covering(c, g, mem, out);
-    tell(a, count, steps, aside)
+    call(Kind::Fast, g, c, 0, mem, out, count, steps, aside)
 }
 
 // The quick, coarse covering of the region's bound, with no run and 0 steps. Of a cell.
@@ -397,12 +406,11 @@ pub extern "C" fn flaxbadger_fast_covering_cell(
     steps: &mut u64,
     aside: &mut u64,
 ) -> u64
-    ensures { λ r. ⌜ Called (fastResultOf (regionCoverer «min_level» «max_level» «level_mod» «max_cells») (cellRegion id) (length (now (mem .entry))) (length (now (out .entry)))) r (now (mem .entry)) (now (mem .exit)) (now (out .entry)) (now (out .exit)) (now (count .exit)) (now (steps .exit)) (now (aside .exit)) ⌝ }
+    ensures { λ r. ⌜ Called (resultOf Kind.Fast (regionCoverer «min_level» «max_level» «level_mod» «max_cells») (cellRegion id) 0 (length (now (mem .entry))) (length (now (out .entry)))) r (now (mem .entry)) (now (mem .exit)) (now (out .entry)) (now (out .exit)) (now (count .exit)) (now (steps .exit)) (now (aside .exit)) ⌝ }
 {
     let c = region_coverer(min_level, max_level, level_mod, max_cells);
     let g = cell_region(id);
-    let a = covering::fast_covering(c, g, mem, out);
-    tell(a, count, steps, aside)
+    call(Kind::Fast, g, c, 0, mem, out, count, steps, aside)
 }
 
 // The number of a list's answer; how many words were written goes through the reference.

@@ -26,10 +26,6 @@ last-le i s l h = go (30 - s) (omega arith)
         let m : (i / 2 ^ s + 1) * 2 ^ s ≤ 2 ^ t * 2 ^ s = mul-le-mul-right (2 ^ s) (omega (arith, q)) in
         more (i / 2 ^ s) (2 ^ s) (2 ^ 30) (rw (sym p) at m)
 
-pub level-le : (id : ℕ) → CellId.levelOf id ≤ 30
-unfolding CellId.levelOf
-level-le id = omega arith
-
 -- a cell's face is one of six
 pub cell-face : (id : ℕ) → CellId.Cell id → cellOf id .face < 6
 unfolding cellOf

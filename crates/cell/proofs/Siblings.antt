@@ -1,5 +1,5 @@
 -- The children of a cell lie between its own lines: whole numbers only, no float is looked into.
-use mathlib.Core.Path.{_≡_, sym, ap, _∙_}
+use mathlib.Core.Path.{_≡_, ap, _∙_}
 use Prim.Native.Nat.{ℕ, zero, suc, _+_, _-_, _*_, _/_, _%_, _^_, _≤_, _<_}
 use native.Mathlib.Nat.{pow-suc}
 use native.Mathlib.Omega.{arith}
@@ -8,24 +8,12 @@ use Rattle.cellid.specs.CellId as CellId
 use Rattle.cellid.specs.CellId.{IsCell, childOf}
 use Rattle.cellid.proofs.Laws.{level-cell}
 use Rattle.cellid.proofs.Leaves.{child-cell}
-use Rattle.cellid.proofs.Parts.{upper, upper-step, upper-place}
+use Rattle.cellid.proofs.Parts.{face-child}
 use Rattle.hilbert.specs.Curve.{walk, turnOf, ijAt, faceIj}
 use Rattle.hilbert.proofs.Laws.{ij-lt, walk-in, face-ij-in}
 use Rattle.hilbert.proofs.Depth.{walk-child, face-ij-square}
 use Rattle.cell.specs.Cell.{spanAt, boundUv, cellOf}
 use Rattle.cell.specs.Siblings.{linesAt, quartersOf, halfOf, quarterAt}
-
--- two ids that agree down to some pair have one face
-face-same : (a b n : ℕ) → n ≤ 30 → upper a n ≡ upper b n → a / 2 ^ 61 ≡ b / 2 ^ 61
-face-same a b zero h e = e
-face-same a b (suc n) h e =
-    face-same a b n (omega arith) (upper-step a n (omega arith) ∙ ap (λ (x : ℕ). x / 4) e ∙ sym (upper-step b n (omega arith)))
-
-face-child : {id L p : ℕ} (k : ℕ) → IsCell id L p → L < 30 → k < 4 → childOf id k / 2 ^ 61 ≡ id / 2 ^ 61
-face-child {id} {L} {p} k c h g =
-    let d = child-cell k c h g in
-    let u : upper (childOf id k) (suc L) ≡ 4 * p + k = ap (upper (childOf id k)) (omega arith) ∙ upper-place (childOf id k) (L + 1) (4 * p + k) d in
-    face-same (childOf id k) id L (omega arith) (upper-step (childOf id k) L h ∙ omega (arith, upper-place id L p c))
 
 -- the middle line comes before the last
 pub half-le : (level : ℕ) → 2 ^ (29 - level) ≤ 2 ^ (30 - level)

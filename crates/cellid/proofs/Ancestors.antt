@@ -2,7 +2,7 @@
 -- have the same ancestor, and the code's bits tell it.
 use mathlib.Core.Path.{_≡_, refl, sym, ap, _∙_, subst}
 use mathlib.Core.Logic.{_⊎_, inl, inr, ⊎-elim, _↔_}
-use mathlib.Core.Bool.{Bool, true, false, _&&_}
+use mathlib.Core.Bool.{Bool, true, false, _&&_, true≢false}
 use Prim.Native.Nat.{ℕ, zero, suc, _+_, _-_, _*_, _/_, _^_, _≤_, _<_, max}
 use native.Mathlib.Nat.{le-trans, mul-comm, mul-assoc, eq-of-mul-eq-mul-right, div-lt-iff-lt-mul, eq-or-lt-of-le, le-of-suc-le-suc, div-div-eq-div-mul}
 use native.Mathlib.Omega.{arith}
@@ -14,7 +14,7 @@ use borrow.Author.Tests.{leb-true, ltb-true, eqb-true, le-leb, lt-leb, lt-ltb, l
 use Rattle.cellid.specs.CellId.{Cell, IsCell, idOf, bitAt, placeAt, faceOf, lowBit, levelOf, parentAt, holds, SameAt, sameAt, deepest, commonLevel}
 use Rattle.cellid.specs.declared.Common.{Common}
 use Rattle.cellid.proofs.Leaves.{holds-deeper, Depth, deeper, higher, depth}
-use Rattle.cellid.proofs.Bits.{never, xor-below}
+use Rattle.cellid.proofs.Bits.{xor-below}
 use Rattle.cellid.proofs.Laws.{and-true, bool-iff, no-true, level-le, same-above, low-cell, low-pos, low-small, level-cell, parent-id, cell-lt}
 
 -- ---- the ancestor at a level
@@ -89,7 +89,7 @@ deepest-level a b (suc n) K false e s =
     let r = deepest-level a b n K (sameAt a b n) (rw (deepest, s) at e) refl in (
       r .0,
       λ N h g. ⊎-elim
-          (λ (q : N ≡ suc n). never (sym (same← a b N g) ∙ ap (sameAt a b) q ∙ s))
+          (λ (q : N ≡ suc n). absurd (true≢false (sym (same← a b N g) ∙ ap (sameAt a b) q ∙ s)))
           (λ (q : N < suc n). r .1 N (le-of-suc-le-suc q) g)
           (eq-or-lt-of-le h),
     )
@@ -121,7 +121,7 @@ level-or-nothing Common.Nothing = inr refl
 -- there is none exactly where the faces differ
 pub common-nothing : (a b : ℕ) → (commonLevel a b ≡ Common.Nothing) ↔ (faceOf a ≡ faceOf b → ⊥)
 common-nothing a b = (
-  λ e f. never (sym (same← a b 0 (omega arith, omega arith, parents← a b 0 f)) ∙ deepest-nothing a b 30 (unfold commonLevel in e)),
+  λ e f. true≢false (sym (same← a b 0 (omega arith, omega arith, parents← a b 0 f)) ∙ deepest-nothing a b 30 (unfold commonLevel in e)),
   λ d. ⊎-elim
       (λ (r : (K : ℕ) × (commonLevel a b ≡ Common.Level K)).
       let s = common-level a b (r .0) (r .1) .0 in absurd (d (same-face a b (r .0) (le-trans (s .0) (level-le a)) (s .2))))

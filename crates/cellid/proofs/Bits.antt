@@ -32,6 +32,10 @@ pub true-or : (a b : Bool) → (a ≡ true) ⊎ (b ≡ true) → (a || b) ≡ tr
 true-or true b h = refl
 true-or false b h = ⊎-elim (λ e. let z : _≡_ {A = ℕ} 0 1 = cc in absurd (omega arith)) (λ e. e) h
 
+pub or-false : (a b : Bool) → (a || b) ≡ false → (a ≡ false) × (b ≡ false)
+or-false true b e = let z : true ≡ false = e in (z, cc)
+or-false false b e = (refl, e)
+
 pub no-true : (b : Bool) → (b ≡ true → ⊥) → b ≡ false
 no-true true f = absurd (f refl)
 no-true false f = refl
@@ -41,9 +45,6 @@ same-bool true true e = refl
 same-bool true false e = sym e
 same-bool false true e = e
 same-bool false false e = refl
-
-pub never : {A : Type 0} → true ≡ false → A
-never e = let z : _≡_ {A = ℕ} 0 1 = cc in absurd (omega arith)
 
 -- a test that is computed at each number below n
 unfoldable pub every : ℕ → (ℕ → Bool) → Bool
@@ -82,7 +83,7 @@ last-of l z n r = sym (List·getD-eq-default l z (none-of n (length l) r))
 pub odd-mul : (p C : ℕ) → (2 * p + 1) * C ≡ 2 * (p * C) + C
 odd-mul p C = add-mul (2 * p) 1 C ∙ ap₂ (λ (x y : ℕ). x + y) (mul-assoc 2 p C) (one-mul C)
 
-sub-mul : (a b c : ℕ) → (a - b) * c ≡ a * c - b * c
+pub sub-mul : (a b c : ℕ) → (a - b) * c ≡ a * c - b * c
 sub-mul a b c = mul-comm (a - b) c ∙ mul-sub c a b ∙ ap₂ (λ (x y : ℕ). x - y) (mul-comm c a) (mul-comm c b)
 
 -- one level more, four times as many

@@ -1,7 +1,7 @@
 -- Laws of cell ids: the lowest set bit; what each operation makes of the p-th cell of the level L; cells are the valid ids; which cell contains
 -- and which intersects another.
 use mathlib.Core.Path.{_≡_, refl, sym, ap, _∙_, subst}
-use mathlib.Core.Bool.{true, false, _&&_}
+use mathlib.Core.Bool.{Bool, true, false, _&&_}
 use Prim.Native.Nat.{ℕ, suc, _+_, _-_, _*_, _/_, _%_, _^_, _≤_, _<_}
 use native.Mathlib.Nat.{one-mul, mul-comm, mul-assoc, mul-left-comm, mul-suc, add-mul, mul-lt-mul-of-pos-right, lt-of-mul-lt-mul-right, div-div-eq-div-mul, mul-le-mul-right, mod-eq-of-lt, mul-div-mul-right, div-mul-le-self, lt-div-mul-add, div-eq-of-lt-le, pos-of-ne-zero}
 use native.Mathlib.Numerals.{add-one}
@@ -11,8 +11,8 @@ use lib.Count.{trailingZeros, trailing-of-zero}
 use lib.Dec.{leb, eqb}
 use lib.Pow.{pow-pos, pow-add, pow-lt, pow-mono, shl-shr}
 use borrow.Author.Tests.{leb-true, le-leb, eqb-true, eq-eqb}
-use Rattle.cellid.specs.CellId.{idOf, lowBit, levelOf, placeOf, bitAt, placeAt, parentAt, childOf, firstLeaf, lastLeaf, holds, meets, validId, IsCell, Cell}
-pub use Rattle.cellid.proofs.Bits.{bool-iff, and-true, or-true, true-or, no-true, same-bool, every-at, NoneOf, last-arm, last-of, odd-mul, pow-pair, one-shl, zeros-of, odd-part, and-power, same-above}
+use Rattle.cellid.specs.CellId.{idOf, lowBit, levelOf, placeOf, bitAt, placeAt, parentAt, childOf, firstLeaf, lastLeaf, holds, meets, validId, IsCell, Cell, one}
+pub use Rattle.cellid.proofs.Bits.{bool-iff, and-true, or-true, true-or, or-false, no-true, same-bool, every-at, NoneOf, last-arm, last-of, odd-mul, sub-mul, pow-pair, one-shl, zeros-of, odd-part, and-power, same-above}
 unfoldable pub use Rattle.cellid.proofs.Bits.{every}
 use Rattle.cellid.proofs.Bits.{and-neg, parent-bits}
 
@@ -182,6 +182,10 @@ valid-is id v =
     let top : id / 2 ^ 61 ≤ 5 = leb-true _ _ (and-true _ _ v .0) in
     (levelOf id, placeOf id, valid-cell id (omega arith) v)
 
+-- a valid id is no 0 and fits 64 bits
+pub valid-fits : (id : ℕ) → validId id ≡ true → (0 < id) × (id < 2 ^ 64)
+valid-fits id v = let c = valid-is id v in (cell-pos id (c .0) (c .1) (c .2), omega (arith, cell-lt id (c .0) (c .1) (c .2)))
+
 pub cell-valid : (id L p : ℕ) → IsCell id L p → validId id ≡ true
 unfolding validId
 cell-valid id L p c =
@@ -189,6 +193,10 @@ cell-valid id L p c =
     let f : id / 2 ^ 61 ≤ 5 = omega (arith, cell-lt id L p c) in
     let e : placeAt L % 2 ≡ 0 = omega arith in
     rw (z, le-leb (id / 2 ^ 61) 5 f, le-leb (placeAt L) 60 (omega arith), eq-eqb (placeAt L % 2) 0 e)
+
+-- the p-th cell of a level is a cell
+pub is-cell : (L p : ℕ) → L ≤ 30 → p < 6 * 2 ^ (2 * L) → IsCell (idOf L p) L p
+is-cell L p h g = record { level = h; place = g; is = refl }
 
 pub cell-unique : (id L p M q : ℕ) → IsCell id L p → IsCell id M q → (L ≡ M) × (p ≡ q)
 cell-unique id L p M q c d = (
@@ -298,3 +306,10 @@ meets-id L k p q h =
     (λ t. let r = under← p q D C c d (eqb-true _ _ t) in
     let o = odd-mul q C in
     rw (le-leb (firstLeaf (idOf (L + k) q)) (lastLeaf (idOf L p)) (omega (arith, fb, la, r .1, o)), le-leb (firstLeaf (idOf L p)) (lastLeaf (idOf (L + k) q)) (omega (arith, fa, lb, r .0, o))))
+
+-- ---- a test counted
+
+pub one-le : (b : Bool) → one b ≤ 1
+unfolding one
+one-le true = omega arith
+one-le false = omega arith

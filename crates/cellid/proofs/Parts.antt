@@ -1,16 +1,16 @@
--- An id's parts: a face, two bits a level, a single one, zeros; the cells are exactly the numbers so made, and exactly the valid ids.
+-- An id's parts: a face, two bits a level, a single one, zeros; the cells are exactly the numbers so made, and exactly the valid ids; faces and leaves.
 use mathlib.Core.Path.{_≡_, refl, sym, ap, _∙_}
-use mathlib.Core.Logic.{⊎-elim, _↔_}
+use mathlib.Core.Logic.{_↔_}
 use mathlib.Core.Bool.{true}
 use Prim.Native.Nat.{ℕ, zero, suc, _+_, _-_, _*_, _/_, _%_, _^_, _≤_, _<_}
-use native.Mathlib.Nat.{eq-zero-or-pos, eq-or-lt-of-le, mul-comm, mul-assoc, mul-left-comm, add-mul, mul-one, one-mul, div-div-eq-div-mul, eq-of-mul-eq-mul-right}
+use native.Mathlib.Nat.{mul-comm, mul-assoc, mul-left-comm, add-mul, mul-one, div-div-eq-div-mul}
 use native.Mathlib.Omega.{arith}
 use lib.Count.{trailingZeros}
-use lib.Dec.{eqb}
-use lib.Pow.{pow-pos, pow-add}
-use borrow.Author.Tests.{eqb-true, le-leb, eq-eqb, ne-eqb}
-use Rattle.cellid.specs.CellId.{Cell, IsCell, Spelt, spell, idOf, bitAt, placeAt, faceOf, pairOf, levelOf, placeOf, validId, isFace, isLeaf, faceCell, nextOf}
-use Rattle.cellid.proofs.Laws.{odd-mul, pow-pair, bit-up, low-cell, place-id, zeros-id, zeros-of, valid-cell, cell-valid, cell-lt, bool-iff}
+use lib.Pow.{pow-add}
+use borrow.Author.Tests.{le-leb, eq-eqb}
+use Rattle.cellid.specs.CellId.{Cell, IsCell, Spelt, spell, idOf, bitAt, placeAt, faceOf, pairOf, levelOf, placeOf, validId, faceCell, childOf}
+use Rattle.cellid.proofs.Laws.{odd-mul, pow-pair, place-id, zeros-id, zeros-of, valid-cell, cell-valid, cell-lt}
+use Rattle.cellid.proofs.Leaves.{child-cell}
 
 -- ---- the face and the pairs, as one number: the place
 
@@ -122,43 +122,35 @@ valid-bits id h = (
 pub valid-cells : (id : ℕ) → id < 2 ^ 64 → (validId id ≡ true) ↔ Cell id
 valid-cells id h = (λ v. (levelOf id, placeOf id, valid-cell id h v), λ c. cell-valid id (c .0) (c .1) (c .2))
 
--- ---- faces, leaves, the next cell
+-- ---- faces and leaves
 
+-- the cell of a face is the one of the level 0
 pub face-cell : (f : ℕ) → f < 6 → IsCell (faceCell f) 0 f
 unfolding faceCell idOf
 face-cell f h = record { level = omega arith; place = omega arith; is = omega arith }
 
-no-face : (L p w : ℕ) → 0 < L → L ≤ 30 → (2 * p + 1) * bitAt L ≡ w * 2 ^ 60 → ⊥
-no-face L p w z h e =
-    let u : 2 * L + placeAt L ≡ 60 = omega arith in
-    let x : 2 ^ 60 ≡ 2 ^ (2 * L) * bitAt L = sym (sym (pow-add 2 (2 * L) (placeAt L)) ∙ ap (λ (n : ℕ). 2 ^ n) u) in
-    let y : (2 * p + 1) * bitAt L ≡ w * 2 ^ (2 * L) * bitAt L = e ∙ ap (λ (n : ℕ). w * n) x ∙ sym (mul-assoc w (2 ^ (2 * L)) (bitAt L)) in
-    let o : 2 * p + 1 ≡ w * 2 ^ (2 * L) = eq-of-mul-eq-mul-right (bitAt L) (pow-pos (placeAt L)) _ _ y in
-    let q : 2 ^ (2 * L) ≡ 4 * 2 ^ (2 * (L - 1)) = pow-pair (L - 1) L (omega arith) in
-    omega (arith, o ∙ ap (λ (n : ℕ). w * n) q ∙ mul-left-comm w 4 (2 ^ (2 * (L - 1))))
+-- two ids that agree down to some pair have one face
+face-same : (a b n : ℕ) → n ≤ 30 → upper a n ≡ upper b n → faceOf a ≡ faceOf b
+face-same a b zero h e = e
+face-same a b (suc n) h e =
+    face-same a b n (omega arith) (upper-step a n (omega arith) ∙ ap (λ (x : ℕ). x / 4) e ∙ sym (upper-step b n (omega arith)))
 
--- a face is a cell of the level 0
-pub face-level : (id L p : ℕ) → IsCell id L p → isFace id ≡ eqb L 0
-unfolding isFace idOf
-face-level id L p c = bool-iff (eqb (id % 2 ^ 60) 0) (eqb L 0)
-    (λ t. let r : id % 2 ^ 60 ≡ 0 = eqb-true _ _ t in
-    ⊎-elim (λ (e : L ≡ 0). eq-eqb L 0 e) (λ (z : 0 < L). absurd (no-face L p (id / 2 ^ 60) z (c .level) (sym (c .is) ∙ omega arith))) (eq-zero-or-pos L))
-    (λ t. let e : L ≡ 0 = eqb-true _ _ t in let f : id ≡ (2 * p + 1) * 2 ^ 60 = c .is ∙ ap (λ (n : ℕ). (2 * p + 1) * bitAt n) e in eq-eqb (id % 2 ^ 60) 0 (omega arith))
+-- a child lies on its parent's face
+pub face-child : {id L p : ℕ} (k : ℕ) → IsCell id L p → L < 30 → k < 4 → faceOf (childOf id k) ≡ faceOf id
+face-child {id} {L} {p} k c h g =
+    let d = child-cell k c h g in
+    let u : upper (childOf id k) (suc L) ≡ 4 * p + k = ap (upper (childOf id k)) (omega arith) ∙ upper-place (childOf id k) (L + 1) (4 * p + k) d in
+    face-same (childOf id k) id L (omega arith) (upper-step (childOf id k) L h ∙ omega (arith, upper-place id L p c))
 
--- a leaf is a cell of the level 30
-pub leaf-level : (id L p : ℕ) → IsCell id L p → isLeaf id ≡ eqb L 30
-unfolding isLeaf idOf
-leaf-level id L p c = ⊎-elim
-    (λ (e : L ≡ 30). let f : id ≡ (2 * p + 1) * 2 ^ 0 = c .is ∙ ap (λ (n : ℕ). (2 * p + 1) * bitAt n) e in
-    rw (ne-eqb (id % 2) 0 (λ z. omega (arith, mul-one (2 * p + 1))), eq-eqb L 30 e))
-    (λ (l : L < 30). let f : id ≡ 4 * ((2 * p + 1) * bitAt (L + 1)) = c .is ∙ ap (λ (n : ℕ). (2 * p + 1) * n) (bit-up L 1 (omega arith)) ∙ mul-left-comm (2 * p + 1) 4 (bitAt (L + 1)) in
-    rw (eq-eqb (id % 2) 0 (omega arith), ne-eqb L 30 (λ e. omega arith)))
-    (eq-or-lt-of-le (c .level))
+-- the leaf number n has the id 2n + 1
+pub leaf-at : {x n : ℕ} → IsCell x 30 n → x ≡ 2 * n + 1
+unfolding idOf
+leaf-at {x} {n} c = c .is ∙ mul-one (2 * n + 1)
 
--- the next id is that of the next place of the level
-pub next-is : (id L p : ℕ) → IsCell id L p → nextOf id ≡ idOf L (p + 1)
-unfolding nextOf idOf
-next-is id L p c = omega (arith, c .is, low-cell id L p c, odd-mul p (bitAt L), odd-mul (p + 1) (bitAt L), add-mul p 1 (bitAt L), one-mul (bitAt L))
-
-pub next-cell : (id L p : ℕ) → IsCell id L p → p + 1 < 6 * 2 ^ (2 * L) → IsCell (nextOf id) L (p + 1)
-next-cell id L p c h = record { level = c .level; place = h; is = next-is id L p c }
+-- the leaf ids are the odd numbers, of the six faces
+pub leaf-is : (w : ℕ) → ((w % 2 ≡ 1) × (w < 12 * 2 ^ 60)) ↔ IsCell w 30 (w / 2)
+unfolding idOf
+leaf-is w = (
+  λ h. record { level = omega arith; place = omega (arith, h .1); is = omega (arith, h .0) },
+  λ c. (omega (arith, c .is), omega (arith, c .is, c .place)),
+)

@@ -1,8 +1,7 @@
 -- Cell ids, by the published S2 rules (paper 01, "Cell ids"). A cell is a level L, 0 to 30, and a place p among the 6 * 4 ^ L cells of that level,
 -- in the order of the curve; its id is (2 * p + 1) * 4 ^ (30 - L). Powers of four are written as powers of two.
 use mathlib.Core.Path.{_≡_}
-use mathlib.Core.Bool.{Bool, true, false, _&&_, not}
-use mathlib.Core.List.{List, [], _∷_}
+use mathlib.Core.Bool.{Bool, true, false, _&&_}
 use Prim.Native.Nat.{ℕ, zero, suc, _+_, _-_, _*_, _/_, _%_, _^_, _≤_, _<_}
 use lib.Count.{trailingZeros}
 use lib.Dec.{leb, eqb}
@@ -68,14 +67,6 @@ placeOf id = id / 2 ^ (trailingZeros 64 id + 1)
 unfoldable pub validId : ℕ → Bool
 validId id = leb (faceOf id) 5 && (leb (trailingZeros 64 id) 60 && eqb (trailingZeros 64 id % 2) 0)
 
--- a whole face: no bit is set below the place 60
-unfoldable pub isFace : ℕ → Bool
-isFace id = eqb (id % 2 ^ 60) 0
-
--- a leaf: the last bit is set
-unfoldable pub isLeaf : ℕ → Bool
-isLeaf id = not (eqb (id % 2) 0)
-
 -- ---- one cell from another
 
 -- the cell of a face
@@ -86,16 +77,9 @@ faceCell face = face * 2 ^ 61 + 2 ^ 60
 unfoldable pub parentAt : ℕ → ℕ → ℕ
 parentAt id L = (id / (2 * bitAt L)) * (2 * bitAt L) + bitAt L
 
+-- the k-th child, 0 to 3: "Children come in ascending id order"
 unfoldable pub childOf : ℕ → ℕ → ℕ
 childOf id k = (id - lowBit id) + (2 * k + 1) * (lowBit id / 4)
-
--- "Children come in ascending id order"
-unfoldable pub childrenOf : ℕ → List ℕ
-childrenOf id = childOf id 0 ∷ childOf id 1 ∷ childOf id 2 ∷ childOf id 3 ∷ []
-
--- the next id of the same level; after the last cell it is no cell
-unfoldable pub nextOf : ℕ → ℕ
-nextOf id = id + 2 * lowBit id
 
 -- ---- leaves. Leaf number n, from 0, has the id 2 * n + 1.
 
@@ -115,8 +99,13 @@ unfoldable pub holds : ℕ → ℕ → Bool
 holds a b = leb (firstLeaf a) b && leb b (lastLeaf a)
 
 -- the leaf number n lies beneath id
-abbrev pub under : ℕ → ℕ → Bool
-under id n = holds id (2 * n + 1)
+abbrev pub hasLeaf : ℕ → ℕ → Bool
+hasLeaf id n = holds id (2 * n + 1)
+
+-- a test counted: 1 where it is true
+unfoldable pub one : Bool → ℕ
+one true = 1
+one false = 0
 
 -- a and b intersect
 unfoldable pub meets : ℕ → ℕ → Bool

@@ -1,7 +1,7 @@
 // Cell ids: u64 numbers whose lowest set bit tells the level. Every function is a few shifts and masks.
 ghost use mathlib.Core.Path.{_≡_};
 ghost use Prim.Native.Nat.{ℕ, _+_, _-_, _*_, _^_, _<_, _≤_, max};
-ghost use Rattle.cellid.specs.CellId.{Cell, IsCell, faceOf, lowBit, levelOf, validId, isFace, isLeaf, faceCell, parentAt, childOf, childrenOf, nextOf, firstLeaf, lastLeaf, holds, meets, commonLevel};
+ghost use Rattle.cellid.specs.CellId.{Cell, IsCell, faceOf, lowBit, levelOf, validId, parentAt, childOf, firstLeaf, lastLeaf, holds, meets, commonLevel};
 
 // The weight of the lowest set bit.
 pub fn lsb(id: u64) -> u64
@@ -48,28 +48,6 @@ pub fn is_valid(id: u64) -> bool
     low % 2 == 0
 }
 
-// Whether a cell is a whole face.
-pub fn is_face(id: u64) -> bool
-    ensures { λ r. ⌜ r ≡ isFace id ⌝ }
-{
-    id & (lsb_for_level(0) - 1) == 0
-}
-
-// Whether a cell is of the deepest level.
-pub fn is_leaf(id: u64) -> bool
-    ensures { λ r. ⌜ r ≡ isLeaf id ⌝ }
-{
-    id & 1 != 0
-}
-
-// The cell of a face.
-pub fn from_face(face: u64) -> u64
-    requires { ⌜ face < 6 ⌝ }
-    ensures { λ r. ⌜ r ≡ faceCell face ⌝ }
-{
-    (face << 61) + lsb_for_level(0)
-}
-
 // The ancestor at a level, of a cell at that level or below.
 pub fn parent(id: u64, level: u64) -> u64
     requires { ⌜ level ≤ 30 ⌝ }
@@ -96,22 +74,6 @@ pub fn child(id: u64, k: u64) -> u64
 {
     let low = lsb(id);
     id - low + (2 * k + 1) * (low >> 2)
-}
-
-// The four children, ascending.
-pub fn children(id: u64) -> [u64; 4]
-    requires { ⌜ 0 < id ⌝ }
-    ensures { λ r. ⌜ r ≡ childrenOf id ⌝ }
-{
-    [child(id, 0), child(id, 1), child(id, 2), child(id, 3)]
-}
-
-// The cell that follows in the order of its level. After the last one it is no cell.
-pub fn next(id: u64) -> u64
-    requires { ⌜ Cell id ⌝ }
-    ensures { λ r. ⌜ r ≡ nextOf id ⌝ }
-{
-    id + (lsb(id) << 1)
 }
 
 // The first leaf beneath a cell.

@@ -9,9 +9,9 @@ use native.Mathlib.Omega.{arith}
 use lib.Dec.{ltb}
 use lib.Pow.{pow-add}
 use borrow.Author.Tests.{ltb-true, ltb-false}
-use Rattle.cellid.specs.CellId.{Cell, bitAt, placeAt, levelOf, firstLeaf, lastLeaf}
+use Rattle.cellid.specs.CellId.{Cell, bitAt, placeAt, levelOf, firstLeaf, lastLeaf, hasLeaf, one}
 use Rattle.cellid.proofs.Laws.{level-cell}
-use Rattle.cellunion.specs.CellUnion.{lo, hi, hasLeaf, covers, Apart, one, countTo, leafSum}
+use Rattle.cellunion.specs.CellUnion.{lo, hi, covers, Apart, countTo, leafSum}
 use Rattle.order.specs.Order.{All}
 use Rattle.order.proofs.OrderLaws.{which}
 use Rattle.cellunion.proofs.Spans.{lo-is, hi-is, span, leaf→, leaf←}
@@ -19,7 +19,7 @@ use Rattle.cellunion.proofs.Unique.{all-at, at-all, covers→}
 
 -- passing from a on and before b
 count-stretch : (f : ℕ → Bool) (a b N : ℕ) → a ≤ b → ((n : ℕ) → a ≤ n → n < b → f n ≡ true) → ((n : ℕ) → f n ≡ true → (a ≤ n) × (n < b)) → countTo f N ≡ min b N - min a N
-unfolding countTo
+unfolding countTo one
 count-stretch f a b zero h t u = omega arith
 count-stretch f a b (suc N) h t u =
     let ih = count-stretch f a b N h t u in
@@ -41,7 +41,7 @@ count-stretch f a b (suc N) h t u =
     last-out s a b N h (inr g) e = omega arith
 
 pub count-or : (f g : ℕ → Bool) (N : ℕ) → ((n : ℕ) → f n ≡ true → g n ≡ true → ⊥) → countTo (λ n. f n || g n) N ≡ countTo f N + countTo g N
-unfolding countTo
+unfolding countTo one
 count-or f g zero d = refl
 count-or f g (suc N) d = omega (arith, count-or f g N d, both (f N) (g N) (d N))
   where
@@ -54,7 +54,7 @@ count-or f g (suc N) d = omega (arith, count-or f g N d, both (f N) (g N) (d N))
         zero-plus x = omega arith
 
 count-none : (N : ℕ) → countTo (λ n. false) N ≡ 0
-unfolding countTo
+unfolding countTo one
 count-none zero = refl
 count-none (suc N) = omega (arith, count-none N)
 

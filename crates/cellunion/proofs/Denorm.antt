@@ -11,7 +11,7 @@ use lib.Pow.{pow-pos, pow-add}
 use lib.ListN.{length, length-append}
 use borrow.Author.Tests.{ltb-true, ltb-false}
 use Rattle.cellid.specs.CellId.{Cell, IsCell, idOf, bitAt, placeAt, levelOf, placeOf, firstLeaf, lastLeaf}
-use Rattle.cellid.proofs.Laws.{bit-up, level-id, place-id, level-cell}
+use Rattle.cellid.proofs.Laws.{bit-up, level-id, place-id, level-cell, is-cell}
 use Rattle.cellunion.specs.CellUnion.{lo, hi, SameLeaves, Member, Apart, Normal, normalise, goal, cellsFrom, below, denormalise, countOf, OnStep}
 use Rattle.order.specs.Order.{All}
 use Rattle.order.proofs.OrderLaws.{which}
@@ -40,9 +40,6 @@ at-cells L (suc n) p j h g = ⊎-elim
     (λ (t : ltb p j ≡ true). let l : p < j = ltb-true _ _ t in inr (at-cells L n (p + 1) j (omega arith) (omega arith)))
     (λ (t : ltb p j ≡ false). let l : j ≤ p = ltb-false _ _ t in let e : j ≡ p = omega arith in inl (ap (idOf L) e))
     (which (ltb p j))
-
-pub is-cell : (L j : ℕ) → L ≤ 30 → j < 6 * 2 ^ (2 * L) → IsCell (idOf L j) L j
-is-cell L j h g = record { level = h; place = g; is = refl }
 
 -- ---- one cell
 

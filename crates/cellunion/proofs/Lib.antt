@@ -4,6 +4,7 @@ pub mod Stack
 pub mod Norm
 pub mod Denorm
 pub mod Counts
+pub mod Lists
 pub mod Memory
 pub mod Mask
 pub mod Runs

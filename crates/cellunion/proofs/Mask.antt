@@ -4,14 +4,14 @@ use mathlib.Core.Bool.{true, false}
 use Prim.Native.Nat.{ℕ, _+_, _-_, _*_, _/_, _%_, _^_, _≤_, _<_}
 use native.Mathlib.Nat.{add-mul, one-mul, mul-comm, mul-left-comm, add-zero, mod-lt, mod-mod, div-add-mod', lt-of-mul-lt-mul-right}
 use native.Mathlib.Omega.{arith}
-use lib.Pow.{pow-pos, pow-add, pow-mono, shr-mod}
+use lib.Pow.{pow-pos, pow-add, shr-mod}
 use lib.Bits.{bitAnd, bitXor, and-mask, and-high, and-block, xor-block, xor-self}
 use lib.Dec.{ltb}
 use borrow.Author.Tests.{ltb-true}
 use Rattle.cellid.specs.CellId.{Cell, IsCell, idOf, placeAt, lowBit, levelOf, childOf}
 use Rattle.cellid.proofs.Laws.{odd-mul, low-cell, level-cell, cell-lt, no-true, bool-iff, and-true}
+use Rattle.cellid.proofs.Leaves.{child-cell}
 use Rattle.cellunion.specs.CellUnion.{isFour, upOne}
-use Rattle.cellunion.proofs.Spans.{kid}
 use Rattle.cellunion.proofs.Stack.{four→, four←, up-is}
 
 -- ---- numbers
@@ -136,10 +136,10 @@ pub four-looks : {x y z c : ℕ} → Cell c → isFour x y z c ≡ true → Look
 four-looks {x} {y} {z} {c} C e =
     let F = four→ C e in
     let L = F .L in
-    let K0 = kid 0 (F .cell) (F .small) (omega arith) in
-    let K1 = kid 1 (F .cell) (F .small) (omega arith) in
-    let K2 = kid 2 (F .cell) (F .small) (omega arith) in
-    let K3 = kid 3 (F .cell) (F .small) (omega arith) in
+    let K0 = child-cell 0 (F .cell) (F .small) (omega arith) in
+    let K1 = child-cell 1 (F .cell) (F .small) (omega arith) in
+    let K2 = child-cell 2 (F .cell) (F .small) (omega arith) in
+    let K3 = child-cell 3 (F .cell) (F .small) (omega arith) in
     let b : lowBit c ≡ 2 ^ placeAt (L + 1) = ap lowBit (F .is3) ∙ low-cell (childOf (upOne c) 3) (L + 1) (4 * F .p + 3) K3 in
     let l : c < 2 ^ 64 = omega (arith, cell-lt c (C .0) (C .1) (C .2)) in
     let r = looks-core (placeAt (L + 1)) (F .p) x y z c (lowBit c) (omega arith) b l (F .is0 ∙ id-odd K0) (F .is1 ∙ id-odd K1) (F .is2 ∙ id-odd K2) (F .is3 ∙ id-odd K3) in
@@ -174,15 +174,10 @@ looks-four x y z c C h g f e0 e1 e2 l =
         let U = up-is I in
         let small : L < 30 = omega (arith, I .level) in
         four← {x = x} {y = y} {z = z} {c = c} U small
-        (r0 .1 ∙ ap (λ (n : ℕ). (2 * n + 1) * 2 ^ t) (s .0) ∙ sym (id-odd (kid 0 U small (omega arith))))
-        (r1 .1 ∙ ap (λ (n : ℕ). (2 * n + 1) * 2 ^ t) (s .1) ∙ sym (id-odd (kid 1 U small (omega arith))))
-        (r2 .1 ∙ ap (λ (n : ℕ). (2 * n + 1) * 2 ^ t) (s .2) ∙ sym (id-odd (kid 2 U small (omega arith))))
-        (ic ∙ ap (λ (n : ℕ). (2 * n + 1) * 2 ^ t) (s .3) ∙ sym (id-odd (kid 3 U small (omega arith))))
-
-pub low-small : {c : ℕ} → Cell c → (0 < lowBit c) × (lowBit c ≤ 2 ^ 60)
-low-small {c} C =
-    let b : lowBit c ≡ 2 ^ placeAt (C .0) = low-cell c (C .0) (C .1) (C .2) in
-    (omega (arith, pow-pos (placeAt (C .0))), omega (arith, pow-mono {i = placeAt (C .0)} {j = 60} (omega arith)))
+        (r0 .1 ∙ ap (λ (n : ℕ). (2 * n + 1) * 2 ^ t) (s .0) ∙ sym (id-odd (child-cell 0 U small (omega arith))))
+        (r1 .1 ∙ ap (λ (n : ℕ). (2 * n + 1) * 2 ^ t) (s .1) ∙ sym (id-odd (child-cell 1 U small (omega arith))))
+        (r2 .1 ∙ ap (λ (n : ℕ). (2 * n + 1) * 2 ^ t) (s .2) ∙ sym (id-odd (child-cell 2 U small (omega arith))))
+        (ic ∙ ap (λ (n : ℕ). (2 * n + 1) * 2 ^ t) (s .3) ∙ sym (id-odd (child-cell 3 U small (omega arith))))
 
 pub no-four : (x y z c : ℕ) → Cell c → (Looks x y z c → ⊥) → false ≡ isFour x y z c
 no-four x y z c C f = sym (no-true (isFour x y z c) (λ e. f (four-looks C e)))

@@ -13,12 +13,12 @@ use Rattle.cellid.proofs.Laws.{bool-iff}
 use Rattle.cellunion.specs.CellUnion.{lo, hi, covers, SameLeaves, Member, Apart, NoFour, Normal, keep, pass, rev, normalise}
 use Rattle.cellunion.specs.Stack.{Down, Stack}
 use Rattle.order.specs.Order.{All, Le, insert, sort, Sorted}
-use Rattle.order.proofs.OrderLaws.{which, insert-past, insert-front}
+use Rattle.order.proofs.OrderLaws.{which, all-append, all-weak, insert-past, insert-front}
 use Rattle.order.proofs.LexLaws.{numbers}
 use Rattle.order.proofs.SortLaws.{sort-sorted, sorted-sort, length-sort}
 use Rattle.cellunion.proofs.Spans.{span}
 use Rattle.cellunion.proofs.Unique.{all-at, at-all, Covered, covers→, covers←, normal-unique}
-use Rattle.cellunion.proofs.Stack.{stack-nil, Cov, all-map, Kept, keep-laws}
+use Rattle.cellunion.proofs.Stack.{stack-nil, Cov, Kept, keep-laws}
 
 -- ---- the pass
 
@@ -45,7 +45,7 @@ pass-step s l r q c K P = record {
 }
 
 pub ready-on : (s : List ℕ) (c : ℕ) (l : List ℕ) → Ready s c → All (Le ltb c) l → All (Ready s) l
-ready-on s c l r a = all-map (Le ltb c) (Ready s) (λ x h. let g : c ≤ x = ltb-false _ _ h in all-map (λ y. 2 * lo y + 1 ≤ c) (λ y. 2 * lo y + 1 ≤ x) (λ y e. omega arith) s r) l a
+ready-on s c l r a = all-weak (Le ltb c) (Ready s) l (λ x h. let g : c ≤ x = ltb-false _ _ h in all-weak (λ y. 2 * lo y + 1 ≤ c) (λ y. 2 * lo y + 1 ≤ x) s (λ y e. omega arith) r) a
 
 pub pass-laws : (l s : List ℕ) → Stack s → All Cell l → Sorted ltb l → All (Ready s) l → Passed s l (pass s l)
 unfolding pass All Sorted
@@ -77,15 +77,10 @@ member-rev← (y ∷ l) x m = snoc← (rev l) (⊎-elim (λ e. inr e) (λ k. inl
 pub all-rev : (P : ℕ → Type 0) (l : List ℕ) → All P l → All P (rev l)
 all-rev P l a = at-all P (rev l) (λ x m. all-at P l a x (member-rev→ l x m))
 
-all-snoc : (P : ℕ → Type 0) (l : List ℕ) (x : ℕ) → All P l → P x → All P (l ++ (x ∷ []))
-unfolding All
-all-snoc P [] x a p = (p, tt)
-all-snoc P (y ∷ l) x a p = (a .0, all-snoc P l x (a .1) p)
-
 apart-snoc : (l : List ℕ) (x : ℕ) → Apart l → All (λ y. lastLeaf y < firstLeaf x) l → Apart (l ++ (x ∷ []))
 unfolding Apart All
 apart-snoc [] x a b = (tt, tt)
-apart-snoc (y ∷ l) x a b = (all-snoc (λ z. lastLeaf y < firstLeaf z) l x (a .0) (b .0), apart-snoc l x (a .1) (b .1))
+apart-snoc (y ∷ l) x a b = (all-append (λ z. lastLeaf y < firstLeaf z) l (x ∷ []) (a .0) (b .0, tt), apart-snoc l x (a .1) (b .1))
 
 pub apart-rev : (s : List ℕ) → All Cell s → Down s → Apart (rev s)
 unfolding rev Apart All Down

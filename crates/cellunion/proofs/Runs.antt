@@ -9,15 +9,17 @@ use native.Mathlib.Numerals.{add-one}
 use lib.ListN.{length, getD, take, drop, set, length-append}
 use lib.Seq.{length-take-le, take-suc, take-at, drop-at, drop-set-lt, getD-set-same, getD-set-other}
 use lib.Dec.{ltb}
+use borrow.Author.Tests.{not-true, not-false}
 use Rattle.cellid.specs.CellId.{Cell, IsCell, holds}
 use Rattle.cellid.proofs.Laws.{cell-pos}
+use Rattle.cellid.proofs.Leaves.{child-cell}
 use Rattle.order.specs.Order.{All, Sorted, sort}
 use Rattle.order.proofs.SortLaws.{sorted-sort, sort-sorted, length-sort}
 use Rattle.order.proofs.LexLaws.{numbers}
 use Rattle.cellunion.specs.CellUnion.{lo, hi, Member, isFour, upOne, clearOf, collapse, keep, pass, rev, normalise}
 use Rattle.cellunion.specs.Stack.{Down, Stack, down, Topped, Next, Gives, PassDone}
 use Rattle.cellunion.specs.Memory.{zeros, laid, normalised}
-use Rattle.cellunion.proofs.Spans.{span, kid, In, holds-no}
+use Rattle.cellunion.proofs.Spans.{span, In, holds-no}
 use Rattle.cellunion.proofs.Unique.{all-at, at-all}
 use Rattle.cellunion.proofs.Stack.{clear-laws, not-next, keep-laws, stack-nil, tail, four→, rise, collapse-go, collapse-end}
 use Rattle.cellunion.proofs.Norm.{Ready, ready-on, all-ready, member-sort→, normalise-sorted}
@@ -29,14 +31,6 @@ down-pop zero m h = absurd (omega arith)
 down-pop (suc k) m h = let e : suc k - 1 ≡ k = omega arith in rw e
 
 -- ---- what stands inside c
-
-not-true : (b : Bool) → not b ≡ true → b ≡ false
-not-true true e = sym e
-not-true false e = refl
-
-not-false : (b : Bool) → not b ≡ false → b ≡ true
-not-false true e = refl
-not-false false e = sym e
 
 pub clear-go : (c k : ℕ) (m : List ℕ) (b : Bool) → 0 < k → b ≡ holds c (getD m (k - 1) 0) → not b ≡ false → clearOf c (down k m) ≡ clearOf c (down (k - 1) m)
 unfolding clearOf
@@ -87,7 +81,7 @@ rises x y z c s T e =
 pub below-face : (x y z c : ℕ) → Cell c → (b : Bool) → b ≡ isFour x y z c → not b ≡ false → (L : ℕ) × (p : ℕ) × IsCell c (L + 1) p
 below-face x y z c C b e t =
     let F = four→ {x = x} {y = y} {z = z} C (sym e ∙ not-false b t) in
-    (F .L, 4 * F .p + 3, subst (λ (w : ℕ). IsCell w (F .L + 1) (4 * F .p + 3)) (sym (F .is3)) (kid 3 (F .cell) (F .small) (omega arith)))
+    (F .L, 4 * F .p + 3, subst (λ (w : ℕ). IsCell w (F .L + 1) (4 * F .p + 3)) (sym (F .is3)) (child-cell 3 (F .cell) (F .small) (omega arith)))
 
 pub record Going (m : List ℕ) (k₀ c₀ k c : ℕ) : Type 0 where
   pub within : k ≤ k₀

@@ -6,12 +6,13 @@ use Prim.Native.Nat.{ℕ, suc, _+_, _-_, _*_, _^_, _≤_, _<_}
 use native.Mathlib.Nat.{mul-le-mul-right, add-mul, one-mul, mul-assoc, mul-comm}
 use native.Mathlib.Omega.{arith}
 use native.Mathlib.Decide.{ℕ-discrete}
-use lib.Pow.{pow-pos, pow-lt, pow-add}
+use lib.Pow.{pow-pos, pow-lt}
 use lib.Dec.{leb, ltb}
 use borrow.Author.Tests.{leb-true, leb-false, le-leb, ltb-true, ltb-false}
-use Rattle.cellid.specs.CellId.{Cell, IsCell, idOf, bitAt, placeAt, childOf, firstLeaf, lastLeaf, holds}
-use Rattle.cellid.proofs.Laws.{low-id, first-id, last-id, odd-mul, bit-up, child-id, holds-not, and-true}
-use Rattle.cellunion.specs.CellUnion.{hasLeaf, lo, hi}
+use Rattle.cellid.specs.CellId.{Cell, IsCell, idOf, bitAt, placeAt, childOf, firstLeaf, lastLeaf, holds, hasLeaf}
+use Rattle.cellid.proofs.Laws.{low-id, first-id, last-id, odd-mul, bit-up, holds-not, and-true}
+use Rattle.cellid.proofs.Leaves.{child-cell}
+use Rattle.cellunion.specs.CellUnion.{lo, hi}
 use Rattle.order.proofs.OrderLaws.{which}
 
 lo-id : (L p : ℕ) → lo (idOf L p) ≡ p * bitAt L
@@ -47,7 +48,7 @@ pub span : {id : ℕ} → Cell id → Span id
 span {id} c = subst Span (sym (c .2 .is)) (span-id (c .0) (c .1))
 
 pub leaf→ : {id : ℕ} (n : ℕ) → Cell id → hasLeaf id n ≡ true → (lo id ≤ n) × (n < hi id)
-unfolding hasLeaf holds
+unfolding holds
 leaf→ {id} n c t =
     let s = span c in
     let r = and-true (leb (firstLeaf id) (2 * n + 1)) (leb (2 * n + 1) (lastLeaf id)) t in
@@ -56,7 +57,7 @@ leaf→ {id} n c t =
     (omega arith, omega arith)
 
 pub leaf← : {id : ℕ} (n : ℕ) → Cell id → lo id ≤ n → n < hi id → hasLeaf id n ≡ true
-unfolding hasLeaf holds
+unfolding holds
 leaf← {id} n c a b =
     let s = span c in
     rw (le-leb (firstLeaf id) (2 * n + 1) (omega arith), le-leb (2 * n + 1) (lastLeaf id) (omega arith))
@@ -149,16 +150,6 @@ in-anti c d i j = let s = span c in let t = span d in omega (arith, i .0, i .1, 
 
 -- ---- children
 
-pub kid : {P L p : ℕ} (k : ℕ) → IsCell P L p → L < 30 → k < 4 → IsCell (childOf P k) (L + 1) (4 * p + k)
-kid {P} {L} {p} k c h g = record {
-  level = omega arith;
-  place = omega (arith, c .place, e);
-  is = ap (λ (x : ℕ). childOf x k) (c .is) ∙ child-id L p k h;
-}
-  where
-    e : 2 ^ (2 * (L + 1)) ≡ 4 * 2 ^ (2 * L)
-    e = let n : 2 * (L + 1) ≡ 2 + 2 * L = omega arith in ap (λ (n : ℕ). 2 ^ n) n ∙ pow-add 2 2 (2 * L)
-
 -- the four children part the leaves
 pub record Kids (P s : ℕ) : Type 0 where
   pub some : 0 < s
@@ -181,14 +172,14 @@ kids {P} {L} {p} c h =
     let r : hi P ≡ 4 * (p * C) + 4 * C = hi-is c ∙ ap (λ (x : ℕ). p * x + x) up ∙ ap (λ (x : ℕ). x + 4 * C) a in
     record {
       some = pow-pos (placeAt (L + 1));
-      lo0 = omega (arith, lo-is (kid 0 c h (omega arith)), add-mul (4 * p) 0 C, mul-assoc 4 p C);
-      hi0 = omega (arith, hi-is (kid 0 c h (omega arith)), add-mul (4 * p) 0 C, mul-assoc 4 p C);
-      lo1 = omega (arith, lo-is (kid 1 c h (omega arith)), add-mul (4 * p) 1 C, mul-assoc 4 p C, one-mul C);
-      hi1 = omega (arith, hi-is (kid 1 c h (omega arith)), add-mul (4 * p) 1 C, mul-assoc 4 p C, one-mul C);
-      lo2 = omega (arith, lo-is (kid 2 c h (omega arith)), add-mul (4 * p) 2 C, mul-assoc 4 p C);
-      hi2 = omega (arith, hi-is (kid 2 c h (omega arith)), add-mul (4 * p) 2 C, mul-assoc 4 p C);
-      lo3 = omega (arith, lo-is (kid 3 c h (omega arith)), add-mul (4 * p) 3 C, mul-assoc 4 p C);
-      hi3 = omega (arith, hi-is (kid 3 c h (omega arith)), add-mul (4 * p) 3 C, mul-assoc 4 p C);
+      lo0 = omega (arith, lo-is (child-cell 0 c h (omega arith)), add-mul (4 * p) 0 C, mul-assoc 4 p C);
+      hi0 = omega (arith, hi-is (child-cell 0 c h (omega arith)), add-mul (4 * p) 0 C, mul-assoc 4 p C);
+      lo1 = omega (arith, lo-is (child-cell 1 c h (omega arith)), add-mul (4 * p) 1 C, mul-assoc 4 p C, one-mul C);
+      hi1 = omega (arith, hi-is (child-cell 1 c h (omega arith)), add-mul (4 * p) 1 C, mul-assoc 4 p C, one-mul C);
+      lo2 = omega (arith, lo-is (child-cell 2 c h (omega arith)), add-mul (4 * p) 2 C, mul-assoc 4 p C);
+      hi2 = omega (arith, hi-is (child-cell 2 c h (omega arith)), add-mul (4 * p) 2 C, mul-assoc 4 p C);
+      lo3 = omega (arith, lo-is (child-cell 3 c h (omega arith)), add-mul (4 * p) 3 C, mul-assoc 4 p C);
+      hi3 = omega (arith, hi-is (child-cell 3 c h (omega arith)), add-mul (4 * p) 3 C, mul-assoc 4 p C);
       end = omega arith;
     }
   where
@@ -209,7 +200,7 @@ kid-case {P} {L} {p} {d} k c K e i j (inside x) =
 
 -- a cell around a child is that child, or around the parent too
 pub kid-up : {P L p d : ℕ} (k : ℕ) → IsCell P L p → L < 30 → k < 4 → Cell d → In (childOf P k) d → In (childOf P k) P → (d ≡ childOf P k) ⊎ In P d
-kid-up {P} {L} {p} {d} k c h g e i j = kid-case k c (kid k c h g) e i j (nest e (L, p, c))
+kid-up {P} {L} {p} {d} k c h g e i j = kid-case k c (child-cell k c h g) e i j (nest e (L, p, c))
 
 -- ---- `holds` is `In`
 

@@ -11,11 +11,12 @@ use lib.ListN.{length}
 use borrow.Author.Tests.{ltb-true, ltb-false, lt-ltb, eqb-true, eq-eqb}
 use Rattle.cellid.specs.CellId.{Cell, IsCell, idOf, bitAt, levelOf, parentAt, childOf, holds}
 use Rattle.cellid.proofs.Laws.{and-true, level-cell, parent-id}
+use Rattle.cellid.proofs.Leaves.{child-cell}
 use Rattle.cellunion.specs.CellUnion.{lo, hi, Member, NoFour, upOne, isFour, collapse, clearOf, keep}
 use Rattle.cellunion.specs.Stack.{Down, Stack}
 use Rattle.order.specs.Order.{All}
-use Rattle.order.proofs.OrderLaws.{which}
-use Rattle.cellunion.proofs.Spans.{span, In, Nest, left, right, inside, around, nest, kid, Kids, kids, holds-in, holds-no}
+use Rattle.order.proofs.OrderLaws.{which, all-weak}
+use Rattle.cellunion.proofs.Spans.{span, In, Nest, left, right, inside, around, nest, Kids, kids, holds-in, holds-no}
 use Rattle.cellunion.proofs.Unique.{all-at, at-all, Covered}
 
 -- ---- the parent
@@ -35,7 +36,7 @@ up-is {c} {L} {q} d = record {
 
 pub up-kid : {P L p : ℕ} (k : ℕ) → IsCell P L p → L < 30 → k < 4 → upOne (childOf P k) ≡ P
 up-kid {P} {L} {p} k c h g =
-    let u = up-is (kid k c h g) in
+    let u = up-is (child-cell k c h g) in
     let e : (4 * p + k) / 4 ≡ p = omega arith in
     u .is ∙ ap (idOf L) e ∙ sym (c .is)
 
@@ -75,7 +76,7 @@ pub four← : {x y z c P L p : ℕ} → IsCell P L p → L < 30 → x ≡ childO
 unfolding isFour
 four← {x} {y} {z} {c} {P} {L} {p} C h a b d e =
     let u : upOne c ≡ P = ap upOne e ∙ up-kid 3 C h (omega arith) in
-    let l : levelOf c ≡ L + 1 = ap levelOf e ∙ level-cell (childOf P 3) (L + 1) (4 * p + 3) (kid 3 C h (omega arith)) in
+    let l : levelOf c ≡ L + 1 = ap levelOf e ∙ level-cell (childOf P 3) (L + 1) (4 * p + 3) (child-cell 3 C h (omega arith)) in
     rw (lt-ltb 0 (levelOf c) (omega arith), u, eq-eqb x (childOf P 0) a, eq-eqb y (childOf P 1) b, eq-eqb z (childOf P 2) d, eq-eqb c (childOf P 3) e)
 
 -- ---- stacks
@@ -114,11 +115,6 @@ before T C r n f (right h) = let s = span C in absurd (omega arith)
 before T C r n f (inside h) = absurd (holds-no C T f h)
 before T C r n f (around h) = absurd (n h)
 
-pub all-map : (P Q : ℕ → Type 0) → ((x : ℕ) → P x → Q x) → (l : List ℕ) → All P l → All Q l
-unfolding All
-all-map P Q f [] a = tt
-all-map P Q f (x ∷ l) a = (f x (a .0), all-map P Q f l (a .1))
-
 -- the next one down cannot hold c either: c would lie before the top
 pub not-next : (t c : ℕ) (s : List ℕ) → Cell c → 2 * lo t + 1 ≤ c → All (λ y. hi y ≤ lo t) s → (y : ℕ) → Member y s → In c y → ⊥
 not-next t c s C r a y m i =
@@ -144,7 +140,7 @@ clear-laws c C (t ∷ s) S r n = ⊎-elim
     let u = span (S .cells .0) in
     rw (e, clearOf) (record {
       stack = S;
-      under = (b, all-map (λ y. hi y ≤ lo t) (λ y. hi y ≤ lo c) (λ y h. omega arith) s (S .down .0));
+      under = (b, all-weak (λ y. hi y ≤ lo t) (λ y. hi y ≤ lo c) s (λ y h. omega arith) (S .down .0));
       to = λ n k. (k .0, inr (k .1), k .2, k .3);
       from = λ n k. k;
       short = omega arith;

@@ -5,11 +5,12 @@ use mathlib.Core.Bool.{true}
 use mathlib.Core.List.{List, [], _∷_}
 use Prim.Native.Nat.{ℕ, zero, suc, _+_, _-_, _*_, _≤_, _<_}
 use native.Mathlib.Omega.{arith}
-use Rattle.cellid.specs.CellId.{Cell, IsCell, idOf, bitAt, childOf, firstLeaf, lastLeaf}
+use Rattle.cellid.specs.CellId.{Cell, IsCell, idOf, bitAt, childOf, firstLeaf, lastLeaf, hasLeaf}
 use Rattle.cellid.proofs.Laws.{or-true, true-or}
-use Rattle.cellunion.specs.CellUnion.{lo, hi, hasLeaf, covers, SameLeaves, Member, Apart, NoFour, Normal}
+use Rattle.cellid.proofs.Leaves.{child-cell}
+use Rattle.cellunion.specs.CellUnion.{lo, hi, covers, SameLeaves, Member, Apart, NoFour, Normal}
 use Rattle.order.specs.Order.{All}
-use Rattle.cellunion.proofs.Spans.{lo-is, hi-is, span, leaf→, leaf←, In, in-anti, kid, kids, kid-up}
+use Rattle.cellunion.proofs.Spans.{lo-is, hi-is, span, leaf→, leaf←, In, in-anti, kids, kid-up}
 
 pub all-at : (P : ℕ → Type 0) (l : List ℕ) → All P l → (x : ℕ) → Member x l → P x
 unfolding All Member
@@ -99,10 +100,10 @@ full-at l N (suc k) L p c C e f =
     let K = kids C h in
     let sub : L + 1 + k ≡ 30 = omega arith in
     four-up l N L p c C h
-    (full-at l N k (L + 1) (4 * p + 0) (childOf c 0) (kid 0 C h (omega arith)) sub (λ n a b. f n (omega arith) (omega arith)))
-    (full-at l N k (L + 1) (4 * p + 1) (childOf c 1) (kid 1 C h (omega arith)) sub (λ n a b. f n (omega arith) (omega arith)))
-    (full-at l N k (L + 1) (4 * p + 2) (childOf c 2) (kid 2 C h (omega arith)) sub (λ n a b. f n (omega arith) (omega arith)))
-    (full-at l N k (L + 1) (4 * p + 3) (childOf c 3) (kid 3 C h (omega arith)) sub (λ n a b. f n (omega arith) (omega arith)))
+    (full-at l N k (L + 1) (4 * p + 0) (childOf c 0) (child-cell 0 C h (omega arith)) sub (λ n a b. f n (omega arith) (omega arith)))
+    (full-at l N k (L + 1) (4 * p + 1) (childOf c 1) (child-cell 1 C h (omega arith)) sub (λ n a b. f n (omega arith) (omega arith)))
+    (full-at l N k (L + 1) (4 * p + 2) (childOf c 2) (child-cell 2 C h (omega arith)) sub (λ n a b. f n (omega arith) (omega arith)))
+    (full-at l N k (L + 1) (4 * p + 3) (childOf c 3) (child-cell 3 C h (omega arith)) sub (λ n a b. f n (omega arith) (omega arith)))
 
 pub full : (l : List ℕ) → Normal l → (c : ℕ) → Cell c → ((n : ℕ) → lo c ≤ n → n < hi c → covers l n ≡ true) → Held l c
 full l N c C f = full-at l N (30 - C .0) (C .0) (C .1) c (C .2) (omega (arith, C .2 .level)) f

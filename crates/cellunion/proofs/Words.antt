@@ -4,17 +4,17 @@ use mathlib.Core.Logic.{_⊎_, inl, inr, ⊎-elim}
 use mathlib.Core.Bool.{Bool, true, false, _&&_}
 use mathlib.Core.List.{List, [], _∷_}
 use Prim.Native.Nat.{ℕ, _+_, _*_, _<_}
-use native.Mathlib.Nat.{mul-one}
 use native.Mathlib.Omega.{arith}
 use lib.Dec.{leb}
 use borrow.Author.Tests.{lt-leb}
-use Rattle.cellid.specs.CellId.{Cell, IsCell, idOf, firstLeaf, lastLeaf, holds, meets}
+use Rattle.cellid.specs.CellId.{Cell, IsCell, firstLeaf, lastLeaf, holds, meets}
 use Rattle.cellid.proofs.Laws.{or-true, true-or, no-true}
+use Rattle.cellid.proofs.Parts.{leaf-at}
 use Rattle.order.specs.Order.{All}
-use Rattle.cellunion.specs.CellUnion.{hasLeaf, covers, SameLeaves, Member, Apart, Clear}
+use Rattle.order.proofs.OrderLaws.{all-weak}
+use Rattle.cellunion.specs.CellUnion.{covers, SameLeaves, Member, Apart, Clear}
 use Rattle.cellunion.proofs.Spans.{span, Nest, left, right, inside, around, nest, holds-in, holds-no}
 use Rattle.cellunion.proofs.Unique.{all-at, at-all}
-use Rattle.cellunion.proofs.Stack.{all-map}
 
 -- ---- two cells
 
@@ -68,20 +68,16 @@ clear-apart (x ∷ l) C A = (
 -- no later cell overlaps the first
 pub apart-meets : (x : ℕ) (l : List ℕ) → Apart (x ∷ l) → All (λ y. meets x y ≡ false) l × Apart l
 unfolding Apart
-apart-meets x l A = (all-map (λ y. lastLeaf x < firstLeaf y) (λ y. meets x y ≡ false) (λ y h. before-meets x y h .0) l (A .0), A .1)
+apart-meets x l A = (all-weak (λ y. lastLeaf x < firstLeaf y) (λ y. meets x y ≡ false) l (λ y h. before-meets x y h .0) (A .0), A .1)
 
 -- ---- leaves. The leaf with the number n is the cell of level 30 with the id 2n + 1.
-
-pub leaf-id : {x n : ℕ} → IsCell x 30 n → x ≡ 2 * n + 1
-unfolding idOf
-leaf-id {x} {n} c = c .is ∙ mul-one (2 * n + 1)
 
 -- some cell of l holds x
 abbrev pub Holding : List ℕ → ℕ → Type 0
 Holding l x = (y : ℕ) × Member y l × (holds y x ≡ true)
 
 pub covers-holding : (l : List ℕ) (n : ℕ) → covers l n ≡ true → Holding l (2 * n + 1)
-unfolding covers hasLeaf Member
+unfolding covers Member
 covers-holding [] n t = let z : _≡_ {A = ℕ} 0 1 = cc in absurd (omega arith)
 covers-holding (x ∷ l) n t = ⊎-elim
     (λ e. (x, inl refl, e))
@@ -89,7 +85,7 @@ covers-holding (x ∷ l) n t = ⊎-elim
     (or-true (holds x (2 * n + 1)) (covers l n) t)
 
 pub holding-covers : (l : List ℕ) (n : ℕ) → Holding l (2 * n + 1) → covers l n ≡ true
-unfolding covers hasLeaf Member
+unfolding covers Member
 holding-covers [] n h = absurd (h .1)
 holding-covers (x ∷ l) n h = true-or (holds x (2 * n + 1)) (covers l n) (⊎-elim
     (λ (e : h .0 ≡ x). inl (subst (λ (y : ℕ). holds y (2 * n + 1) ≡ true) e (h .2)))
@@ -98,5 +94,5 @@ holding-covers (x ∷ l) n h = true-or (holds x (2 * n + 1)) (covers l n) (⊎-e
 -- lists with the same leaves hold the same leaf ids
 pub same-holding : (a b : List ℕ) → SameLeaves a b → {x n : ℕ} → IsCell x 30 n → Holding a x → Holding b x
 same-holding a b same {x} {n} c h =
-    let e = leaf-id c in
+    let e = leaf-at c in
     subst (Holding b) (sym e) (covers-holding b n (sym (same n) ∙ holding-covers a n (subst (Holding a) e h)))

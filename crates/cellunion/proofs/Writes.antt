@@ -7,12 +7,12 @@ use native.Mathlib.Omega.{arith}
 use lib.ListN.{length, getD, take, drop, set, length-set}
 use lib.Pow.{pow-mono}
 use Rattle.cellid.specs.CellId.{Cell, IsCell, idOf, bitAt, placeAt, lowBit, levelOf, placeOf}
-use Rattle.cellid.proofs.Laws.{odd-mul, low-cell, level-cell, place-id, bit-up, cell-lt, one-shl}
+use Rattle.cellid.proofs.Laws.{odd-mul, low-cell, level-cell, level-le, place-id, bit-up, cell-lt, one-shl}
 use Rattle.order.specs.Order.{All}
 use Rattle.cellunion.specs.CellUnion.{goal, cellsFrom, below, denormalise, countOf}
 use Rattle.cellunion.proofs.Denorm.{room-core, goal-in, length-below, length-denormalise}
 use Rattle.cellunion.specs.declared.Laid.{Laid}
-use Rattle.cellunion.specs.Memory.{laid, roomFor, laidOver, Asks}
+use Rattle.cellunion.specs.Memory.{laid, roomFor, laidOver, AsksList}
 use Rattle.cellunion.proofs.Memory.{laid-nil, laid-cons, length-laid, laid-append, next-word, no-more, all-drop, room-yes, room-no}
 
 -- ---- the level
@@ -37,7 +37,7 @@ goal-is L low step m e h = let g : max L low + (30 - (max L low - low)) % step �
 
 -- ---- one word
 
-pub word-cell : (m : List ℕ) (n i low step : ℕ) → Asks n low step m → i < n → Cell (getD m i 0)
+pub word-cell : (m : List ℕ) (n i low step : ℕ) → AsksList n low step m → i < n → Cell (getD m i 0)
 unfolding All
 word-cell m n i low step A h = subst (λ (s : List ℕ). All Cell s) (next-word m n i (A .0) h) (all-drop Cell i (take n m) (A .1)) .0
 
@@ -51,12 +51,9 @@ pub record Turn (low step id L g : ℕ) : Type 0 where
   pub val : (1 * 2 ^ (2 * (g - L))) % 2 ^ 64 ≡ many low step id
   pub few : many low step id ≤ 2 ^ 60
 
-pub level-le : {id : ℕ} (L : ℕ) → Cell id → L ≡ levelOf id → L ≤ 30
-level-le {id} L C e = omega (arith, level-cell id (C .0) (C .1) (C .2), C .2 .level)
-
-pub turn-laws : (low step id L g : ℕ) → Cell id → L ≡ levelOf id → g ≡ goal low step L → Turn low step id L g
-turn-laws low step id L g C e f =
-    let l : L ≤ 30 = level-le L C e in
+pub turn-laws : (low step id L g : ℕ) → L ≡ levelOf id → g ≡ goal low step L → Turn low step id L g
+turn-laws low step id L g e f =
+    let l : L ≤ 30 = omega (arith, level-le id) in
     let r = goal-in low step L l in
     let m : 2 ^ (2 * (g - L)) ≡ many low step id = ap₂ (λ (x y : ℕ). 2 ^ (2 * (x - y))) (f ∙ ap (goal low step) e) e in
     record {
@@ -78,7 +75,7 @@ count-nil low step = refl
 -- ---- counting
 
 pub record Counting (m : List ℕ) (n low step limit total i : ℕ) : Type 0 where
-  pub asks : Asks n low step m
+  pub asks : AsksList n low step m
   pub within : i ≤ n
   pub small : total ≤ limit
   pub lim : limit ≤ 2 ^ 62
@@ -182,7 +179,7 @@ spread-done id to out₀ at bit out c (suc left) place G h = absurd (omega arith
 -- ---- the list
 
 pub record Writing (m : List ℕ) (n low step : ℕ) (out₀ out : List ℕ) (at i : ℕ) : Type 0 where
-  pub asks : Asks n low step m
+  pub asks : AsksList n low step m
   pub within : i ≤ n
   pub len : length out ≡ length out₀
   pub enough : countOf low step (take n m) ≤ length out₀
@@ -193,7 +190,7 @@ pub write-asks : (m : List ℕ) (n low step : ℕ) (out₀ out : List ℕ) (at i
     → Cell (getD m i 0) × (levelOf (getD m i 0) ≤ to) × (to ≤ 30) × (at + 2 ^ (2 * (to - levelOf (getD m i 0))) ≤ length out)
 write-asks m n low step out₀ out at i L to G h e f =
     let C = word-cell m n i low step (G .asks) h in
-    let T = turn-laws low step (getD m i 0) L to C e f in
+    let T = turn-laws low step (getD m i 0) L to e f in
     let w : 2 ^ (2 * (to - levelOf (getD m i 0))) ≡ many low step (getD m i 0) = ap (λ (x : ℕ). 2 ^ (2 * (x - levelOf (getD m i 0)))) (f ∙ ap (goal low step) e) in
     (C, omega (arith, T .up), T .top, omega (arith, G .sum, G .enough, G .len, ap (countOf low step) (next-word m n i (G .asks .0) h), count-cons low step (getD m i 0) (drop (i + 1) (take n m))))
 

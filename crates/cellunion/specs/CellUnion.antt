@@ -5,16 +5,12 @@ use mathlib.Core.List.{List, [], _∷_, _++_}
 use mathlib.Core.Logic.{_⊎_}
 use Prim.Native.Nat.{ℕ, zero, suc, _+_, _-_, _*_, _/_, _%_, _^_, _≤_, _<_, min, max}
 use lib.Dec.{ltb, eqb}
-use Rattle.cellid.specs.CellId.{Cell, idOf, lowBit, levelOf, placeOf, parentAt, childOf, firstLeaf, lastLeaf, holds}
+use Rattle.cellid.specs.CellId.{Cell, idOf, lowBit, levelOf, placeOf, validId, parentAt, childOf, firstLeaf, lastLeaf, holds, hasLeaf, one}
 use Rattle.order.specs.Order.{All, sort}
 
 -- ---- leaves. Leaf number n, from 0, has the id 2n + 1.
 
--- the leaf n lies under the cell id: "the leaves beneath run from id − (b − 1) to id + (b − 1)"
-unfoldable pub hasLeaf : ℕ → ℕ → Bool
-hasLeaf id n = holds id (2 * n + 1)
-
--- it lies under some cell of the list
+-- the leaf n lies under some cell of the list
 unfoldable pub covers : List ℕ → ℕ → Bool
 covers [] n = false
 covers (id ∷ l) n = hasLeaf id n || covers l n
@@ -45,6 +41,19 @@ Apart (x ∷ l) = All (λ y. lastLeaf x < firstLeaf y) l × Apart l
 unfoldable pub Clear : List ℕ → Type 0
 Clear [] = Unit
 Clear (x ∷ l) = All (λ y. (x < y) × (holds x y ≡ false) × (holds y x ≡ false)) l × Clear l
+
+-- the check of a list: "valid, ascending and free of overlap" (paper 02, n and j). A valid id may come next if its first leaf stands after b, the last leaf
+-- before it
+unfoldable pub listed : ℕ → ℕ → Bool
+listed b id = validId id && ltb b (firstLeaf id)
+
+unfoldable pub listFrom : ℕ → List ℕ → Bool
+listFrom b [] = true
+listFrom b (id ∷ l) = listed b id && listFrom (lastLeaf id) l
+
+-- exactly the lists of cells that are `Apart` (proofs/Lists)
+abbrev pub isList : List ℕ → Bool
+isList l = listFrom 0 l
 
 -- no four siblings are left: no cell has all its four children in the list
 unfoldable pub NoFour : List ℕ → Type 0
@@ -131,10 +140,6 @@ pub record OnStep (low top step L : ℕ) : Type 0 where
   pub on : (L - low) % step ≡ 0
 
 -- ---- counting leaves
-
-abbrev pub one : Bool → ℕ
-one true = 1
-one false = 0
 
 -- how many of 0, .., N - 1 pass
 unfoldable pub countTo : (ℕ → Bool) → ℕ → ℕ

@@ -29,5 +29,5 @@ unfoldable pub laidOver : List ℕ → List ℕ → List ℕ
 laidOver l d = elim (leb (length l) (length d)) [ true ↦ laid 0 l d | false ↦ d ]
 
 -- what denormalising the first n words asks
-abbrev pub Asks : ℕ → ℕ → ℕ → List ℕ → Type 0
-Asks n low step m = (n ≤ length m) × All Cell (take n m) × (low ≤ 30) × (0 < step)
+abbrev pub AsksList : ℕ → ℕ → ℕ → List ℕ → Type 0
+AsksList n low step m = (n ≤ length m) × All Cell (take n m) × (low ≤ 30) × (0 < step)

@@ -1,18 +1,46 @@
-// Lists of cells in lent memory: normalising in place, denormalising into an output.
+// Lists of cells in lent memory: what a list may be, normalising in place, denormalising into an output.
 ghost use mathlib.Core.Path.{_≡_};
 ghost use Prim.Native.Nat.{_+_, _-_, _*_, _^_, _≤_, _<_, min, max};
 ghost use lib.ListN.{length, take};
 ghost use lib.Dec.{ltb};
 ghost use Rattle.cellid.specs.CellId.{Cell, lowBit, levelOf};
 ghost use Rattle.order.specs.Order.{All, Sorted};
-ghost use Rattle.cellunion.specs.CellUnion.{normalise, isFour, clearOf, collapse, keep, goal, below, denormalise, countOf};
-ghost use Rattle.cellunion.specs.Memory.{zeros, normalised, laid, roomFor, laidOver, Asks};
+ghost use Rattle.cellunion.specs.CellUnion.{normalise, listed, isList, isFour, clearOf, collapse, keep, goal, below, denormalise, countOf};
+ghost use Rattle.cellunion.specs.Memory.{zeros, normalised, laid, roomFor, laidOver, AsksList};
 ghost use Rattle.cellunion.specs.Stack.{down, Topped, Next, Gives, PassDone};
 
 // The answer of a function that lays a list over an output: how many words it laid, or that they do not fit and nothing was written.
 pub enum Laid {
     Done(usize),
     NoRoom,
+}
+
+// Whether an id may come next in a list, `last` the last leaf before it.
+fn listed(last: u64, id: u64) -> bool
+    ensures { λ r. ⌜ r ≡ listed last id ⌝ }
+{
+    if cellid::is_valid(id) {
+        last < cellid::range_min(id)
+    } else {
+        false
+    }
+}
+
+// Whether a list is valid, ascending and free of overlap.
+pub fn is_valid(ids: &[u64]) -> bool
+    ensures { λ r. ⌜ r ≡ isList (now (ids .entry)) ⌝ }
+{
+    let mut last: u64 = 0;
+    let mut i: usize = 0;
+    while i < ids.len() {
+        let id = ids[i];
+        if !listed(last, id) {
+            return false;
+        }
+        last = cellid::range_max(id);
+        i += 1;
+    }
+    true
 }
 
 // All bits but the two that tell c from its siblings.
@@ -150,7 +178,7 @@ fn goal_level(level: u64, low: u64, step: u64) -> u64
 
 // How many cells the first n become; limit + 1 as soon as they are more than limit.
 fn count(mem: &[u64], n: usize, low: u64, step: u64, limit: usize) -> usize
-    requires { ⌜ Asks n low step (now mem) × (limit ≤ 2 ^ 62) ⌝ }
+    requires { ⌜ AsksList n low step (now mem) × (limit ≤ 2 ^ 62) ⌝ }
     ensures { λ r. ⌜ r ≡ min (countOf low step (take n (now (mem .entry)))) (limit + 1) ⌝ }
 {
     let mut total: usize = 0;
@@ -186,7 +214,7 @@ fn spread(id: u64, to: u64, out: &mut [u64], at: usize) -> usize
 
 // Writes the denormalised list of the first n into the output's first places; gives its length.
 fn write(mem: &[u64], n: usize, low: u64, step: u64, out: &mut [u64]) -> usize
-    requires { ⌜ Asks n low step (now mem) × (countOf low step (take n (now mem)) ≤ length (now out)) ⌝ }
+    requires { ⌜ AsksList n low step (now mem) × (countOf low step (take n (now mem)) ≤ length (now out)) ⌝ }
     ensures { λ r. ⌜ (r ≡ countOf low step (take n (now (mem .entry)))) × (now (out .exit) ≡ laid 0 (denormalise low step (take n (now (mem .entry)))) (now (out .entry))) ⌝ }
 {
     let mut at: usize = 0;
@@ -203,7 +231,7 @@ fn write(mem: &[u64], n: usize, low: u64, step: u64, out: &mut [u64]) -> usize
 // Lays the cells that the first n words of mem become, by 01's levels for low and step, over the output's first places.
 // They are counted before anything is written, and the count stops as soon as it is past the output's length: a list with no room costs at most n steps.
 pub fn denormalize(mem: &[u64], n: usize, low: u64, step: u64, out: &mut [u64]) -> Laid
-    requires { ⌜ Asks n low step (now mem) ⌝ }
+    requires { ⌜ AsksList n low step (now mem) ⌝ }
     ensures { λ r. ⌜ (r ≡ roomFor (denormalise low step (take n (now (mem .entry)))) (now (out .entry))) × (now (out .exit) ≡ laidOver (denormalise low step (take n (now (mem .entry)))) (now (out .entry))) ⌝ }
 {
     let limit = out.len();

@@ -1,4 +1,5 @@
 -- Adding a candidate, and the children of a taken one: the definition's cases, in the code's words.
+use Rattle.run.specs.declared.Request.{Request}
 use mathlib.Core.Path.{_≡_, refl, sym, ap, ap₂, _∙_, subst}
 use mathlib.Core.Bool.{Bool, true, false, _&&_, not}
 use mathlib.Core.Logic.{⊎-elim}
@@ -17,38 +18,36 @@ use Rattle.cellid.proofs.Laws.{low-cell, cell-lt}
 use Rattle.order.specs.Order.{All}
 use Rattle.order.proofs.OrderLaws.{which}
 use Rattle.region.specs.declared.Region.{Region}
-use Rattle.run.specs.Run.{Request, Child, State, Outcome, refused, going, then, divide, isEmpty, sumOf, full, depth, under, lifts, byId, keep, enqueue, setAside, isFull, add, addAll}
-use Rattle.run.specs.Masks.{consIf, listOf, found}
-use Rattle.run.specs.Ground.{Domain}
+use Rattle.run.specs.Run.{Child, State, Outcome, refused, going, then, divide, isEmpty, sumOf, full, depth, expansionOf, lifts, byId, keep, enqueue, setAside, isFull, add, addAll, Task, _by_, maxLevel, levelMod, minLevel, maxCells, memoryWords}
+use Rattle.run.specs.Masks.{consIf, childrenIn, found}
+use Rattle.run.specs.Ground.{Domain, wanted, ChildOk, Queued}
 use Rattle.run.proofs.Lists.{if-ok, empty-nil, sum-append, all-drop, rel-eq}
 use Rattle.run.proofs.Looks.{MeansBy, Means, look-means}
 use Rattle.run.proofs.Leaves.{leaves-add}
-use Rattle.run.proofs.Ground.{wanted, ChildOk, Queued, under-ok}
+use Rattle.run.proofs.Ground.{under-ok, low-on, high-on}
 use Rattle.run.proofs.Masks.{list-turn}
 use Rattle.run.proofs.Counts.{found-counted, empty-set}
 use Rattle.run.proofs.Turns.{then-then, add-none, add-lift, add-queue}
 use Rattle.run.specs.declared.Found.{Found}
 use Rattle.queue.specs.declared.Rec.{Rec}
 use Rattle.queue.specs.declared.Rule.{Rule}
-use Rattle.candidate.specs.declared.Asked.{Asked}
-use Rattle.candidate.specs.Candidate.{requestOf, Asks}
+use Rattle.candidate.specs.Candidate.{Asks}
 use Rattle.coverer.specs.declared.Counts.{Counts}
 use Rattle.coverer.specs.declared.Turn.{Turn}
 use Rattle.coverer.specs.declared.Brood.{Brood}
 use Rattle.coverer.specs.Engine.{isIn, childAt, childIf, childrenFrom, leavesIn, asideOf, AsideUpTo, grown, ruleOf, recOf, Ready, Stands, Gives, Does}
 use Rattle.coverer.proofs.Stands.{raw-length, sets-aside, does-as, does-nothing, aside-le, up-to}
 
-pub domain : (q : Asked) (g : Region) → Asks q g → Domain (requestOf q)
-unfolding requestOf
+pub domain : (q : Request) (g : Region) → Asks q g → Domain q
 domain q g A = record { order = A .order; deep = A .deep }
 
 -- 4 ^ level_mod is at most 64
-pub narrow : (q : Asked) (g : Region) (w : Rule) → Ready q g w → w .full ≤ 64
-unfolding requestOf full
+pub narrow : (q : Request) (g : Region) (w : Rule) → Ready q g w → w .full ≤ 64
+unfolding full
 narrow q g w R =
-    let e : w .full ≡ 2 ^ (2 * q .«level_mod») = ap (λ (x : Rule). x .full) (R .rule) in
-    let few : q .«level_mod» ≤ 3 = R .asks .few in
-    omega (arith, e, pow-mono {i = 2 * q .«level_mod»} {j = 6} (omega arith))
+    let e : w .full ≡ 2 ^ (2 * levelMod q) = ap (λ (x : Rule). x .full) (R .rule) in
+    let few : levelMod q ≤ 3 = R .asks .few in
+    omega (arith, e, pow-mono {i = 2 * levelMod q} {j = 6} (omega arith))
 
 -- a cell's leaves are its lowest bit's weight
 pub low-leaves : (id : ℕ) → IsCell id (levelOf id) (placeOf id) → lowBit id ≡ leavesOf id
@@ -65,10 +64,10 @@ cons-if false x l = refl
 pub children-turn : (b : Brood) (j : ℕ) → j < b .places → childrenFrom b j ≡ childIf b j ++ childrenFrom b (j + 1)
 unfolding childrenFrom childIf
 children-turn b j h = rw (add-one j) (list-turn (childAt b) (b .places) (b .present) (b .terminal) j h
-    ∙ cons-if (isIn (b .present) j) (record { id = childAt b j; ends = isIn (b .terminal) j }) (listOf (childAt b) (b .places - suc j) (b .present / 2 ^ suc j) (b .terminal / 2 ^ suc j) (suc j)))
+    ∙ cons-if (isIn (b .present) j) (record { id = childAt b j; ends = isIn (b .terminal) j }) (childrenIn (childAt b) (b .places - suc j) (b .present / 2 ^ suc j) (b .terminal / 2 ^ suc j) (suc j)))
 
 pub children-end : (b : Brood) (j : ℕ) → b .places ≤ j → childrenFrom b j ≡ []
-unfolding childrenFrom listOf
+unfolding childrenFrom childrenIn
 children-end b j h = let z : b .places - j ≡ 0 = omega arith in rw z
 
 all-front : {A : Type 0} (P : A → Type 0) (l r : List A) → All P (l ++ r) → All P l
@@ -112,97 +111,91 @@ pub leaves-there : (b : Brood) (j : ℕ) → isIn (b .present) j ≡ true → le
 unfolding sumOf
 leaves-there b j e = ap leavesIn (child-there b j e) ∙ omega arith
 
-pub child-ok : (q : Request) (hits within : ℕ → Bool) (b : Brood) (j : ℕ) (ends : Bool) → isIn (b .present) j ≡ true → ends ≡ isIn (b .terminal) j
-    → All (ChildOk q hits within) (childIf b j) → ChildOk q hits within (record { id = childAt b j; ends = ends })
+pub child-ok : (T : Task) (b : Brood) (j : ℕ) (ends : Bool) → isIn (b .present) j ≡ true → ends ≡ isIn (b .terminal) j
+    → All (ChildOk T) (childIf b j) → ChildOk T (record { id = childAt b j; ends = ends })
 unfolding All
-child-ok q hits within b j ends e d a =
-    let one : ChildOk q hits within (record { id = childAt b j; ends = isIn (b .terminal) j }) = subst (All (ChildOk q hits within)) (child-there b j e) a .0 in
+child-ok T b j ends e d a =
+    let one : ChildOk T (record { id = childAt b j; ends = isIn (b .terminal) j }) = subst (All (ChildOk T)) (child-there b j e) a .0 in
     rw d one
 
-pub child-id : (q : Request) (hits within : ℕ → Bool) (b : Brood) (j : ℕ) → isIn (b .present) j ≡ true → All (ChildOk q hits within) (childIf b j) → childAt b j < 2 ^ 64
-child-id q hits within b j e a =
-    let c = child-ok q hits within b j (isIn (b .terminal) j) e refl a in
+pub child-id : (T : Task) (b : Brood) (j : ℕ) → isIn (b .present) j ≡ true → All (ChildOk T) (childIf b j) → childAt b j < 2 ^ 64
+child-id T b j e a =
+    let c = child-ok T b j (isIn (b .terminal) j) e refl a in
     omega (arith, cell-lt (childAt b j) (levelOf (childAt b j)) (placeOf (childAt b j)) (c .fit .cell))
 
-low-on : (L m k : ℕ) → L < m → ((L + 1) - m) % k ≡ 0
-low-on L m k h = let e : (L + 1) - m ≡ 0 = omega arith in ap (λ (n : ℕ). n % k) e ∙ zero-mod k
-
-high-on : (L m k : ℕ) → m ≤ L → (L - m) % k ≡ 0 → ((L + k) - m) % k ≡ 0
-high-on L m k h e = let s : (L + k) - m ≡ (L - m) + k = omega arith in rw s (add-mod-right (L - m) k ∙ e)
-
-module _ (q : Request) (hits within : ℕ → Bool) (D : Domain q) where
+module _ (T : Task) (D : Domain (T .asked)) where
   -- ---- a candidate that is to be expanded
 
-  pub queued : (id : ℕ) (b : Bool) → b ≡ false → ChildOk q hits within (record { id = id; ends = b }) → Queued q hits within id
+  pub queued : (id : ℕ) (b : Bool) → b ≡ false → ChildOk T (record { id = id; ends = b }) → Queued T id
   queued id b e C = record { fit = C .fit; seen = C .seen ∙ ap wanted e }
 
   -- the levels of its expansion
   pub record Below (id : ℕ) : Type 0 where
-    pub high : levelOf id + depth q id ≤ q .maxLevel
-    pub on : ((levelOf id + depth q id) - q .minLevel) % q .levelMod ≡ 0
+    pub high : levelOf id + depth (T .asked) id ≤ maxLevel (T .asked)
+    pub on : ((levelOf id + depth (T .asked) id) - minLevel (T .asked)) % levelMod (T .asked) ≡ 0
 
-  pub below : (id : ℕ) → Queued q hits within id → Below id
+  pub below : (id : ℕ) → Queued T id → Below id
   unfolding depth MeansBy
   below id Q =
-      let m : Means q hits within id divide = look-means q hits within id divide (Q .seen) in
-      let P : ℕ → Type 0 = λ n. (levelOf id + n ≤ q .maxLevel) × (((levelOf id + n) - q .minLevel) % q .levelMod ≡ 0) in
-      let both : P (depth q id) = if-ok P (ltb (levelOf id) (q .minLevel)) 1 (q .levelMod)
-      (λ t. let l : levelOf id < q .minLevel = ltb-true _ _ t in (omega (arith, D .order), low-on (levelOf id) (q .minLevel) (q .levelMod) l))
-      (λ t. let l : q .minLevel ≤ levelOf id = ltb-false _ _ t in (ltb-false _ _ (m .1 t), high-on (levelOf id) (q .minLevel) (q .levelMod) l (Q .fit .on))) in
+      let m : Means T id divide = look-means T id divide (Q .seen) in
+      let P : ℕ → Type 0 = λ n. (levelOf id + n ≤ maxLevel (T .asked)) × (((levelOf id + n) - minLevel (T .asked)) % levelMod (T .asked) ≡ 0) in
+      let both : P (depth (T .asked) id) = if-ok P (ltb (levelOf id) (minLevel (T .asked))) 1 (levelMod (T .asked))
+      (λ t. let l : levelOf id < minLevel (T .asked) = ltb-true _ _ t in (omega (arith, D .order), low-on (levelOf id) (minLevel (T .asked)) (levelMod (T .asked)) l))
+      (λ t. let l : minLevel (T .asked) ≤ levelOf id = ltb-false _ _ t in (ltb-false _ _ (m .1 t), high-on (levelOf id) (minLevel (T .asked)) (levelMod (T .asked)) l (Q .fit .on))) in
       record { high = both .0; on = both .1 }
 
-  pub expands : (id : ℕ) → Queued q hits within id → Cell id × (levelOf id + depth q id ≤ 30)
+  pub expands : (id : ℕ) → Queued T id → Cell id × (levelOf id + depth (T .asked) id ≤ 30)
   expands id Q = ((levelOf id, placeOf id, Q .fit .cell), omega (arith, below id Q .high, D .deep))
 
   -- no children: all its leaves failed
-  none-failed : (id : ℕ) → Queued q hits within id → isEmpty (under q hits within id .children) ≡ true → q .inner ≡ false → leavesOf id ≡ sumOf leavesOf (under q hits within id .failed)
+  none-failed : (id : ℕ) → Queued T id → isEmpty (expansionOf T id .children) ≡ true → T .asked .inner ≡ false → leavesOf id ≡ sumOf leavesOf (expansionOf T id .failed)
   unfolding sumOf
   none-failed id Q e o =
-      let x = under-ok q D hits within (byId q hits within) (λ i n. leavesOf n) (λ i n L p c l. leaves-add n L p c l) 0 id Q in
-      let s : leavesIn (under q hits within id .children) + sumOf leavesOf (under q hits within id .failed) ≡ leavesOf id = rel-eq (q .inner) _ _ o (x .sum) in
-      let z : leavesIn (under q hits within id .children) ≡ 0 = ap leavesIn (empty-nil (under q hits within id .children) e) in
+      let x = under-ok T D (byId T) (λ i n. leavesOf n) (λ i n L p c l. leaves-add n L p c l) 0 id Q in
+      let s : leavesIn (expansionOf T id .children) + sumOf leavesOf (expansionOf T id .failed) ≡ leavesOf id = rel-eq (T .asked .inner) _ _ o (x .sum) in
+      let z : leavesIn (expansionOf T id .children) ≡ 0 = ap leavesIn (empty-nil (expansionOf T id .children) e) in
       omega arith
 
-  is-empty : (id : ℕ) → isEmpty (under q hits within id .children) ≡ eqb (found q hits within (depth q id) id .present) 0
-  unfolding under
-  is-empty id = empty-set q hits within (depth q id) id
+  is-empty : (id : ℕ) → isEmpty (expansionOf T id .children) ≡ eqb (found T (depth (T .asked) id) id .present) 0
+  unfolding expansionOf
+  is-empty id = empty-set T (depth (T .asked) id) id
 
-  pub adds-none : (m : List ℕ) (t : Counts) (id n : ℕ) → Queued q hits within id → found q hits within (depth q id) id .present ≡ 0 → n ≡ leavesOf id
-      → Does q hits within (λ i. add q hits within (byId q hits within) (grown i id) false) m t m (Turn.Going (asideOf (q .inner) t n))
+  pub adds-none : (m : List ℕ) (t : Counts) (id n : ℕ) → Queued T id → found T (depth (T .asked) id) id .present ≡ 0 → n ≡ leavesOf id
+      → Does T (λ i. add (T by byId T) (grown i id) false) m t m (Turn.Going (asideOf (T .asked .inner) t n))
   unfolding Gives
   adds-none m t id n Q z e =
-      let b : isEmpty (under q hits within id .children) ≡ true = is-empty id ∙ eq-eqb _ 0 z in
+      let b : isEmpty (expansionOf T id .children) ≡ true = is-empty id ∙ eq-eqb _ 0 z in
       record {
         gives = λ i s S. (
-          setAside q i (under q hits within id .failed) s,
-          add-none q hits within (byId q hits within) (grown i id) s b,
-          sets-aside q hits within m t n i (under q hits within id .failed) s (λ o. e ∙ none-failed id Q b o) S,
+          setAside (T .asked) i (expansionOf T id .failed) s,
+          add-none T (byId T) (grown i id) s b,
+          sets-aside T m t n i (expansionOf T id .failed) s (λ o. e ∙ none-failed id Q b o) S,
         );
         frame = refl;
       }
 
-  lifts-is : (id : ℕ) → lifts q hits within id ≡ (not (q .inner) && (leb (q .minLevel) (levelOf id) && eqb (ones (found q hits within (depth q id) id .terminal)) (full q)))
-  unfolding lifts under
-  lifts-is id = rw (found-counted q hits within (depth q id) id .terminal)
+  lifts-is : (id : ℕ) → lifts T id ≡ (not (T .asked .inner) && (leb (minLevel (T .asked)) (levelOf id) && eqb (ones (found T (depth (T .asked) id) id .terminal)) (full (T .asked))))
+  unfolding lifts expansionOf
+  lifts-is id = rw (found-counted T (depth (T .asked) id) id .terminal)
 
-  module _ (m : List ℕ) (t : Counts) (m′ : List ℕ) (r : Turn) (id : ℕ) (some : found q hits within (depth q id) id .present ≡ 0 → ⊥) (lift : Bool)
-      (is : lift ≡ (not (q .inner) && (leb (q .minLevel) (levelOf id) && eqb (ones (found q hits within (depth q id) id .terminal)) (full q)))) where
-    pub adds-lifted : lift ≡ true → Does q hits within (λ i. keep (grown i id)) m t m′ r → Does q hits within (λ i. add q hits within (byId q hits within) (grown i id) false) m t m′ r
-    adds-lifted e = does-as q hits within (λ i. keep (grown i id)) (λ i. add q hits within (byId q hits within) (grown i id) false) m t m′ r
-        (λ i s S. add-lift q hits within (byId q hits within) (grown i id) s (is-empty id ∙ ne-eqb _ 0 some) (lifts-is id ∙ sym is ∙ e))
+  module _ (m : List ℕ) (t : Counts) (m′ : List ℕ) (r : Turn) (id : ℕ) (some : found T (depth (T .asked) id) id .present ≡ 0 → ⊥) (lift : Bool)
+      (is : lift ≡ (not (T .asked .inner) && (leb (minLevel (T .asked)) (levelOf id) && eqb (ones (found T (depth (T .asked) id) id .terminal)) (full (T .asked))))) where
+    pub adds-lifted : lift ≡ true → Does T (λ i. keep (grown i id)) m t m′ r → Does T (λ i. add (T by byId T) (grown i id) false) m t m′ r
+    adds-lifted e = does-as T (λ i. keep (grown i id)) (λ i. add (T by byId T) (grown i id) false) m t m′ r
+        (λ i s S. add-lift T (byId T) (grown i id) s (is-empty id ∙ ne-eqb _ 0 some) (lifts-is id ∙ sym is ∙ e))
 
-    pub adds-queued : lift ≡ false → Does q hits within (λ i. enqueue (byId q hits within) (grown i id)) m t m′ r
-        → Does q hits within (λ i. add q hits within (byId q hits within) (grown i id) false) m t m′ r
-    adds-queued e = does-as q hits within (λ i. enqueue (byId q hits within) (grown i id)) (λ i. add q hits within (byId q hits within) (grown i id) false) m t m′ r
-        (λ i s S. add-queue q hits within (byId q hits within) (grown i id) s (is-empty id ∙ ne-eqb _ 0 some) (lifts-is id ∙ sym is ∙ e))
+    pub adds-queued : lift ≡ false → Does T (λ i. enqueue (byId T) (grown i id)) m t m′ r
+        → Does T (λ i. add (T by byId T) (grown i id) false) m t m′ r
+    adds-queued e = does-as T (λ i. enqueue (byId T) (grown i id)) (λ i. add (T by byId T) (grown i id) false) m t m′ r
+        (λ i s S. add-queue T (byId T) (grown i id) s (is-empty id ∙ ne-eqb _ 0 some) (lifts-is id ∙ sym is ∙ e))
 
-  pub adds-kept : (m : List ℕ) (t : Counts) (m′ : List ℕ) (r : Turn) (id : ℕ) (b : Bool) → b ≡ true → Does q hits within (λ i. keep (grown i id)) m t m′ r
-      → Does q hits within (λ i. add q hits within (byId q hits within) (grown i id) b) m t m′ r
+  pub adds-kept : (m : List ℕ) (t : Counts) (m′ : List ℕ) (r : Turn) (id : ℕ) (b : Bool) → b ≡ true → Does T (λ i. keep (grown i id)) m t m′ r
+      → Does T (λ i. add (T by byId T) (grown i id) b) m t m′ r
   unfolding add
-  adds-kept m t m′ r id b e = does-as q hits within (λ i. keep (grown i id)) (λ i. add q hits within (byId q hits within) (grown i id) b) m t m′ r (λ i s S. rw (e, add))
+  adds-kept m t m′ r id b e = does-as T (λ i. keep (grown i id)) (λ i. add (T by byId T) (grown i id) b) m t m′ r (λ i s S. rw (e, add))
 
   pub adds-open : (m : List ℕ) (t : Counts) (m′ : List ℕ) (r : Turn) (id : ℕ) (b : Bool) → b ≡ false
-      → Does q hits within (λ i. add q hits within (byId q hits within) (grown i id) false) m t m′ r → Does q hits within (λ i. add q hits within (byId q hits within) (grown i id) b) m t m′ r
+      → Does T (λ i. add (T by byId T) (grown i id) false) m t m′ r → Does T (λ i. add (T by byId T) (grown i id) b) m t m′ r
   adds-open m t m′ r id b e d = rw e d
 
   -- ---- children, one after another
@@ -212,38 +205,38 @@ module _ (q : Request) (hits within : ℕ → Bool) (D : Domain q) where
   then-cong (refused n) f g e = refl
   then-cong (going s) f g e = e s
 
-  pub addAll-append : (i : ℕ) (l r : List Child) (s : State) → addAll q hits within (byId q hits within) i (l ++ r) s ≡ then (addAll q hits within (byId q hits within) i l s) (addAll q hits within (byId q hits within) i r)
+  pub addAll-append : (i : ℕ) (l r : List Child) (s : State) → addAll (T by byId T) i (l ++ r) s ≡ then (addAll (T by byId T) i l s) (addAll (T by byId T) i r)
   unfolding addAll then
   addAll-append i [] r s = refl
   addAll-append i (k ∷ l) r s = ⊎-elim
-      (λ (e : isFull q s ≡ true). rw (e, addAll) (addAll-append i l r s))
-      (λ (e : isFull q s ≡ false). rw (e, addAll)
-      (then-cong (add q hits within (byId q hits within) (grown i (k .id)) (k .ends) s) _ _ (λ x. addAll-append i l r x)
-      ∙ sym (then-then (add q hits within (byId q hits within) (grown i (k .id)) (k .ends) s) (addAll q hits within (byId q hits within) i l) (addAll q hits within (byId q hits within) i r))))
-      (which (isFull q s))
+      (λ (e : isFull (T .asked) s ≡ true). rw (e, addAll) (addAll-append i l r s))
+      (λ (e : isFull (T .asked) s ≡ false). rw (e, addAll)
+      (then-cong (add (T by byId T) (grown i (k .id)) (k .ends) s) _ _ (λ x. addAll-append i l r x)
+      ∙ sym (then-then (add (T by byId T) (grown i (k .id)) (k .ends) s) (addAll (T by byId T) i l) (addAll (T by byId T) i r))))
+      (which (isFull (T .asked) s))
 
-  pub children-then : (b : Brood) (j : ℕ) → j < b .places → (i : ℕ) (s : State) → addAll q hits within (byId q hits within) i (childrenFrom b j) s
-      ≡ then (addAll q hits within (byId q hits within) i (childIf b j) s) (addAll q hits within (byId q hits within) i (childrenFrom b (j + 1)))
-  children-then b j h i s = ap (λ (l : List Child). addAll q hits within (byId q hits within) i l s) (children-turn b j h) ∙ addAll-append i (childIf b j) (childrenFrom b (j + 1)) s
+  pub children-then : (b : Brood) (j : ℕ) → j < b .places → (i : ℕ) (s : State) → addAll (T by byId T) i (childrenFrom b j) s
+      ≡ then (addAll (T by byId T) i (childIf b j) s) (addAll (T by byId T) i (childrenFrom b (j + 1)))
+  children-then b j h i s = ap (λ (l : List Child). addAll (T by byId T) i l s) (children-turn b j h) ∙ addAll-append i (childIf b j) (childrenFrom b (j + 1)) s
 
-  pub children-over : (b : Brood) (j : ℕ) → b .places ≤ j → (i : ℕ) (s : State) → addAll q hits within (byId q hits within) i (childrenFrom b j) s ≡ going s
+  pub children-over : (b : Brood) (j : ℕ) → b .places ≤ j → (i : ℕ) (s : State) → addAll (T by byId T) i (childrenFrom b j) s ≡ going s
   unfolding addAll
   children-over b j h i s = rw (children-end b j h)
 
   -- full: the state's results are as many as the counts say
-  pub full-is : (m : List ℕ) (t : Counts) (s : State) (f : Bool) → 4096 ≤ length m → Stands q hits within m t s → f ≡ (q .inner && leb (q .maxCells) (t .kept)) → isFull q s ≡ f
+  pub full-is : (m : List ℕ) (t : Counts) (s : State) (f : Bool) → memoryWords ≤ length m → Stands T m t s → f ≡ (T .asked .inner && leb (maxCells (T .asked)) (t .kept)) → isFull (T .asked) s ≡ f
   unfolding isFull
-  full-is m t s f h S e = rw (raw-length q hits within h S) (sym e)
+  full-is m t s f h S e = rw (raw-length T h S) (sym e)
 
   pub child-none : (m : List ℕ) (t : Counts) (b : Brood) (j : ℕ) → isIn (b .present) j ≡ false
-      → Does q hits within (λ i. addAll q hits within (byId q hits within) i (childIf b j)) m t m (Turn.Going t)
+      → Does T (λ i. addAll (T by byId T) i (childIf b j)) m t m (Turn.Going t)
   unfolding addAll
-  child-none m t b j e = does-nothing q hits within (λ i. addAll q hits within (byId q hits within) i (childIf b j)) m t (λ i s S. rw (child-away b j e))
+  child-none m t b j e = does-nothing T (λ i. addAll (T by byId T) i (childIf b j)) m t (λ i s S. rw (child-away b j e))
 
-  pub child-full : (m : List ℕ) (t : Counts) (b : Brood) (j : ℕ) (f : Bool) → 4096 ≤ length m → isIn (b .present) j ≡ true → f ≡ (q .inner && leb (q .maxCells) (t .kept)) → f ≡ true
-      → Does q hits within (λ i. addAll q hits within (byId q hits within) i (childIf b j)) m t m (Turn.Going t)
+  pub child-full : (m : List ℕ) (t : Counts) (b : Brood) (j : ℕ) (f : Bool) → memoryWords ≤ length m → isIn (b .present) j ≡ true → f ≡ (T .asked .inner && leb (maxCells (T .asked)) (t .kept)) → f ≡ true
+      → Does T (λ i. addAll (T by byId T) i (childIf b j)) m t m (Turn.Going t)
   unfolding addAll
-  child-full m t b j f h e ef t′ = does-nothing q hits within (λ i. addAll q hits within (byId q hits within) i (childIf b j)) m t
+  child-full m t b j f h e ef t′ = does-nothing T (λ i. addAll (T by byId T) i (childIf b j)) m t
       (λ i s S. rw (child-there b j e, addAll, full-is m t s f h S ef ∙ t′))
 
   then-going : (o : Outcome) → then o (λ s. going s) ≡ o
@@ -251,47 +244,47 @@ module _ (q : Request) (hits within : ℕ → Bool) (D : Domain q) where
   then-going (refused n) = refl
   then-going (going s) = refl
 
-  pub child-added : (m : List ℕ) (t : Counts) (m′ : List ℕ) (r : Turn) (b : Brood) (j : ℕ) (f ends : Bool) → 4096 ≤ length m → isIn (b .present) j ≡ true → f ≡ (q .inner && leb (q .maxCells) (t .kept)) → f ≡ false
-      → ends ≡ isIn (b .terminal) j → Does q hits within (λ i. add q hits within (byId q hits within) (grown i (childAt b j)) ends) m t m′ r
-      → Does q hits within (λ i. addAll q hits within (byId q hits within) i (childIf b j)) m t m′ r
+  pub child-added : (m : List ℕ) (t : Counts) (m′ : List ℕ) (r : Turn) (b : Brood) (j : ℕ) (f ends : Bool) → memoryWords ≤ length m → isIn (b .present) j ≡ true → f ≡ (T .asked .inner && leb (maxCells (T .asked)) (t .kept)) → f ≡ false
+      → ends ≡ isIn (b .terminal) j → Does T (λ i. add (T by byId T) (grown i (childAt b j)) ends) m t m′ r
+      → Does T (λ i. addAll (T by byId T) i (childIf b j)) m t m′ r
   unfolding addAll
-  child-added m t m′ r b j f ends h e ef t′ d = does-as q hits within (λ i. add q hits within (byId q hits within) (grown i (childAt b j)) ends)
-      (λ i. addAll q hits within (byId q hits within) i (childIf b j)) m t m′ r
-      (λ i s S. rw (child-there b j e, addAll, full-is m t s f h S ef ∙ t′, ← d) (then-going (add q hits within (byId q hits within) (grown i (childAt b j)) ends s)))
+  child-added m t m′ r b j f ends h e ef t′ d = does-as T (λ i. add (T by byId T) (grown i (childAt b j)) ends)
+      (λ i. addAll (T by byId T) i (childIf b j)) m t m′ r
+      (λ i s S. rw (child-there b j e, addAll, full-is m t s f h S ef ∙ t′, ← d) (then-going (add (T by byId T) (grown i (childAt b j)) ends s)))
 
   -- ---- adding a candidate, each way that the code goes
 
-  module _ (m : List ℕ) (t : Counts) (id : ℕ) (b : Bool) (C : ChildOk q hits within (record { id = id; ends = b })) where
-    pub add-kept : (m′ : List ℕ) (r : Turn) → b ≡ true → Does q hits within (λ i. keep (grown i id)) m t m′ r → AsideUpTo (t .aside) r
-        → Does q hits within (λ i. add q hits within (byId q hits within) (grown i id) b) m t m′ r × AsideUpTo (t .aside + leavesOf id) r
+  module _ (m : List ℕ) (t : Counts) (id : ℕ) (b : Bool) (C : ChildOk T (record { id = id; ends = b })) where
+    pub add-kept : (m′ : List ℕ) (r : Turn) → b ≡ true → Does T (λ i. keep (grown i id)) m t m′ r → AsideUpTo (t .aside) r
+        → Does T (λ i. add (T by byId T) (grown i id) b) m t m′ r × AsideUpTo (t .aside + leavesOf id) r
     add-kept m′ r e d a = (adds-kept m t m′ r id b e d, up-to (t .aside) _ r (omega arith) a)
 
-    pub add-empty : (f : Found) (n : ℕ) (u : Counts) → b ≡ false → f ≡ found q hits within (depth q id) id → f .present ≡ 0 → n ≡ lowBit id → u ≡ asideOf (q .inner) t n
-        → Does q hits within (λ i. add q hits within (byId q hits within) (grown i id) b) m t m (Turn.Going u) × AsideUpTo (t .aside + leavesOf id) (Turn.Going u)
+    pub add-empty : (f : Found) (n : ℕ) (u : Counts) → b ≡ false → f ≡ found T (depth (T .asked) id) id → f .present ≡ 0 → n ≡ lowBit id → u ≡ asideOf (T .asked .inner) t n
+        → Does T (λ i. add (T by byId T) (grown i id) b) m t m (Turn.Going u) × AsideUpTo (t .aside + leavesOf id) (Turn.Going u)
     unfolding AsideUpTo
     add-empty f n u e ef z en eu =
         let Q = queued id b e C in
         let l : n ≡ leavesOf id = en ∙ low-leaves id (C .fit .cell) in (
           adds-open m t m (Turn.Going u) id b e (rw eu (adds-none m t id n Q (ap (λ (x : Found). x .present) (sym ef) ∙ z) l)),
-          omega (arith, ap (λ (x : Counts). x .aside) eu, aside-le (q .inner) t n),
+          omega (arith, ap (λ (x : Counts). x .aside) eu, aside-le (T .asked .inner) t n),
         )
 
-    module _ (f : Found) (v : Rule) (lift : Bool) (m′ : List ℕ) (r : Turn) (e : b ≡ false) (ef : f ≡ found q hits within (depth q id) id) (some : f .present ≡ 0 → ⊥) (ev : v ≡ ruleOf q hits within)
-        (is : lift ≡ (not (q .inner) && (leb (q .minLevel) (levelOf id) && eqb (ones (f .terminal)) (v .full)))) where
-      some-is : found q hits within (depth q id) id .present ≡ 0 → ⊥
+    module _ (f : Found) (v : Rule) (lift : Bool) (m′ : List ℕ) (r : Turn) (e : b ≡ false) (ef : f ≡ found T (depth (T .asked) id) id) (some : f .present ≡ 0 → ⊥) (ev : v ≡ ruleOf T)
+        (is : lift ≡ (not (T .asked .inner) && (leb (minLevel (T .asked)) (levelOf id) && eqb (ones (f .terminal)) (v .full)))) where
+      some-is : found T (depth (T .asked) id) id .present ≡ 0 → ⊥
       some-is z = some (ap (λ (x : Found). x .present) ef ∙ z)
 
-      lift-is : lift ≡ (not (q .inner) && (leb (q .minLevel) (levelOf id) && eqb (ones (found q hits within (depth q id) id .terminal)) (full q)))
-      lift-is = is ∙ ap₂ (λ (x : Found) (y : Rule). not (q .inner) && (leb (q .minLevel) (levelOf id) && eqb (ones (x .terminal)) (y .full))) ef ev
+      lift-is : lift ≡ (not (T .asked .inner) && (leb (minLevel (T .asked)) (levelOf id) && eqb (ones (found T (depth (T .asked) id) id .terminal)) (full (T .asked))))
+      lift-is = is ∙ ap₂ (λ (x : Found) (y : Rule). not (T .asked .inner) && (leb (minLevel (T .asked)) (levelOf id) && eqb (ones (x .terminal)) (y .full))) ef ev
 
-      pub add-lifted : lift ≡ true → Does q hits within (λ i. keep (grown i id)) m t m′ r → AsideUpTo (t .aside) r
-          → Does q hits within (λ i. add q hits within (byId q hits within) (grown i id) b) m t m′ r × AsideUpTo (t .aside + leavesOf id) r
+      pub add-lifted : lift ≡ true → Does T (λ i. keep (grown i id)) m t m′ r → AsideUpTo (t .aside) r
+          → Does T (λ i. add (T by byId T) (grown i id) b) m t m′ r × AsideUpTo (t .aside + leavesOf id) r
       add-lifted l d a = (adds-open m t m′ r id b e (adds-lifted m t m′ r id some-is lift lift-is l d), up-to (t .aside) _ r (omega arith) a)
 
       pub add-queued : lift ≡ false
-          → (v ≡ ruleOf q hits within → record { id = id; present = f .present; terminal = f .terminal } ≡ recOf q hits within (grown 0 id)
-          → Does q hits within (λ i. enqueue (byId q hits within) (grown i id)) m t m′ r) → AsideUpTo (t .aside) r
-          → Does q hits within (λ i. add q hits within (byId q hits within) (grown i id) b) m t m′ r × AsideUpTo (t .aside + leavesOf id) r
+          → (v ≡ ruleOf T → record { id = id; present = f .present; terminal = f .terminal } ≡ recOf T (grown 0 id)
+          → Does T (λ i. enqueue (byId T) (grown i id)) m t m′ r) → AsideUpTo (t .aside) r
+          → Does T (λ i. add (T by byId T) (grown i id) b) m t m′ r × AsideUpTo (t .aside + leavesOf id) r
       add-queued l d a =
           let rec : Found → Rec = λ x. record { id = id; present = x .present; terminal = x .terminal } in
           (adds-open m t m′ r id b e (adds-queued m t m′ r id some-is lift lift-is l (d ev (ap rec ef))), up-to (t .aside) _ r (omega arith) a)

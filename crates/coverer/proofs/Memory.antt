@@ -1,16 +1,21 @@
 -- Laws of the parts of the working memory, at any word a and any bound b.
 use mathlib.Core.Path.{_≡_, refl, sym, ap, ap₂, _∙_}
 use mathlib.Core.List.{List, [], _∷_, _++_, append-assoc}
-use Prim.Native.Nat.{ℕ, _+_, _-_, _≤_, _<_}
+use Prim.Native.Nat.{ℕ, _+_, _-_, _*_, _≤_, _<_}
 use native.Mathlib.Numerals.{add-one}
 use native.Mathlib.Nat.{sub-zero}
 use native.Mathlib.Omega.{arith}
 use lib.ListN.{length, take, drop, set, length-append, length-drop}
 use lib.Seq.{length-take-le, drop-drop, drop-set-lt, drop-set-add, take-suc-set, take-append-add, drop-append-add}
 use Rattle.cellunion.specs.Memory.{zeros, laid}
-use Rattle.cellunion.proofs.Memory.{drop-more, laid-start, length-laid, length-zeros}
-use Rattle.coverer.specs.Coverer.{cleared, holding}
+use Rattle.cellunion.proofs.Memory.{drop-more, laid-start, length-zeros}
+use Rattle.run.specs.Run.{queueMost, rawMost, queueWords, memoryWords}
+use Rattle.coverer.specs.Coverer.{cleared, onlyWords}
 use Rattle.coverer.specs.Engine.{wordsAt, past}
+
+-- the sizes fit together: three words for each record of the queue, and a word for each kept id
+pub sizes : (queueWords ≡ 3 * queueMost) × (memoryWords ≡ queueWords + rawMost)
+sizes = (refl, refl)
 
 -- ---- words of a part
 
@@ -41,9 +46,6 @@ past-later a b m m′ h e = drop-more a b m′ m h e
 
 -- ---- what a run leaves
 
-pub length-cleared : (a b : ℕ) (m : List ℕ) → a ≤ b → b ≤ length m → length (cleared a b m) ≡ length m
-length-cleared a b m h g = length-laid (zeros (b - a)) m a (omega (arith, length-zeros (b - a)))
-
 front : (b : ℕ) (m : List ℕ) → cleared 0 b m ≡ zeros b ++ drop b m
 front b m = laid-start (zeros (b - 0)) m ∙ rw (length-zeros (b - 0), sub-zero)
 
@@ -59,10 +61,10 @@ drop-over : (xs ys : List ℕ) (a k : ℕ) → length xs ≡ a → drop (a + k) 
 drop-over xs ys a k e = ap (λ (n : ℕ). drop (n + k) (xs ++ ys)) (sym e) ∙ drop-append-add xs ys k
 
 -- the words before a and from a + k to b cleared, the k words between being l
-pub cleared-holding : (a b k : ℕ) (l m m′ : List ℕ) → a + k ≤ b → b ≤ length m′ → wordsAt a k m′ ≡ l → past b m′ ≡ past b m
-    → cleared (a + k) b (cleared 0 a m′) ≡ holding a b l m
-unfolding laid holding past wordsAt
-cleared-holding a b k l m m′ h g e d =
+pub cleared-only : (a b k : ℕ) (l m m′ : List ℕ) → a + k ≤ b → b ≤ length m′ → wordsAt a k m′ ≡ l → past b m′ ≡ past b m
+    → cleared (a + k) b (cleared 0 a m′) ≡ onlyWords a b l m
+unfolding laid onlyWords past wordsAt
+cleared-only a b k l m m′ h g e d =
     let n : length l ≡ k = ap length (sym e) ∙ length-take-le k (drop a m′) (omega (arith, length-drop a m′)) in
     let z : a + (b - a) ≡ b = omega arith in
     let y : (a + k) + length (zeros (b - (a + k))) ≡ b = omega (arith, length-zeros (b - (a + k))) in
@@ -78,28 +80,24 @@ cleared-holding a b k l m m′ h g e d =
 
 -- ---- for those who use what a run leaves
 
-pub length-holding : (a b : ℕ) (l m : List ℕ) → a + length l ≤ b → b ≤ length m → length (holding a b l m) ≡ length m
-unfolding holding
-length-holding a b l m h g = simp (length-append, length-zeros, length-drop) (omega arith)
-
 -- where the length stayed, the kept words had room
-pub holding-room : (a b : ℕ) (l m : List ℕ) → a ≤ b → b ≤ length m → length (holding a b l m) ≡ length m → a + length l ≤ b
-unfolding holding
-holding-room a b l m h g e = omega (arith, simp (length-append, length-zeros, length-drop) at e)
+pub only-room : (a b : ℕ) (l m : List ℕ) → a ≤ b → b ≤ length m → length (onlyWords a b l m) ≡ length m → a + length l ≤ b
+unfolding onlyWords
+only-room a b l m h g e = omega (arith, simp (length-append, length-zeros, length-drop) at e)
 
 -- the kept words, and what follows them
-pub holding-words : (a b : ℕ) (l m : List ℕ) → drop a (holding a b l m) ≡ l ++ (zeros (b - (a + length l)) ++ drop b m)
-unfolding holding
-holding-words a b l m =
+pub only-words : (a b : ℕ) (l m : List ℕ) → drop a (onlyWords a b l m) ≡ l ++ (zeros (b - (a + length l)) ++ drop b m)
+unfolding onlyWords
+only-words a b l m =
     let z : a + 0 ≡ a = omega arith in
-    ap (λ (j : ℕ). drop j (holding a b l m)) (sym z) ∙ drop-over (zeros a) (l ++ (zeros (b - (a + length l)) ++ drop b m)) a 0 (length-zeros a)
+    ap (λ (j : ℕ). drop j (onlyWords a b l m)) (sym z) ∙ drop-over (zeros a) (l ++ (zeros (b - (a + length l)) ++ drop b m)) a 0 (length-zeros a)
 
-pub holding-past : (a b : ℕ) (l m : List ℕ) → a + length l ≤ b → drop b (holding a b l m) ≡ drop b m
-unfolding holding
-holding-past a b l m h =
+pub only-past : (a b : ℕ) (l m : List ℕ) → a + length l ≤ b → drop b (onlyWords a b l m) ≡ drop b m
+unfolding onlyWords
+only-past a b l m h =
     let n = b - (a + length l) in
     let z : a + (length l + (n + 0)) ≡ b = omega arith in
-    ap (λ (j : ℕ). drop j (holding a b l m)) (sym z)
+    ap (λ (j : ℕ). drop j (onlyWords a b l m)) (sym z)
     ∙ drop-over (zeros a) (l ++ (zeros n ++ drop b m)) a (length l + (n + 0)) (length-zeros a)
     ∙ drop-over l (zeros n ++ drop b m) (length l) (n + 0) refl
     ∙ drop-over (zeros n) (drop b m) n 0 (length-zeros n)

@@ -10,10 +10,9 @@ use lib.ListN.{length, getD, drop}
 use lib.Seq.{drop-cons, drop-length}
 use Rattle.cellid.specs.CellId.{leavesOf, lowBit}
 use Rattle.order.specs.Order.{All}
-use Rattle.run.specs.Run.{Request, Grown, State, Outcome, refused, going, then, isEmpty, Look, fails, none, terminal, divide, look, sumOf, byId, setAside, add, step, startAs, startAll, placed, nothing, after, loop, run}
-use Rattle.run.specs.Ground.{Fit}
+use Rattle.run.specs.Run.{Grown, State, Outcome, refused, going, then, isEmpty, Look, fails, none, terminal, divide, look, sumOf, byId, setAside, add, step, startAs, startAll, placed, nothing, after, loop, run, Task, _by_, memoryWords}
+use Rattle.run.specs.Ground.{Fit, ChildOk}
 use Rattle.run.proofs.Looks.{MeansBy, look-means}
-use Rattle.run.proofs.Ground.{ChildOk}
 use Rattle.run.proofs.Steps.{steps-one, steps-none}
 use Rattle.run.proofs.Turns.{loop-end}
 use Rattle.candidate.specs.declared.Candidate.{Candidate}
@@ -40,104 +39,96 @@ queued-look none e = let z : _≡_ {A = ℕ} 0 1 = cc in absurd (omega arith)
 queued-look terminal e = let z : _≡_ {A = ℕ} 0 1 = cc in absurd (omega arith)
 queued-look divide e = refl
 
--- ---- lists
-
-pub all-get : (P : ℕ → Type 0) (l : List ℕ) (i : ℕ) → i < length l → All P l → P (getD l i 0)
-unfolding All
-all-get P [] i h a = absurd (omega arith)
-all-get P (x ∷ l) zero h a = a .0
-all-get P (x ∷ l) (suc i) h a = all-get P l i (omega arith) (a .1)
-
-module _ (q : Request) (hits within : ℕ → Bool) where
+module _ (T : Task) where
   abbrev lt : Grown → Grown → Bool
-  lt = byId q hits within
+  lt = byId T
 
   -- ---- a start cell
 
-  module _ (m : List ℕ) (t : Counts) (id : ℕ) (c : Candidate) (is : c ≡ candidateOf (look q hits within id)) where
-    pub start-kept-ok : Fit q id → c ≡ Candidate.Kept → ChildOk q hits within (record { id = id; ends = true })
-    start-kept-ok F e = record { fit = F; seen = kept-look (look q hits within id) (sym is ∙ e) }
+  module _ (m : List ℕ) (t : Counts) (id : ℕ) (c : Candidate) (is : c ≡ candidateOf (look T id)) where
+    pub start-kept-ok : Fit (T .asked) id → c ≡ Candidate.Kept → ChildOk T (record { id = id; ends = true })
+    start-kept-ok F e = record { fit = F; seen = kept-look (look T id) (sym is ∙ e) }
 
-    pub start-queued-ok : Fit q id → c ≡ Candidate.Queued → ChildOk q hits within (record { id = id; ends = false })
-    start-queued-ok F e = record { fit = F; seen = queued-look (look q hits within id) (sym is ∙ e) }
+    pub start-queued-ok : Fit (T .asked) id → c ≡ Candidate.Queued → ChildOk T (record { id = id; ends = false })
+    start-queued-ok F e = record { fit = F; seen = queued-look (look T id) (sym is ∙ e) }
 
-    pub start-kept : (m′ : List ℕ) (r : Turn) → c ≡ Candidate.Kept → Does q hits within (λ i. add q hits within lt (grown i id) true) m t m′ r
-        → Does q hits within (λ i. startAs q hits within lt (look q hits within id) (grown i id)) m t m′ r
+    pub start-kept : (m′ : List ℕ) (r : Turn) → c ≡ Candidate.Kept → Does T (λ i. add (T by byId T) (grown i id) true) m t m′ r
+        → Does T (λ i. startAs (T by byId T) (look T id) (grown i id)) m t m′ r
     unfolding startAs
-    start-kept m′ r e = does-as q hits within (λ i. add q hits within lt (grown i id) true) (λ i. startAs q hits within lt (look q hits within id) (grown i id)) m t m′ r
-        (λ i s S. ap (λ (v : Look). startAs q hits within lt v (grown i id) s) (kept-look (look q hits within id) (sym is ∙ e)))
+    start-kept m′ r e = does-as T (λ i. add (T by byId T) (grown i id) true) (λ i. startAs (T by byId T) (look T id) (grown i id)) m t m′ r
+        (λ i s S. ap (λ (v : Look). startAs (T by byId T) v (grown i id) s) (kept-look (look T id) (sym is ∙ e)))
 
-    pub start-queued : (m′ : List ℕ) (r : Turn) → c ≡ Candidate.Queued → Does q hits within (λ i. add q hits within lt (grown i id) false) m t m′ r
-        → Does q hits within (λ i. startAs q hits within lt (look q hits within id) (grown i id)) m t m′ r
+    pub start-queued : (m′ : List ℕ) (r : Turn) → c ≡ Candidate.Queued → Does T (λ i. add (T by byId T) (grown i id) false) m t m′ r
+        → Does T (λ i. startAs (T by byId T) (look T id) (grown i id)) m t m′ r
     unfolding startAs
-    start-queued m′ r e = does-as q hits within (λ i. add q hits within lt (grown i id) false) (λ i. startAs q hits within lt (look q hits within id) (grown i id)) m t m′ r
-        (λ i s S. ap (λ (v : Look). startAs q hits within lt v (grown i id) s) (queued-look (look q hits within id) (sym is ∙ e)))
+    start-queued m′ r e = does-as T (λ i. add (T by byId T) (grown i id) false) (λ i. startAs (T by byId T) (look T id) (grown i id)) m t m′ r
+        (λ i s S. ap (λ (v : Look). startAs (T by byId T) v (grown i id) s) (queued-look (look T id) (sym is ∙ e)))
 
-  none-gives : (m : List ℕ) (t : Counts) (id n i : ℕ) (s : State) (v : Look) → n ≡ leavesOf id → look q hits within id ≡ v → candidateOf v ≡ Candidate.None → Stands q hits within m t s
-      → Gives q hits within m (Turn.Going (asideOf (q .inner) t n)) (startAs q hits within lt v (grown i id) s)
+  none-gives : (m : List ℕ) (t : Counts) (id n i : ℕ) (s : State) (v : Look) → n ≡ leavesOf id → look T id ≡ v → candidateOf v ≡ Candidate.None → Stands T m t s
+      → Gives T m (Turn.Going (asideOf (T .asked .inner) t n)) (startAs (T by byId T) v (grown i id) s)
   unfolding Gives startAs candidateOf MeansBy sumOf
-  none-gives m t id n i s fails e l c S = (setAside q i (id ∷ []) s, refl, sets-aside q hits within m t n i (id ∷ []) s (λ o. e ∙ omega arith) S)
-  none-gives m t id n i s none e l c S = (s, refl, rw (aside-in (q .inner) t n (look-means q hits within id none l)) S)
+  none-gives m t id n i s fails e l c S = (setAside (T .asked) i (id ∷ []) s, refl, sets-aside T m t n i (id ∷ []) s (λ o. e ∙ omega arith) S)
+  none-gives m t id n i s none e l c S = (s, refl, rw (aside-in (T .asked .inner) t n (look-means T id none l)) S)
   none-gives m t id n i s terminal e l c S = let z : _≡_ {A = ℕ} 0 1 = cc in absurd (omega arith)
   none-gives m t id n i s divide e l c S = let z : _≡_ {A = ℕ} 0 1 = cc in absurd (omega arith)
 
-  pub start-none : (m : List ℕ) (t u : Counts) (id n : ℕ) (c : Candidate) → Fit q id → c ≡ candidateOf (look q hits within id) → c ≡ Candidate.None → n ≡ lowBit id → u ≡ asideOf (q .inner) t n
-      → Does q hits within (λ i. startAs q hits within lt (look q hits within id) (grown i id)) m t m (Turn.Going u) × AsideUpTo (t .aside + leavesOf id) (Turn.Going u)
+  pub start-none : (m : List ℕ) (t u : Counts) (id n : ℕ) (c : Candidate) → Fit (T .asked) id → c ≡ candidateOf (look T id) → c ≡ Candidate.None → n ≡ lowBit id → u ≡ asideOf (T .asked .inner) t n
+      → Does T (λ i. startAs (T by byId T) (look T id) (grown i id)) m t m (Turn.Going u) × AsideUpTo (t .aside + leavesOf id) (Turn.Going u)
   unfolding AsideUpTo
   start-none m t u id n c F is e en eu =
       let l : n ≡ leavesOf id = en ∙ low-leaves id (F .cell) in (
-        record { gives = λ i s S. rw eu (none-gives m t id n i s (look q hits within id) l refl (sym is ∙ e) S); frame = refl },
-        omega (arith, l, ap (λ (x : Counts). x .aside) eu, aside-le (q .inner) t n),
+        record { gives = λ i s S. rw eu (none-gives m t id n i s (look T id) l refl (sym is ∙ e) S); frame = refl },
+        omega (arith, l, ap (λ (x : Counts). x .aside) eu, aside-le (T .asked .inner) t n),
       )
 
   -- ---- the start cells, one after another: l are all of them, i of them are done
 
   pub record Starting (l : List ℕ) (m₀ m : List ℕ) (t : Counts) (i : ℕ) : Type 0 where
     pub state : State
-    pub stands : Stands q hits within m t state
-    pub rest : startAll q hits within lt (placed i (drop i l)) state ≡ after q hits within lt l 0
+    pub stands : Stands T m t state
+    pub rest : startAll (T by byId T) (placed i (drop i l)) state ≡ after (T by byId T) l 0
     pub room : t .aside ≤ i * 2 ^ 60
-    pub frame : past 4096 m ≡ past 4096 m₀
+    pub frame : past memoryWords m ≡ past memoryWords m₀
 
   pub starting : (l m : List ℕ) → Starting l m m (record { kept = 0; queued = 0; aside = 0; steps = 0 }) 0
   unfolding after
-  starting l m = record { state = nothing; stands = stands-nothing q hits within m; rest = refl; room = omega arith; frame = refl }
+  starting l m = record { state = nothing; stands = stands-nothing T m; rest = refl; room = omega arith; frame = refl }
 
   turned : (l : List ℕ) (i x : ℕ) (s : State) → i < length l → x ≡ getD l i 0
-      → startAll q hits within lt (placed i (drop i l)) s ≡ then (startAs q hits within lt (look q hits within x) (grown i x) s) (startAll q hits within lt (placed (i + 1) (drop (i + 1) l)))
+      → startAll (T by byId T) (placed i (drop i l)) s ≡ then (startAs (T by byId T) (look T x) (grown i x) s) (startAll (T by byId T) (placed (i + 1) (drop (i + 1) l)))
   unfolding startAll placed
   turned l i x s h e = rw (add-one i, drop-cons l i 0 h, e)
 
   pub starting-turn : (l m₀ m : List ℕ) (t : Counts) (i x : ℕ) (m′ : List ℕ) (r : Turn) (u : Counts) → i < length l → x ≡ getD l i 0 → r ≡ Turn.Going u → leavesOf x ≤ 2 ^ 60
-      → Does q hits within (λ j. startAs q hits within lt (look q hits within x) (grown j x)) m t m′ r → AsideUpTo (t .aside + leavesOf x) r → Starting l m₀ m t i → Starting l m₀ m′ u (i + 1)
+      → Does T (λ j. startAs (T by byId T) (look T x) (grown j x)) m t m′ r → AsideUpTo (t .aside + leavesOf x) r → Starting l m₀ m t i → Starting l m₀ m′ u (i + 1)
   unfolding Gives then AsideUpTo
   starting-turn l m₀ m t i x m′ r u h ex er le d a I =
-      let g = subst (λ (y : Turn). Gives q hits within m′ y (startAs q hits within lt (look q hits within x) (grown i x) (I .state))) er (d .gives i (I .state) (I .stands)) in
+      let g = subst (λ (y : Turn). Gives T m′ y (startAs (T by byId T) (look T x) (grown i x) (I .state))) er (d .gives i (I .state) (I .stands)) in
       let aside : u .aside ≤ t .aside + leavesOf x = subst (AsideUpTo (t .aside + leavesOf x)) er a in
       record {
         state = g .0;
         stands = g .2;
-        rest = sym (turned l i x (I .state) h ex ∙ ap (λ (o : Outcome). then o (startAll q hits within lt (placed (i + 1) (drop (i + 1) l)))) (g .1)) ∙ I .rest;
+        rest = sym (turned l i x (I .state) h ex ∙ ap (λ (o : Outcome). then o (startAll (T by byId T) (placed (i + 1) (drop (i + 1) l)))) (g .1)) ∙ I .rest;
         room = omega (arith, I .room);
         frame = d .frame ∙ I .frame;
       }
 
   pub starting-stop : (l m₀ m : List ℕ) (t : Counts) (i x : ℕ) (m′ : List ℕ) (r : Turn) (n : ℕ) → i < length l → x ≡ getD l i 0 → r ≡ Turn.Refused n
-      → Does q hits within (λ j. startAs q hits within lt (look q hits within x) (grown j x)) m t m′ r → Starting l m₀ m t i → Comes q hits within (after q hits within lt l 0) m₀ m′ (Turn.Refused n)
+      → Does T (λ j. startAs (T by byId T) (look T x) (grown j x)) m t m′ r → Starting l m₀ m t i → Comes T (after (T by byId T) l 0) m₀ m′ (Turn.Refused n)
   unfolding Gives then
   starting-stop l m₀ m t i x m′ r n h ex er d I =
-      let g = subst (λ (y : Turn). Gives q hits within m′ y (startAs q hits within lt (look q hits within x) (grown i x) (I .state))) er (d .gives i (I .state) (I .stands)) in
+      let g = subst (λ (y : Turn). Gives T m′ y (startAs (T by byId T) (look T x) (grown i x) (I .state))) er (d .gives i (I .state) (I .stands)) in
       record {
-        gives = sym (I .rest) ∙ turned l i x (I .state) h ex ∙ ap (λ (o : Outcome). then o (startAll q hits within lt (placed (i + 1) (drop (i + 1) l)))) g;
+        gives = sym (I .rest) ∙ turned l i x (I .state) h ex ∙ ap (λ (o : Outcome). then o (startAll (T by byId T) (placed (i + 1) (drop (i + 1) l)))) g;
         frame = d .frame ∙ I .frame;
       }
 
-  pub starting-end : (l m₀ m : List ℕ) (t : Counts) (i : ℕ) → i ≡ length l → Starting l m₀ m t i → Comes q hits within (after q hits within lt l 0) m₀ m (Turn.Going t)
+  pub starting-end : (l m₀ m : List ℕ) (t : Counts) (i : ℕ) → i ≡ length l → Starting l m₀ m t i → Comes T (after (T by byId T) l 0) m₀ m (Turn.Going t)
   unfolding Gives startAll placed
   starting-end l m₀ m t i e I =
       let d : drop i l ≡ [] = ap (λ (j : ℕ). drop j l) e ∙ drop-length l in
       record {
-        gives = (I .state, sym (I .rest) ∙ ap (λ (x : List ℕ). startAll q hits within lt (placed i x) (I .state)) d, I .stands);
+        gives = (I .state, sym (I .rest) ∙ ap (λ (x : List ℕ). startAll (T by byId T) (placed i x) (I .state)) d, I .stands);
         frame = I .frame;
       }
 
@@ -152,52 +143,52 @@ module _ (q : Request) (hits within : ℕ → Bool) where
   nil-is [] h = refl
   nil-is (x ∷ l) h = absurd (omega arith)
 
-  waiting : {m : List ℕ} {t : Counts} {s : State} → 0 < t .queued → Stands q hits within m t s → isEmpty (s .queue) ≡ false
-  waiting {m} {t} {s} h S = empty-is (s .queue) (omega (arith, queue-length q hits within S))
+  waiting : {m : List ℕ} {t : Counts} {s : State} → 0 < t .queued → Stands T m t s → isEmpty (s .queue) ≡ false
+  waiting {m} {t} {s} h S = empty-is (s .queue) (omega (arith, queue-length T S))
 
-  loop-step : (a : ℕ) (s : State) → isEmpty (s .queue) ≡ false → loop q hits within lt (suc a) s ≡ then (step q hits within lt s) (loop q hits within lt a)
+  loop-step : (a : ℕ) (s : State) → isEmpty (s .queue) ≡ false → loop (T by byId T) (suc a) s ≡ then (step (T by byId T) s) (loop (T by byId T) a)
   unfolding loop
   loop-step a s e = rw (e, loop)
 
-  loop-spent : (s : State) → isEmpty (s .queue) ≡ false → loop q hits within lt 0 s ≡ refused 9
+  loop-spent : (s : State) → isEmpty (s .queue) ≡ false → loop (T by byId T) 0 s ≡ refused 9
   unfolding loop
   loop-spent s e = rw (e, loop)
 
   pub record Going (k : ℕ) (m₀ : List ℕ) (t₀ : Counts) (m : List ℕ) (t : Counts) : Type 0 where
     pub state : State
-    pub reached : Reached q hits within state
-    pub stands : Stands q hits within m t state
+    pub reached : Reached T state
+    pub stands : Stands T m t state
     pub left : t .steps ≤ k
-    pub goes : Goes q hits within (λ i. loop q hits within lt (k - t₀ .steps)) (λ i. loop q hits within lt (k - t .steps)) m₀ t₀ m t
+    pub goes : Goes T (λ i. loop (T by byId T) (k - t₀ .steps)) (λ i. loop (T by byId T) (k - t .steps)) m₀ t₀ m t
 
   module _ (k : ℕ) (m₀ : List ℕ) (t₀ : Counts) (m : List ℕ) (t : Counts) (I : Going k m₀ t₀ m t) where
-    pub going-spent : 0 < t .queued → t .steps ≡ k → Does q hits within (λ i. loop q hits within lt (k - t₀ .steps)) m₀ t₀ m (Turn.Refused 9)
+    pub going-spent : 0 < t .queued → t .steps ≡ k → Does T (λ i. loop (T by byId T) (k - t₀ .steps)) m₀ t₀ m (Turn.Refused 9)
     unfolding Gives
     going-spent h e =
         let z : k - t .steps ≡ 0 = omega arith in
-        goes-on q hits within _ _ m₀ t₀ m t m (Turn.Refused 9) (record { gives = λ i s S. ap (λ (n : ℕ). loop q hits within lt n s) z ∙ loop-spent s (waiting h S); frame = refl }) (I .goes)
+        goes-on T _ _ m₀ t₀ m t m (Turn.Refused 9) (record { gives = λ i s S. ap (λ (n : ℕ). loop (T by byId T) n s) z ∙ loop-spent s (waiting h S); frame = refl }) (I .goes)
 
-    pub going-end : t .queued ≤ 0 → Does q hits within (λ i. loop q hits within lt (k - t₀ .steps)) m₀ t₀ m (Turn.Going t)
-    going-end h = goes-end q hits within _ _ m₀ t₀ m t (λ i s S. loop-end q hits within lt (k - t .steps) s (nil-is (s .queue) (omega (arith, queue-length q hits within S)))) (I .goes)
+    pub going-end : t .queued ≤ 0 → Does T (λ i. loop (T by byId T) (k - t₀ .steps)) m₀ t₀ m (Turn.Going t)
+    going-end h = goes-end T _ _ m₀ t₀ m t (λ i s S. loop-end T (byId T) (k - t .steps) s (nil-is (s .queue) (omega (arith, queue-length T S)))) (I .goes)
 
-    module _ (m′ : List ℕ) (r : Turn) (some : 0 < t .queued) (left : t .steps ≡ k → ⊥) (d : Does q hits within (λ i. step q hits within lt) m t m′ r) where
-      more : (i : ℕ) (s : State) → Stands q hits within m t s → loop q hits within lt (k - t .steps) s ≡ then (step q hits within lt s) (loop q hits within lt (k - (t .steps + 1)))
+    module _ (m′ : List ℕ) (r : Turn) (some : 0 < t .queued) (left : t .steps ≡ k → ⊥) (d : Does T (λ i. step (T by byId T)) m t m′ r) where
+      more : (i : ℕ) (s : State) → Stands T m t s → loop (T by byId T) (k - t .steps) s ≡ then (step (T by byId T) s) (loop (T by byId T) (k - (t .steps + 1)))
       more i s S =
           let left-over : t .steps ≤ k = I .left in
           let z : k - t .steps ≡ suc (k - (t .steps + 1)) = omega arith in
-          ap (λ (n : ℕ). loop q hits within lt n s) z ∙ loop-step (k - (t .steps + 1)) s (waiting some S)
+          ap (λ (n : ℕ). loop (T by byId T) n s) z ∙ loop-step (k - (t .steps + 1)) s (waiting some S)
 
-      pub going-stop : (n : ℕ) → r ≡ Turn.Refused n → Does q hits within (λ i. loop q hits within lt (k - t₀ .steps)) m₀ t₀ m′ (Turn.Refused n)
-      going-stop n e = goes-stop q hits within _ _ _ (λ i. loop q hits within lt (k - (t .steps + 1))) m₀ t₀ m t m′ n more (subst (Does q hits within (λ i. step q hits within lt) m t m′) e d) (I .goes)
+      pub going-stop : (n : ℕ) → r ≡ Turn.Refused n → Does T (λ i. loop (T by byId T) (k - t₀ .steps)) m₀ t₀ m′ (Turn.Refused n)
+      going-stop n e = goes-stop T _ _ _ (λ i. loop (T by byId T) (k - (t .steps + 1))) m₀ t₀ m t m′ n more (subst (Does T (λ i. step (T by byId T)) m t m′) e d) (I .goes)
 
       pub going-turn : (u : Counts) → r ≡ Turn.Going u → Going k m₀ t₀ m′ u × (u .steps ≡ t .steps + 1)
       unfolding Gives after then
       going-turn u e =
-          let d′ = subst (Does q hits within (λ i. step q hits within lt) m t m′) e d in
+          let d′ = subst (Does T (λ i. step (T by byId T)) m t m′) e d in
           let g = d′ .gives 0 (I .state) (I .stands) in
           let R = I .reached in
           let one : u .steps ≡ t .steps + 1 =
-          g .2 .steps ∙ steps-one q hits within lt (I .state) (g .0) (waiting some (I .stands)) (g .1) ∙ sym (ap suc (I .stands .steps)) ∙ sym (add-one (t .steps)) in
+          g .2 .steps ∙ steps-one T (byId T) (I .state) (g .0) (waiting some (I .stands)) (g .1) ∙ sym (ap suc (I .stands .steps)) ∙ sym (add-one (t .steps)) in
           let left-over : t .steps ≤ k = I .left in (
             record {
               state = g .0;
@@ -206,43 +197,43 @@ module _ (q : Request) (hits within : ℕ → Bool) where
                 fit = R .fit;
                 six = R .six;
                 steps = suc (R .steps);
-                is = ap (λ (o : Outcome). then o (step q hits within lt)) (R .is) ∙ g .1;
+                is = ap (λ (o : Outcome). then o (step (T by byId T))) (R .is) ∙ g .1;
               };
               stands = g .2;
               left = omega arith;
-              goes = goes-turn q hits within _ _ _ (λ i. loop q hits within lt (k - u .steps)) m₀ t₀ m t m′ u
-                  (λ i s S. more i s S ∙ ap (λ (n : ℕ). then (step q hits within lt s) (loop q hits within lt (k - n))) (sym one)) d′ (I .goes);
+              goes = goes-turn T _ _ _ (λ i. loop (T by byId T) (k - u .steps)) m₀ t₀ m t m′ u
+                  (λ i s S. more i s S ∙ ap (λ (n : ℕ). then (step (T by byId T) s) (loop (T by byId T) (k - n))) (sym one)) d′ (I .goes);
             },
             one,
           )
 
   -- ---- the whole run
 
-  module _ (l m m₁ : List ℕ) (r : Turn) (k : ℕ) (C : Comes q hits within (after q hits within lt l 0) m m₁ r) where
-    pub runs-refused : (n : ℕ) → r ≡ Turn.Refused n → Comes q hits within (run q hits within lt l k) m m₁ (Turn.Refused n)
+  module _ (l m m₁ : List ℕ) (r : Turn) (k : ℕ) (C : Comes T (after (T by byId T) l 0) m m₁ r) where
+    pub runs-refused : (n : ℕ) → r ≡ Turn.Refused n → Comes T (run (T by byId T) l k) m m₁ (Turn.Refused n)
     unfolding Gives run then
     runs-refused n e =
-        let g : after q hits within lt l 0 ≡ refused n = subst (λ (y : Turn). Gives q hits within m₁ y (after q hits within lt l 0)) e (C .gives) in
-        record { gives = ap (λ (o : Outcome). then o (loop q hits within lt k)) g; frame = C .frame }
+        let g : after (T by byId T) l 0 ≡ refused n = subst (λ (y : Turn). Gives T m₁ y (after (T by byId T) l 0)) e (C .gives) in
+        record { gives = ap (λ (o : Outcome). then o (loop (T by byId T) k)) g; frame = C .frame }
 
     module _ (t : Counts) (e : r ≡ Turn.Going t) where
-      started : (s : State) × (after q hits within lt l 0 ≡ going s) × Stands q hits within m₁ t s
+      started : (s : State) × (after (T by byId T) l 0 ≡ going s) × Stands T m₁ t s
       unfolding Gives
-      started = subst (λ (y : Turn). Gives q hits within m₁ y (after q hits within lt l 0)) e (C .gives)
+      started = subst (λ (y : Turn). Gives T m₁ y (after (T by byId T) l 0)) e (C .gives)
 
       no-steps : t .steps ≡ 0
-      no-steps = started .2 .steps ∙ steps-none q hits within lt l (started .0) (started .1)
+      no-steps = started .2 .steps ∙ steps-none T (byId T) l (started .0) (started .1)
 
-      pub runs-live : All (Fit q) l → length l ≤ 6 → (s : State) × Reached q hits within s × Stands q hits within m₁ t s
+      pub runs-live : All (Fit (T .asked)) l → length l ≤ 6 → (s : State) × Reached T s × Stands T m₁ t s
       runs-live a six = (started .0, record { starts = l; fit = a; six = six; steps = 0; is = started .1 }, started .2)
 
       pub runs-room : t .steps ≤ k
       runs-room = omega (arith, no-steps)
 
-      pub runs-on : (m₂ : List ℕ) (x : Turn) → Does q hits within (λ i. loop q hits within lt (k - t .steps)) m₁ t m₂ x → Comes q hits within (run q hits within lt l k) m m₂ x
+      pub runs-on : (m₂ : List ℕ) (x : Turn) → Does T (λ i. loop (T by byId T) (k - t .steps)) m₁ t m₂ x → Comes T (run (T by byId T) l k) m m₂ x
       unfolding run then
       runs-on m₂ x d =
           let z : k - t .steps ≡ k = ap (λ (n : ℕ). k - n) no-steps ∙ sub-zero k in
-          let o : run q hits within lt l k ≡ loop q hits within lt (k - t .steps) (started .0) =
-          ap (λ (y : Outcome). then y (loop q hits within lt k)) (started .1) ∙ ap (λ (n : ℕ). loop q hits within lt n (started .0)) (sym z) in
-          record { gives = subst (Gives q hits within m₂ x) (sym o) (d .gives 0 (started .0) (started .2)); frame = d .frame ∙ C .frame }
+          let o : run (T by byId T) l k ≡ loop (T by byId T) (k - t .steps) (started .0) =
+          ap (λ (y : Outcome). then y (loop (T by byId T) k)) (started .1) ∙ ap (λ (n : ℕ). loop (T by byId T) n (started .0)) (sym z) in
+          record { gives = subst (Gives T m₂ x) (sym o) (d .gives 0 (started .0) (started .2)); frame = d .frame ∙ C .frame }

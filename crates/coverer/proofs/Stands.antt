@@ -11,7 +11,7 @@ use Rattle.cellid.specs.CellId.{leavesOf}
 use Rattle.order.specs.Order.{insert}
 use Rattle.order.specs.Lex.{lexb}
 use Rattle.order.proofs.OrderLaws.{which}
-use Rattle.run.specs.Run.{Request, Grown, State, Outcome, going, then, keep, enqueue, setAside, byId, full, costOf, rawIds, asideTotal, sumOf, nothing}
+use Rattle.run.specs.Run.{Grown, State, Outcome, going, then, keep, enqueue, setAside, byId, full, costOf, rawIds, asideTotal, sumOf, nothing, Task, queueMost, rawMost, queueWords, memoryWords}
 use Rattle.run.proofs.Lists.{if-ok}
 use Rattle.run.proofs.Records.{keyOf, queue-more}
 use Rattle.run.proofs.Turns.{keep-go, keep-stop, enqueue-go, enqueue-stop}
@@ -19,7 +19,7 @@ use Rattle.run.proofs.Totals.{aside-more}
 use Rattle.queue.specs.declared.Rec.{Rec}
 use Rattle.queue.specs.declared.Rule.{Rule}
 use Rattle.queue.specs.Queue.{before, key, pushR, popR}
-use Rattle.queue.proofs.Laws.{heap, push-out, pop-out, getR-out}
+use Rattle.queue.proofs.Laws.{held, push-out, pop-out, getR-out}
 use Rattle.coverer.specs.declared.Counts.{Counts}
 use Rattle.coverer.specs.declared.Turn.{Turn}
 use Rattle.coverer.specs.Engine.{wordsAt, past, grown, ruleOf, recOf, Stands, Gives, Does, asideOf, AsideUpTo}
@@ -57,100 +57,100 @@ unfolding AsideUpTo
 up-to n k (Turn.Refused x) h a = tt
 up-to n k (Turn.Going t) h a = omega (arith, a)
 
-module _ (q : Request) (hits within : ℕ → Bool) where
+module _ (T : Task) where
   abbrev w : Rule
-  w = ruleOf q hits within
+  w = ruleOf T
 
   -- the records' order is by the key of their words
-  keyed : (i p t j r u : ℕ) → before w (record { id = i; present = p; terminal = t }) (record { id = j; present = r; terminal = u }) ≡ lexb (keyOf (full q) i p t) (keyOf (full q) j r u)
+  keyed : (i p t j r u : ℕ) → before w (record { id = i; present = p; terminal = t }) (record { id = j; present = r; terminal = u }) ≡ lexb (keyOf (full (T .asked)) i p t) (keyOf (full (T .asked)) j r u)
   unfolding before key costOf
   keyed i p t j r u = refl
 
-  more : (x : Grown) (l : List Grown) → map (recOf q hits within) (insert (byId q hits within) x l) ≡ insert (before w) (recOf q hits within x) (map (recOf q hits within) l)
-  more = queue-more q hits within (λ i p t. record { id = i; present = p; terminal = t }) (before w) keyed
+  more : (x : Grown) (l : List Grown) → map (recOf T) (insert (byId T) x l) ≡ insert (before w) (recOf T x) (map (recOf T) l)
+  more = queue-more T (λ i p t. record { id = i; present = p; terminal = t }) (before w) keyed
 
-  pub queue-length : {m : List ℕ} {t : Counts} {s : State} → Stands q hits within m t s → length (s .queue) ≡ t .queued
-  queue-length {m} {t} {s} S = sym (length-map (s .queue) (recOf q hits within)) ∙ heap w .size m (t .queued) (map (recOf q hits within) (s .queue)) (S .queue)
+  pub queue-length : {m : List ℕ} {t : Counts} {s : State} → Stands T m t s → length (s .queue) ≡ t .queued
+  queue-length {m} {t} {s} S = sym (length-map (s .queue) (recOf T)) ∙ held w .size m (t .queued) (map (recOf T) (s .queue)) (S .queue)
 
-  pub raw-length : {m : List ℕ} {t : Counts} {s : State} → 4096 ≤ length m → Stands q hits within m t s → length (s .raw) ≡ t .kept
+  pub raw-length : {m : List ℕ} {t : Counts} {s : State} → memoryWords ≤ length m → Stands T m t s → length (s .raw) ≡ t .kept
   unfolding rawIds
   raw-length {m} {t} {s} h S =
-      let room : t .kept ≤ 1024 = S .room in
-      sym (length-map (s .raw) (λ (c : Grown). c .id)) ∙ ap length (sym (S .raw)) ∙ words-length 3072 (t .kept) m (omega arith)
+      let room : t .kept ≤ rawMost = S .room in
+      sym (length-map (s .raw) (λ (c : Grown). c .id)) ∙ ap length (sym (S .raw)) ∙ words-length queueWords (t .kept) m (omega arith)
 
   -- ---- nothing yet
 
-  pub stands-nothing : (m : List ℕ) → Stands q hits within m (record { kept = 0; queued = 0; aside = 0; steps = 0 }) nothing
+  pub stands-nothing : (m : List ℕ) → Stands T m (record { kept = 0; queued = 0; aside = 0; steps = 0 }) nothing
   unfolding rawIds asideTotal sumOf
-  stands-nothing m = record { queue = heap w .none m; raw = words-none 3072 m; few = omega arith; room = omega arith; aside = refl; steps = refl }
+  stands-nothing m = record { queue = held w .none m; raw = words-none queueWords m; few = omega arith; room = omega arith; aside = refl; steps = refl }
 
   -- ---- one more kept
 
-  raw-more : (s : State) (c : Grown) (m m′ : List ℕ) (k : ℕ) → wordsAt 3072 k m ≡ rawIds s → wordsAt 3072 (k + 1) m′ ≡ wordsAt 3072 k m ++ (c .id ∷ [])
-      → wordsAt 3072 (k + 1) m′ ≡ rawIds (record { raw = s .raw ++ (c ∷ []); queue = s .queue; aside = s .aside; steps = s .steps })
+  raw-more : (s : State) (c : Grown) (m m′ : List ℕ) (k : ℕ) → wordsAt queueWords k m ≡ rawIds s → wordsAt queueWords (k + 1) m′ ≡ wordsAt queueWords k m ++ (c .id ∷ [])
+      → wordsAt queueWords (k + 1) m′ ≡ rawIds (record { raw = s .raw ++ (c ∷ []); queue = s .queue; aside = s .aside; steps = s .steps })
   unfolding rawIds
   raw-more s c m m′ k e d = d ∙ ap (λ (l : List ℕ). l ++ (c .id ∷ [])) e ∙ sym (map-append (λ (x : Grown). x .id) (s .raw) (c ∷ []))
 
-  pub keeps : (m : List ℕ) (t : Counts) (id : ℕ) → 4096 ≤ length m → t .kept < 1024
-      → Does q hits within (λ i. keep (grown i id)) m t (set m (3072 + t .kept) id) (Turn.Going (record { kept = t .kept + 1; queued = t .queued; aside = t .aside; steps = t .steps }))
+  pub keeps : (m : List ℕ) (t : Counts) (id : ℕ) → memoryWords ≤ length m → t .kept < rawMost
+      → Does T (λ i. keep (grown i id)) m t (set m (queueWords + t .kept) id) (Turn.Going (record { kept = t .kept + 1; queued = t .queued; aside = t .aside; steps = t .steps }))
   unfolding Gives asideTotal
   keeps m t id h g = record {
     gives = λ i s S.
-        let few : t .queued ≤ 1024 = S .few in (
+        let few : t .queued ≤ queueMost = S .few in (
           record { raw = s .raw ++ (grown i id ∷ []); queue = s .queue; aside = s .aside; steps = s .steps },
-          keep-go q hits within (byId q hits within) (grown i id) s (omega (arith, raw-length h S)),
+          keep-go T (byId T) (grown i id) s (omega (arith, raw-length h S)),
           record {
-            queue = heap w .only m _ (t .queued) (map (recOf q hits within) (s .queue)) (λ j b. getR-out m (3072 + t .kept) id j (omega arith)) (S .queue);
-            raw = raw-more s (grown i id) m _ (t .kept) (S .raw) (words-more 3072 (t .kept) id m (omega arith));
+            queue = held w .only m _ (t .queued) (map (recOf T) (s .queue)) (λ j b. getR-out m (queueWords + t .kept) id j (omega arith)) (S .queue);
+            raw = raw-more s (grown i id) m _ (t .kept) (S .raw) (words-more queueWords (t .kept) id m (omega arith));
             few = S .few;
             room = omega arith;
             aside = S .aside;
             steps = S .steps;
           },
         );
-    frame = past-set 4096 (3072 + t .kept) id m (omega arith);
+    frame = past-set memoryWords (queueWords + t .kept) id m (omega arith);
   }
 
-  pub keeps-not : (m : List ℕ) (t : Counts) (id : ℕ) → 4096 ≤ length m → 1024 ≤ t .kept → Does q hits within (λ i. keep (grown i id)) m t m (Turn.Refused 8)
+  pub keeps-not : (m : List ℕ) (t : Counts) (id : ℕ) → memoryWords ≤ length m → rawMost ≤ t .kept → Does T (λ i. keep (grown i id)) m t m (Turn.Refused 8)
   unfolding Gives
-  keeps-not m t id h g = record { gives = λ i s S. keep-stop q hits within (byId q hits within) (grown i id) s (omega (arith, raw-length h S)); frame = refl }
+  keeps-not m t id h g = record { gives = λ i s S. keep-stop T (byId T) (grown i id) s (omega (arith, raw-length h S)); frame = refl }
 
   -- ---- one more queued
 
-  queues : (m : List ℕ) (t : Counts) (r : Rec) → 4096 ≤ length m → t .queued < 1024 → r ≡ recOf q hits within (grown 0 (r .id))
-      → Does q hits within (λ i. enqueue (byId q hits within) (grown i (r .id))) m t (pushR w m (t .queued) r) (Turn.Going (record { kept = t .kept; queued = t .queued + 1; aside = t .aside; steps = t .steps }))
+  queues : (m : List ℕ) (t : Counts) (r : Rec) → memoryWords ≤ length m → t .queued < queueMost → r ≡ recOf T (grown 0 (r .id))
+      → Does T (λ i. enqueue (byId T) (grown i (r .id))) m t (pushR w m (t .queued) r) (Turn.Going (record { kept = t .kept; queued = t .queued + 1; aside = t .aside; steps = t .steps }))
   unfolding Gives asideTotal rawIds
   queues m t r h g e = record {
     gives = λ i s S. (
-      record { raw = s .raw; queue = insert (byId q hits within) (grown i (r .id)) (s .queue); aside = s .aside; steps = s .steps },
-      enqueue-go q hits within (byId q hits within) (grown i (r .id)) s (omega (arith, queue-length S)),
+      record { raw = s .raw; queue = insert (byId T) (grown i (r .id)) (s .queue); aside = s .aside; steps = s .steps },
+      enqueue-go T (byId T) (grown i (r .id)) s (omega (arith, queue-length S)),
       record {
         queue =
             rw (add-one (t .queued), more (grown i (r .id)) (s .queue), ← e)
-            (heap w .more m (t .queued) r (map (recOf q hits within) (s .queue)) (omega arith) (S .queue));
-        raw = words-past 3072 (t .kept) m _ (push-past w 1024 3072 m (t .queued) r g refl) ∙ S .raw;
+            (held w .more m (t .queued) r (map (recOf T) (s .queue)) (omega arith) (S .queue));
+        raw = words-past queueWords (t .kept) m _ (push-past w queueMost queueWords m (t .queued) r g refl) ∙ S .raw;
         few = omega arith;
         room = S .room;
         aside = S .aside;
         steps = S .steps;
       },
     );
-    frame = past-later 3072 4096 m _ (omega arith) (push-past w 1024 3072 m (t .queued) r g refl);
+    frame = past-later queueWords memoryWords m _ (omega arith) (push-past w queueMost queueWords m (t .queued) r g refl);
   }
 
-  pub queues-by : (m : List ℕ) (t : Counts) (v : Rule) (r : Rec) (m′ : List ℕ) → 4096 ≤ length m → t .queued < 1024 → v ≡ w → r ≡ recOf q hits within (grown 0 (r .id)) → m′ ≡ pushR v m (t .queued) r
-      → Does q hits within (λ i. enqueue (byId q hits within) (grown i (r .id))) m t m′ (Turn.Going (record { kept = t .kept; queued = t .queued + 1; aside = t .aside; steps = t .steps }))
+  pub queues-by : (m : List ℕ) (t : Counts) (v : Rule) (r : Rec) (m′ : List ℕ) → memoryWords ≤ length m → t .queued < queueMost → v ≡ w → r ≡ recOf T (grown 0 (r .id)) → m′ ≡ pushR v m (t .queued) r
+      → Does T (λ i. enqueue (byId T) (grown i (r .id))) m t m′ (Turn.Going (record { kept = t .kept; queued = t .queued + 1; aside = t .aside; steps = t .steps }))
   queues-by m t v r m′ h g ev er e = rw (e, ev) (queues m t r h g er)
 
-  pub queues-not : (m : List ℕ) (t : Counts) (id : ℕ) → 1024 ≤ t .queued → Does q hits within (λ i. enqueue (byId q hits within) (grown i id)) m t m (Turn.Refused 7)
+  pub queues-not : (m : List ℕ) (t : Counts) (id : ℕ) → queueMost ≤ t .queued → Does T (λ i. enqueue (byId T) (grown i id)) m t m (Turn.Refused 7)
   unfolding Gives
-  queues-not m t id g = record { gives = λ i s S. enqueue-stop q hits within (byId q hits within) (grown i id) s (omega (arith, queue-length S)); frame = refl }
+  queues-not m t id g = record { gives = λ i s S. enqueue-stop T (byId T) (grown i id) s (omega (arith, queue-length S)); frame = refl }
 
   -- ---- set aside
 
-  inside : (i : ℕ) (l : List ℕ) (s : State) → q .inner ≡ true → setAside q i l s ≡ s
+  inside : (i : ℕ) (l : List ℕ) (s : State) → T .asked .inner ≡ true → setAside (T .asked) i l s ≡ s
   unfolding setAside
-  inside i l s e = if-ok (λ (x : State). x ≡ s) (q .inner) _ _ (λ t. refl) (λ t. let z : _≡_ {A = ℕ} 0 1 = cc in absurd (omega arith))
+  inside i l s e = if-ok (λ (x : State). x ≡ s) (T .asked .inner) _ _ (λ t. refl) (λ t. let z : _≡_ {A = ℕ} 0 1 = cc in absurd (omega arith))
 
   -- set aside changes nothing else
   record Beside (s x : State) : Type 0 where
@@ -158,12 +158,12 @@ module _ (q : Request) (hits within : ℕ → Bool) where
     queue : x .queue ≡ s .queue
     steps : x .steps ≡ s .steps
 
-  beside : (i : ℕ) (l : List ℕ) (s : State) → Beside s (setAside q i l s)
+  beside : (i : ℕ) (l : List ℕ) (s : State) → Beside s (setAside (T .asked) i l s)
   unfolding setAside
-  beside i l s = if-ok (Beside s) (q .inner) _ _ (λ t. record { raw = refl; queue = refl; steps = refl }) (λ t. record { raw = refl; queue = refl; steps = refl })
+  beside i l s = if-ok (Beside s) (T .asked .inner) _ _ (λ t. record { raw = refl; queue = refl; steps = refl }) (λ t. record { raw = refl; queue = refl; steps = refl })
 
-  aside-stands : (m : List ℕ) (t : Counts) (n i : ℕ) (l : List ℕ) (s : State) → q .inner ≡ false → n ≡ sumOf leavesOf l → Stands q hits within m t s
-      → Stands q hits within m (record { kept = t .kept; queued = t .queued; aside = t .aside + n; steps = t .steps }) (setAside q i l s)
+  aside-stands : (m : List ℕ) (t : Counts) (n i : ℕ) (l : List ℕ) (s : State) → T .asked .inner ≡ false → n ≡ sumOf leavesOf l → Stands T m t s
+      → Stands T m (record { kept = t .kept; queued = t .queued; aside = t .aside + n; steps = t .steps }) (setAside (T .asked) i l s)
   unfolding rawIds
   aside-stands m t n i l s o e S =
       let B = beside i l s in
@@ -172,28 +172,28 @@ module _ (q : Request) (hits within : ℕ → Bool) where
         raw = rw (B .raw) (S .raw);
         few = S .few;
         room = S .room;
-        aside = ap₂ (λ (x y : ℕ). x + y) (S .aside) e ∙ sym (aside-more q i l s o);
+        aside = ap₂ (λ (x y : ℕ). x + y) (S .aside) e ∙ sym (aside-more (T .asked) i l s o);
         steps = S .steps ∙ sym (B .steps);
       }
 
-  pub sets-aside : (m : List ℕ) (t : Counts) (n i : ℕ) (l : List ℕ) (s : State) → (q .inner ≡ false → n ≡ sumOf leavesOf l) → Stands q hits within m t s
-      → Stands q hits within m (asideOf (q .inner) t n) (setAside q i l s)
+  pub sets-aside : (m : List ℕ) (t : Counts) (n i : ℕ) (l : List ℕ) (s : State) → (T .asked .inner ≡ false → n ≡ sumOf leavesOf l) → Stands T m t s
+      → Stands T m (asideOf (T .asked .inner) t n) (setAside (T .asked) i l s)
   sets-aside m t n i l s e S = ⊎-elim
-      (λ (b : q .inner ≡ true). rw (aside-in (q .inner) t n b, inside i l s b) S)
-      (λ (b : q .inner ≡ false). rw (aside-out (q .inner) t n b) (aside-stands m t n i l s b (e b) S))
-      (which (q .inner))
+      (λ (b : T .asked .inner ≡ true). rw (aside-in (T .asked .inner) t n b, inside i l s b) S)
+      (λ (b : T .asked .inner ≡ false). rw (aside-out (T .asked .inner) t n b) (aside-stands m t n i l s b (e b) S))
+      (which (T .asked .inner))
 
   -- ---- one outcome in the place of another
 
-  pub gives-as : (m : List ℕ) (r : Turn) (o p : Outcome) → p ≡ o → Gives q hits within m r o → Gives q hits within m r p
+  pub gives-as : (m : List ℕ) (r : Turn) (o p : Outcome) → p ≡ o → Gives T m r o → Gives T m r p
   gives-as m r o p e G = rw e G
 
-  pub does-as : (f g : ℕ → State → Outcome) (m : List ℕ) (t : Counts) (m′ : List ℕ) (r : Turn) → ((i : ℕ) (s : State) → Stands q hits within m t s → g i s ≡ f i s)
-      → Does q hits within f m t m′ r → Does q hits within g m t m′ r
+  pub does-as : (f g : ℕ → State → Outcome) (m : List ℕ) (t : Counts) (m′ : List ℕ) (r : Turn) → ((i : ℕ) (s : State) → Stands T m t s → g i s ≡ f i s)
+      → Does T f m t m′ r → Does T g m t m′ r
   does-as f g m t m′ r e D = record { gives = λ i s S. gives-as m′ r (f i s) (g i s) (e i s S) (D .gives i s S); frame = D .frame }
 
   -- nothing is done
-  pub does-nothing : (f : ℕ → State → Outcome) (m : List ℕ) (t : Counts) → ((i : ℕ) (s : State) → Stands q hits within m t s → f i s ≡ going s) → Does q hits within f m t m (Turn.Going t)
+  pub does-nothing : (f : ℕ → State → Outcome) (m : List ℕ) (t : Counts) → ((i : ℕ) (s : State) → Stands T m t s → f i s ≡ going s) → Does T f m t m (Turn.Going t)
   unfolding Gives
   does-nothing f m t e = record { gives = λ i s S. (s, e i s S, S); frame = refl }
 
@@ -201,14 +201,14 @@ module _ (q : Request) (hits within : ℕ → Bool) where
 
   -- from m₀ and t₀ to m and t a beginning of `goal` is done, and `rest` is what is left of it
   pub record Goes (goal rest : ℕ → State → Outcome) (m₀ : List ℕ) (t₀ : Counts) (m : List ℕ) (t : Counts) : Type 0 where
-    pub from : (i : ℕ) (s₀ : State) → Stands q hits within m₀ t₀ s₀ → (s : State) × Stands q hits within m t s × (rest i s ≡ goal i s₀)
-    pub frame : past 4096 m ≡ past 4096 m₀
+    pub from : (i : ℕ) (s₀ : State) → Stands T m₀ t₀ s₀ → (s : State) × Stands T m t s × (rest i s ≡ goal i s₀)
+    pub frame : past memoryWords m ≡ past memoryWords m₀
 
   pub goes-start : (f : ℕ → State → Outcome) (m : List ℕ) (t : Counts) → Goes f f m t m t
   goes-start f m t = record { from = λ i s S. (s, S, refl); frame = refl }
 
   pub goes-turn : (goal rest one next : ℕ → State → Outcome) (m₀ : List ℕ) (t₀ : Counts) (m : List ℕ) (t : Counts) (m′ : List ℕ) (u : Counts)
-      → ((i : ℕ) (s : State) → Stands q hits within m t s → rest i s ≡ then (one i s) (next i)) → Does q hits within one m t m′ (Turn.Going u) → Goes goal rest m₀ t₀ m t → Goes goal next m₀ t₀ m′ u
+      → ((i : ℕ) (s : State) → Stands T m t s → rest i s ≡ then (one i s) (next i)) → Does T one m t m′ (Turn.Going u) → Goes goal rest m₀ t₀ m t → Goes goal next m₀ t₀ m′ u
   unfolding Gives then
   goes-turn goal rest one next m₀ t₀ m t m′ u e D G = record {
     from = λ i s₀ S₀.
@@ -219,7 +219,7 @@ module _ (q : Request) (hits within : ℕ → Bool) where
   }
 
   pub goes-stop : (goal rest one next : ℕ → State → Outcome) (m₀ : List ℕ) (t₀ : Counts) (m : List ℕ) (t : Counts) (m′ : List ℕ) (n : ℕ)
-      → ((i : ℕ) (s : State) → Stands q hits within m t s → rest i s ≡ then (one i s) (next i)) → Does q hits within one m t m′ (Turn.Refused n) → Goes goal rest m₀ t₀ m t → Does q hits within goal m₀ t₀ m′ (Turn.Refused n)
+      → ((i : ℕ) (s : State) → Stands T m t s → rest i s ≡ then (one i s) (next i)) → Does T one m t m′ (Turn.Refused n) → Goes goal rest m₀ t₀ m t → Does T goal m₀ t₀ m′ (Turn.Refused n)
   unfolding Gives then
   goes-stop goal rest one next m₀ t₀ m t m′ n e D G = record {
     gives = λ i s₀ S₀.
@@ -229,12 +229,12 @@ module _ (q : Request) (hits within : ℕ → Bool) where
   }
 
   pub goes-on : (goal rest : ℕ → State → Outcome) (m₀ : List ℕ) (t₀ : Counts) (m : List ℕ) (t : Counts) (m′ : List ℕ) (r : Turn)
-      → Does q hits within rest m t m′ r → Goes goal rest m₀ t₀ m t → Does q hits within goal m₀ t₀ m′ r
+      → Does T rest m t m′ r → Goes goal rest m₀ t₀ m t → Does T goal m₀ t₀ m′ r
   goes-on goal rest m₀ t₀ m t m′ r D G = record {
     gives = λ i s₀ S₀. let a = G .from i s₀ S₀ in gives-as m′ r (rest i (a .0)) (goal i s₀) (sym (a .2)) (D .gives i (a .0) (a .1));
     frame = D .frame ∙ G .frame;
   }
 
-  pub goes-end : (goal rest : ℕ → State → Outcome) (m₀ : List ℕ) (t₀ : Counts) (m : List ℕ) (t : Counts) → ((i : ℕ) (s : State) → Stands q hits within m t s → rest i s ≡ going s)
-      → Goes goal rest m₀ t₀ m t → Does q hits within goal m₀ t₀ m (Turn.Going t)
+  pub goes-end : (goal rest : ℕ → State → Outcome) (m₀ : List ℕ) (t₀ : Counts) (m : List ℕ) (t : Counts) → ((i : ℕ) (s : State) → Stands T m t s → rest i s ≡ going s)
+      → Goes goal rest m₀ t₀ m t → Does T goal m₀ t₀ m (Turn.Going t)
   goes-end goal rest m₀ t₀ m t e G = goes-on goal rest m₀ t₀ m t m (Turn.Going t) (does-nothing rest m t e) G

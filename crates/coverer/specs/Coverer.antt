@@ -1,14 +1,13 @@
--- What the engine gives: the defined run's outcome, and the working memory in each case. The first 3,072 words of the memory are the queue's records, three
--- words each; the next 1,024 the kept ids, in the order kept; the words past 4,096 are never touched.
+-- What the engine gives: the defined run's outcome, and the working memory in each case. The memory's first words are the queue's records, three words each;
+-- the next ones the kept ids, in the order kept; the words past these are never touched.
 use mathlib.Core.List.{List, _++_}
 use Prim.Native.Nat.{ℕ, _+_, _-_}
 use lib.ListN.{length, drop}
 use Rattle.cellunion.specs.Memory.{zeros, laid}
 use Rattle.region.specs.declared.Region.{Region}
-use Rattle.region.specs.Region.{intersectsCell, containsCell}
-use Rattle.run.specs.Run.{Outcome, refused, going, byId, run, rawIds, asideTotal}
-use Rattle.candidate.specs.declared.Asked.{Asked}
-use Rattle.candidate.specs.Candidate.{requestOf}
+use Rattle.run.specs.declared.Request.{Request}
+use Rattle.run.specs.Run.{queueWords, memoryWords, Course, _by_, Outcome, refused, going, byId, run, rawIds, asideTotal}
+use Rattle.candidate.specs.Candidate.{taskOf}
 use Rattle.coverer.specs.declared.Ran.{Ran}
 
 -- m with zeros in the words from a to before b
@@ -16,20 +15,23 @@ abbrev pub cleared : ℕ → ℕ → List ℕ → List ℕ
 cleared a b m = laid a (zeros (b - a)) m
 
 -- m with zeros in the first b words, but for l, which begins at the word a
-unfoldable pub holding : ℕ → ℕ → List ℕ → List ℕ → List ℕ
-holding a b l m = zeros a ++ (l ++ (zeros (b - (a + length l)) ++ drop b m))
+unfoldable pub onlyWords : ℕ → ℕ → List ℕ → List ℕ → List ℕ
+onlyWords a b l m = zeros a ++ (l ++ (zeros (b - (a + length l)) ++ drop b m))
 
--- the defined run with the region's two tests; the least cost first, of equal costs the smaller id
-unfoldable pub outcomeOf : Asked → Region → List ℕ → ℕ → Outcome
-outcomeOf q g starts allowance =
-    run (requestOf q) (intersectsCell g) (containsCell g) (byId (requestOf q) (intersectsCell g) (containsCell g)) starts allowance
+-- what a request's run on a region goes by: the region's two tests; the least cost first, of equal costs the smaller id
+abbrev pub courseOf : Request → Region → Course
+courseOf q g = taskOf q g by byId (taskOf q g)
+
+-- the defined run
+unfoldable pub outcomeOf : Request → Region → List ℕ → ℕ → Outcome
+outcomeOf q g starts allowance = run (courseOf q g) starts allowance
 
 -- "7 to 9 come as the run meets them"; "Success returns count, steps and set-aside"
-unfoldable pub answerOf : Outcome → Ran
-answerOf (refused n) = Ran.Refused n
-answerOf (going s) = Ran.Done (length (s .raw)) (s .steps) (asideTotal s)
+unfoldable pub engineAnswer : Outcome → Ran
+engineAnswer (refused n) = Ran.Refused n
+engineAnswer (going s) = Ran.Done (length (s .raw)) (s .steps) (asideTotal s)
 
--- the working memory afterwards: a refusal leaves the first 4,096 zero, a success the raw list from the word 3,072 on and zeros beside it
-unfoldable pub memoryOf : Outcome → List ℕ → List ℕ
-memoryOf (refused n) m = cleared 0 4096 m
-memoryOf (going s) m = holding 3072 4096 (rawIds s) m
+-- the working memory afterwards: a refusal leaves the words of a run zero, a success the raw list behind the queue's words and zeros beside it
+unfoldable pub engineMemory : Outcome → List ℕ → List ℕ
+engineMemory (refused n) m = cleared 0 memoryWords m
+engineMemory (going s) m = onlyWords queueWords memoryWords (rawIds s) m

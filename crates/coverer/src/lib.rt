@@ -1,23 +1,27 @@
 // The engine: region.rs's add_candidate, initial_candidates and covering_internal over lent memory. It follows the defined run of the crate run: each function's
 // contract says which part of the definition it does (specs/Engine).
 ghost use mathlib.Core.Path.{_≡_};
-ghost use mathlib.Core.Bool.{Bool, _&&_, _||_, not};
-ghost use Prim.Native.Nat.{ℕ, _+_, _-_, _^_, _<_, _≤_};
+ghost use mathlib.Core.Bool.{_&&_, _||_, not};
+ghost use Prim.Native.Nat.{_+_, _-_, _^_, _<_, _≤_};
 ghost use lib.Dec.{leb, ltb, eqb};
 ghost use lib.Count.{ones};
 ghost use lib.ListN.{length, take};
 ghost use Rattle.cellid.specs.CellId.{levelOf, leavesOf};
 ghost use Rattle.order.specs.Order.{All};
-ghost use Rattle.run.specs.Run.{Request, keep, enqueue, depth, byId};
-ghost use Rattle.run.specs.Ground.{Fit};
-ghost use Rattle.candidate.specs.Candidate.{requestOf, Asks};
-ghost use Rattle.coverer.specs.Coverer.{outcomeOf, answerOf, memoryOf};
-ghost use Rattle.coverer.specs.Engine.{isIn, childIf, childrenFrom, leavesIn, broodOf, asideOf, grown, recOf, ruleOf, AsideUpTo, Does, Ready, addFor, addAllFor, handOnFor, stepWithFor, stepFor, loopFor, startFor, startsFor, ChildFor, QueuedFor, recFor, DoesFor, ComesFor, Live};
-use candidate::Asked;
+ghost use Rattle.run.specs.Run.{minLevel, maxCells, queueMost, rawMost, Task, keep, enqueue, depth, byId, add, addAll, stepWith, step, loop, after, memoryWords};
+ghost use Rattle.run.specs.Ground.{Fit, ChildOk, Queued};
+ghost use Rattle.candidate.specs.Candidate.{taskOf, Asks};
+ghost use Rattle.coverer.specs.Coverer.{courseOf, outcomeOf, engineAnswer, engineMemory};
+ghost use Rattle.coverer.specs.Engine.{isIn, childIf, childrenFrom, leavesIn, broodOf, asideOf, grown, recOf, ruleOf, AsideUpTo, Does, Comes, Ready, handOn, startOne, Live};
 use candidate::Candidate;
 use queue::Rec;
 use queue::Rule;
 use region::Region;
+use run::MEMORY_WORDS;
+use run::QUEUE_MOST;
+use run::QUEUE_WORDS;
+use run::RAW_MOST;
+use run::Request;
 
 // How far a run is: ids kept, records queued, leaves set aside, steps taken.
 struct Counts {
@@ -52,14 +56,14 @@ pub enum Ran {
     },
 }
 
-// Keeps a cell: refused with 8 where 1,024 are kept.
+// Keeps a cell: refused with 8 where the raw list is full.
 fn keep(m: &mut [u64], t: Counts, id: u64) -> Turn
-    requires { ⌜ 4096 ≤ length (now m) ⌝ }
-    ensures { λ r. ⌜ ((q : Request) (hits within : ℕ → Bool) → Does q hits within (λ i. keep (grown i id)) (now (m .entry)) t (now (m .exit)) r) ⌝ }
+    requires { ⌜ memoryWords ≤ length (now m) ⌝ }
+    ensures { λ r. ⌜ ((T : Task) → Does T (λ i. keep (grown i id)) (now (m .entry)) t (now (m .exit)) r) ⌝ }
     ensures { λ r. ⌜ AsideUpTo (t .aside) r ⌝ }
 {
-    if t.kept < 1024 {
-        let at = 3072 + t.kept;
+    if t.kept < RAW_MOST {
+        let at = QUEUE_WORDS + t.kept;
         m[at] = id;
         Turn::Going(Counts {
             kept: t.kept + 1,
@@ -72,14 +76,14 @@ fn keep(m: &mut [u64], t: Counts, id: u64) -> Turn
     }
 }
 
-// Queues a record: refused with 7 where 1,024 are queued.
+// Queues a record: refused with 7 where the queue is full.
 fn enqueue(m: &mut [u64], t: Counts, w: Rule, r: Rec) -> Turn
-    requires { ⌜ 4096 ≤ length (now m) ⌝ }
+    requires { ⌜ memoryWords ≤ length (now m) ⌝ }
     requires { ⌜ w .full ≤ 64 ⌝ }
-    ensures { λ a. ⌜ ((q : Request) (hits within : ℕ → Bool) → w ≡ ruleOf q hits within → r ≡ recOf q hits within (grown 0 (r .id)) → Does q hits within (λ i. enqueue (byId q hits within) (grown i (r .id))) (now (m .entry)) t (now (m .exit)) a) ⌝ }
+    ensures { λ a. ⌜ ((T : Task) → w ≡ ruleOf T → r ≡ recOf T (grown 0 (r .id)) → Does T (λ i. enqueue (byId T) (grown i (r .id))) (now (m .entry)) t (now (m .exit)) a) ⌝ }
     ensures { λ a. ⌜ AsideUpTo (t .aside) a ⌝ }
 {
-    if t.queued < 1024 {
+    if t.queued < QUEUE_MOST {
         let n = t.queued;
         queue::push(m, n, r, w);
         Turn::Going(Counts {
@@ -94,9 +98,9 @@ fn enqueue(m: &mut [u64], t: Counts, w: Rule, r: Rec) -> Turn
 }
 
 // Leaves are set aside in outer runs only.
-fn set_aside(q: Asked, t: Counts, leaves: u64) -> Counts
+fn set_aside(q: Request, t: Counts, leaves: u64) -> Counts
     requires { ⌜ t .aside + leaves < 2 ^ 64 ⌝ }
-    ensures { λ r. ⌜ r ≡ asideOf (requestOf q .inner) t leaves ⌝ }
+    ensures { λ r. ⌜ r ≡ asideOf (q .inner) t leaves ⌝ }
 {
     if q.inner {
         return t;
@@ -110,10 +114,10 @@ fn set_aside(q: Asked, t: Counts, leaves: u64) -> Counts
 }
 
 // Whether the parent is kept in the place of its children: outer, at min or deeper, all of 4^level_mod terminal.
-fn lifts(q: Asked, w: Rule, id: u64, terminal: u64) -> bool
-    ensures { λ r. ⌜ r ≡ (not (requestOf q .inner) && (leb (requestOf q .minLevel) (levelOf id) && eqb (ones terminal) (w .full))) ⌝ }
+fn lifts(q: Request, w: Rule, id: u64, terminal: u64) -> bool
+    ensures { λ r. ⌜ r ≡ (not (q .inner) && (leb (minLevel q) (levelOf id) && eqb (ones terminal) (w .full))) ⌝ }
 {
-    if cellid::level(id) < q.min_level {
+    if cellid::level(id) < q.coverer.min_level {
         return false;
     }
     if queue::count(terminal) != w.full {
@@ -126,17 +130,17 @@ fn lifts(q: Asked, w: Rule, id: u64, terminal: u64) -> bool
 fn add_candidate(
     m: &mut [u64],
     t: Counts,
-    q: Asked,
+    q: Request,
     g: Region,
     w: Rule,
     id: u64,
     terminal: bool,
 ) -> Turn
-    requires { ⌜ 4096 ≤ length (now m) ⌝ }
+    requires { ⌜ memoryWords ≤ length (now m) ⌝ }
     requires { ⌜ Ready q g w ⌝ }
-    requires { ⌜ ChildFor q g (record { id = id; ends = terminal }) ⌝ }
+    requires { ⌜ ChildOk (taskOf q g) (record { id = id; ends = terminal }) ⌝ }
     requires { ⌜ t .aside + leavesOf id < 2 ^ 64 ⌝ }
-    ensures { λ r. ⌜ DoesFor q g (λ i. addFor q g (grown i id) terminal) (now (m .entry)) t (now (m .exit)) r ⌝ }
+    ensures { λ r. ⌜ Does (taskOf q g) (λ i. add (courseOf q g) (grown i id) terminal) (now (m .entry)) t (now (m .exit)) r ⌝ }
     ensures { λ r. ⌜ AsideUpTo (t .aside + leavesOf id) r ⌝ }
 {
     if terminal {
@@ -162,11 +166,11 @@ fn add_candidate(
 }
 
 // Whether an inner run has as many results as are asked for.
-fn is_full(q: Asked, kept: usize) -> bool
-    ensures { λ r. ⌜ r ≡ (requestOf q .inner && leb (requestOf q .maxCells) kept) ⌝ }
+fn is_full(q: Request, kept: usize) -> bool
+    ensures { λ r. ⌜ r ≡ (q .inner && leb (maxCells q) kept) ⌝ }
 {
     if q.inner {
-        q.max_cells <= kept as u64
+        q.coverer.max_cells <= kept as u64
     } else {
         false
     }
@@ -181,13 +185,13 @@ fn is_in(set: u64, j: u64) -> bool
 }
 
 // Adds the child at the place j, if there is one; in an inner run only while the results are below max_cells.
-fn add_child(m: &mut [u64], t: Counts, q: Asked, g: Region, w: Rule, b: Brood, j: u64) -> Turn
-    requires { ⌜ 4096 ≤ length (now m) ⌝ }
+fn add_child(m: &mut [u64], t: Counts, q: Request, g: Region, w: Rule, b: Brood, j: u64) -> Turn
+    requires { ⌜ memoryWords ≤ length (now m) ⌝ }
     requires { ⌜ Ready q g w ⌝ }
     requires { ⌜ j < 64 ⌝ }
-    requires { ⌜ All (ChildFor q g) (childIf b j) ⌝ }
+    requires { ⌜ All (ChildOk (taskOf q g)) (childIf b j) ⌝ }
     requires { ⌜ t .aside + leavesIn (childIf b j) < 2 ^ 64 ⌝ }
-    ensures { λ r. ⌜ DoesFor q g (λ i. addAllFor q g i (childIf b j)) (now (m .entry)) t (now (m .exit)) r ⌝ }
+    ensures { λ r. ⌜ Does (taskOf q g) (λ i. addAll (courseOf q g) i (childIf b j)) (now (m .entry)) t (now (m .exit)) r ⌝ }
     ensures { λ r. ⌜ AsideUpTo (t .aside + leavesIn (childIf b j)) r ⌝ }
 {
     if is_in(b.present, j) {
@@ -203,13 +207,13 @@ fn add_child(m: &mut [u64], t: Counts, q: Asked, g: Region, w: Rule, b: Brood, j
 }
 
 // Adds the children of a brood, in order.
-fn add_children(m: &mut [u64], s: Counts, q: Asked, g: Region, w: Rule, b: Brood) -> Turn
-    requires { ⌜ 4096 ≤ length (now m) ⌝ }
+fn add_children(m: &mut [u64], s: Counts, q: Request, g: Region, w: Rule, b: Brood) -> Turn
+    requires { ⌜ memoryWords ≤ length (now m) ⌝ }
     requires { ⌜ Ready q g w ⌝ }
     requires { ⌜ b .places ≤ 64 ⌝ }
-    requires { ⌜ All (ChildFor q g) (childrenFrom b 0) ⌝ }
+    requires { ⌜ All (ChildOk (taskOf q g)) (childrenFrom b 0) ⌝ }
     requires { ⌜ s .aside + leavesIn (childrenFrom b 0) < 2 ^ 64 ⌝ }
-    ensures { λ r. ⌜ DoesFor q g (λ i. addAllFor q g i (childrenFrom b 0)) (now (m .entry)) s (now (m .exit)) r ⌝ }
+    ensures { λ r. ⌜ Does (taskOf q g) (λ i. addAll (courseOf q g) i (childrenFrom b 0)) (now (m .entry)) s (now (m .exit)) r ⌝ }
 {
     let places = b.places;
     let mut t = s;
@@ -247,24 +251,24 @@ fn cells_under(r: Rec, n: u64) -> Brood
 }
 
 // How far down a candidate is expanded: one level below min, else level_mod.
-fn levels_under(q: Asked, id: u64) -> u64
-    ensures { λ r. ⌜ r ≡ depth (requestOf q) id ⌝ }
+fn levels_under(q: Request, id: u64) -> u64
+    ensures { λ r. ⌜ r ≡ depth q id ⌝ }
 {
-    if cellid::level(id) < q.min_level {
+    if cellid::level(id) < q.coverer.min_level {
         1
     } else {
-        q.level_mod
+        q.coverer.level_mod
     }
 }
 
 // Hands a taken candidate on to its children. What failed in its expansion is set aside: the places without a child, each as many leaves as a child has.
-fn hand_on(m: &mut [u64], t: Counts, q: Asked, g: Region, w: Rule, r: Rec, children: u64) -> Turn
-    requires { ⌜ 4096 ≤ length (now m) ⌝ }
+fn hand_on(m: &mut [u64], t: Counts, q: Request, g: Region, w: Rule, r: Rec, children: u64) -> Turn
+    requires { ⌜ memoryWords ≤ length (now m) ⌝ }
     requires { ⌜ Ready q g w ⌝ }
-    requires { ⌜ QueuedFor q g (r .id) × (r ≡ recFor q g (r .id)) ⌝ }
+    requires { ⌜ Queued (taskOf q g) (r .id) × (r ≡ recOf (taskOf q g) (grown 0 (r .id))) ⌝ }
     requires { ⌜ children ≡ ones (r .present) ⌝ }
     requires { ⌜ t .aside + leavesOf (r .id) < 2 ^ 64 ⌝ }
-    ensures { λ a. ⌜ DoesFor q g (λ i. handOnFor q g (grown i (r .id))) (now (m .entry)) t (now (m .exit)) a ⌝ }
+    ensures { λ a. ⌜ Does (taskOf q g) (λ i. handOn (taskOf q g) (grown i (r .id))) (now (m .entry)) t (now (m .exit)) a ⌝ }
 {
     let b = cells_under(r, levels_under(q, r.id));
     let failed = (b.places - children) * b.unit;
@@ -272,30 +276,30 @@ fn hand_on(m: &mut [u64], t: Counts, q: Asked, g: Region, w: Rule, r: Rec, child
 }
 
 // Whether a taken candidate is handed on: inner, or below min, or one child, or few enough in all.
-fn hands_on(q: Asked, t: Counts, id: u64, children: u64) -> bool
-    requires { ⌜ (t .kept ≤ 1024) × (t .queued ≤ 1024) × (children ≤ 64) ⌝ }
-    ensures { λ r. ⌜ r ≡ (requestOf q .inner || (ltb (levelOf id) (requestOf q .minLevel) || (eqb children 1 || leb (t .kept + t .queued + children) (requestOf q .maxCells)))) ⌝ }
+fn is_handed_on(q: Request, t: Counts, id: u64, children: u64) -> bool
+    requires { ⌜ (t .kept ≤ rawMost) × (t .queued ≤ queueMost) × (children ≤ 64) ⌝ }
+    ensures { λ r. ⌜ r ≡ (q .inner || (ltb (levelOf id) (minLevel q) || (eqb children 1 || leb (t .kept + t .queued + children) (maxCells q)))) ⌝ }
 {
     if q.inner {
         return true;
     }
-    if cellid::level(id) < q.min_level {
+    if cellid::level(id) < q.coverer.min_level {
         return true;
     }
     if children == 1 {
         return true;
     }
-    t.kept as u64 + t.queued as u64 + children <= q.max_cells
+    t.kept as u64 + t.queued as u64 + children <= q.coverer.max_cells
 }
 
 // What is done with a taken record.
-fn use_taken(m: &mut [u64], t: Counts, q: Asked, g: Region, w: Rule, r: Rec) -> Turn
-    requires { ⌜ 4096 ≤ length (now m) ⌝ }
+fn use_taken(m: &mut [u64], t: Counts, q: Request, g: Region, w: Rule, r: Rec) -> Turn
+    requires { ⌜ memoryWords ≤ length (now m) ⌝ }
     requires { ⌜ Ready q g w ⌝ }
-    requires { ⌜ (t .kept ≤ 1024) × (t .queued ≤ 1024) ⌝ }
-    requires { ⌜ QueuedFor q g (r .id) × (r ≡ recFor q g (r .id)) ⌝ }
+    requires { ⌜ (t .kept ≤ rawMost) × (t .queued ≤ queueMost) ⌝ }
+    requires { ⌜ Queued (taskOf q g) (r .id) × (r ≡ recOf (taskOf q g) (grown 0 (r .id))) ⌝ }
     requires { ⌜ t .aside + leavesOf (r .id) < 2 ^ 64 ⌝ }
-    ensures { λ a. ⌜ DoesFor q g (λ i. stepWithFor q g (grown i (r .id))) (now (m .entry)) t (now (m .exit)) a ⌝ }
+    ensures { λ a. ⌜ Does (taskOf q g) (λ i. stepWith (courseOf q g) (grown i (r .id))) (now (m .entry)) t (now (m .exit)) a ⌝ }
 {
     if is_full(q, t.kept) {
         return Turn::Going(Counts {
@@ -306,7 +310,7 @@ fn use_taken(m: &mut [u64], t: Counts, q: Asked, g: Region, w: Rule, r: Rec) -> 
         });
     }
     let children = queue::count(r.present);
-    if hands_on(q, t, r.id, children) {
+    if is_handed_on(q, t, r.id, children) {
         hand_on(m, t, q, g, w, r, children)
     } else {
         keep(m, t, r.id)
@@ -314,12 +318,12 @@ fn use_taken(m: &mut [u64], t: Counts, q: Asked, g: Region, w: Rule, r: Rec) -> 
 }
 
 // One step: takes the least of the queue.
-fn step(m: &mut [u64], t: Counts, q: Asked, g: Region, w: Rule) -> Turn
-    requires { ⌜ 4096 ≤ length (now m) ⌝ }
+fn step(m: &mut [u64], t: Counts, q: Request, g: Region, w: Rule) -> Turn
+    requires { ⌜ memoryWords ≤ length (now m) ⌝ }
     requires { ⌜ Ready q g w ⌝ }
     requires { ⌜ Live q g (now m) t ⌝ }
     requires { ⌜ (0 < t .queued) × (t .steps + 1 < 2 ^ 32) ⌝ }
-    ensures { λ a. ⌜ DoesFor q g (λ i. stepFor q g) (now (m .entry)) t (now (m .exit)) a ⌝ }
+    ensures { λ a. ⌜ Does (taskOf q g) (λ i. step (courseOf q g)) (now (m .entry)) t (now (m .exit)) a ⌝ }
 {
     let n = t.queued - 1;
     let r = queue::pop(m, n, w);
@@ -339,12 +343,12 @@ fn step(m: &mut [u64], t: Counts, q: Asked, g: Region, w: Rule) -> Turn
 }
 
 // A start cell: added if it is a candidate. One that fails is set aside.
-fn start(m: &mut [u64], t: Counts, q: Asked, g: Region, w: Rule, id: u64) -> Turn
-    requires { ⌜ 4096 ≤ length (now m) ⌝ }
+fn start(m: &mut [u64], t: Counts, q: Request, g: Region, w: Rule, id: u64) -> Turn
+    requires { ⌜ memoryWords ≤ length (now m) ⌝ }
     requires { ⌜ Ready q g w ⌝ }
-    requires { ⌜ Fit (requestOf q) id ⌝ }
+    requires { ⌜ Fit q id ⌝ }
     requires { ⌜ t .aside + leavesOf id < 2 ^ 64 ⌝ }
-    ensures { λ r. ⌜ DoesFor q g (λ i. startFor q g (grown i id)) (now (m .entry)) t (now (m .exit)) r ⌝ }
+    ensures { λ r. ⌜ Does (taskOf q g) (λ i. startOne (taskOf q g) (grown i id)) (now (m .entry)) t (now (m .exit)) r ⌝ }
     ensures { λ r. ⌜ AsideUpTo (t .aside + leavesOf id) r ⌝ }
 {
     let c = candidate::new_candidate(q, g, id);
@@ -358,17 +362,17 @@ fn start(m: &mut [u64], t: Counts, q: Asked, g: Region, w: Rule, id: u64) -> Tur
 // The start cells, in order.
 fn initial_candidates(
     m: &mut [u64],
-    q: Asked,
+    q: Request,
     g: Region,
     w: Rule,
     ids: [u64; 6],
     count: usize,
 ) -> Turn
-    requires { ⌜ 4096 ≤ length (now m) ⌝ }
+    requires { ⌜ memoryWords ≤ length (now m) ⌝ }
     requires { ⌜ Ready q g w ⌝ }
     requires { ⌜ count ≤ 6 ⌝ }
-    requires { ⌜ All (Fit (requestOf q)) (take count ids) ⌝ }
-    ensures { λ r. ⌜ ComesFor q g (startsFor q g (take count ids)) (now (m .entry)) (now (m .exit)) r ⌝ }
+    requires { ⌜ All (Fit q) (take count ids) ⌝ }
+    ensures { λ r. ⌜ Comes (taskOf q g) (after (courseOf q g) (take count ids) 0) (now (m .entry)) (now (m .exit)) r ⌝ }
 {
     let mut t = Counts {
         kept: 0,
@@ -393,12 +397,12 @@ fn initial_candidates(
 }
 
 // Step after step until the queue is empty: refused with 9 where the allowance is used up before.
-fn proceed(m: &mut [u64], s: Counts, q: Asked, g: Region, w: Rule, allowance: u32) -> Turn
-    requires { ⌜ 4096 ≤ length (now m) ⌝ }
+fn proceed(m: &mut [u64], s: Counts, q: Request, g: Region, w: Rule, allowance: u32) -> Turn
+    requires { ⌜ memoryWords ≤ length (now m) ⌝ }
     requires { ⌜ Ready q g w ⌝ }
     requires { ⌜ Live q g (now m) s ⌝ }
     requires { ⌜ s .steps ≤ allowance ⌝ }
-    ensures { λ r. ⌜ DoesFor q g (λ i. loopFor q g (allowance - s .steps)) (now (m .entry)) s (now (m .exit)) r ⌝ }
+    ensures { λ r. ⌜ Does (taskOf q g) (λ i. loop (courseOf q g) (allowance - s .steps)) (now (m .entry)) s (now (m .exit)) r ⌝ }
 {
     let mut t = s;
     while 0 < t.queued {
@@ -421,18 +425,18 @@ fn proceed(m: &mut [u64], s: Counts, q: Asked, g: Region, w: Rule, allowance: u3
 // The start cells, then the steps.
 fn covering_internal(
     m: &mut [u64],
-    q: Asked,
+    q: Request,
     g: Region,
     w: Rule,
     ids: [u64; 6],
     count: usize,
     allowance: u32,
 ) -> Turn
-    requires { ⌜ 4096 ≤ length (now m) ⌝ }
+    requires { ⌜ memoryWords ≤ length (now m) ⌝ }
     requires { ⌜ Ready q g w ⌝ }
     requires { ⌜ count ≤ 6 ⌝ }
-    requires { ⌜ All (Fit (requestOf q)) (take count ids) ⌝ }
-    ensures { λ r. ⌜ ComesFor q g (outcomeOf q g (take count ids) allowance) (now (m .entry)) (now (m .exit)) r ⌝ }
+    requires { ⌜ All (Fit q) (take count ids) ⌝ }
+    ensures { λ r. ⌜ Comes (taskOf q g) (outcomeOf q g (take count ids) allowance) (now (m .entry)) (now (m .exit)) r ⌝ }
 {
     let r = initial_candidates(m, q, g, w, ids, count);
     match r {
@@ -442,28 +446,35 @@ fn covering_internal(
 }
 
 // The whole run, region.rs's covering_internal. Refused with 7, 8 or 9 as the run meets them; else the count, the steps and the set-aside total, and the kept
-// ids in the memory from the word 3,072 on, in the order kept. A step costs what its children's expansions cost, and a queue move for each.
-pub fn run(mem: &mut [u64], q: Asked, g: Region, ids: [u64; 6], count: usize, allowance: u32) -> Ran
-    requires { ⌜ 4096 ≤ length (now mem) ⌝ }
+// ids in the memory behind the queue's words, in the order kept. A step costs what its children's expansions cost, and a queue move for each.
+pub fn run(
+    mem: &mut [u64],
+    q: Request,
+    g: Region,
+    ids: [u64; 6],
+    count: usize,
+    allowance: u32,
+) -> Ran
+    requires { ⌜ memoryWords ≤ length (now mem) ⌝ }
     requires { ⌜ Asks q g ⌝ }
     requires { ⌜ count ≤ 6 ⌝ }
-    requires { ⌜ All (Fit (requestOf q)) (take count ids) ⌝ }
-    ensures { λ r. ⌜ r ≡ answerOf (outcomeOf q g (take count ids) allowance) ⌝ }
-    ensures { λ _. ⌜ now (mem .exit) ≡ memoryOf (outcomeOf q g (take count ids) allowance) (now (mem .entry)) ⌝ }
+    requires { ⌜ All (Fit q) (take count ids) ⌝ }
+    ensures { λ r. ⌜ r ≡ engineAnswer (outcomeOf q g (take count ids) allowance) ⌝ }
+    ensures { λ _. ⌜ now (mem .exit) ≡ engineMemory (outcomeOf q g (take count ids) allowance) (now (mem .entry)) ⌝ }
 {
     let w = Rule {
-        full: 1 << (2 * q.level_mod),
+        full: 1 << (2 * q.coverer.level_mod),
     };
     let r = covering_internal(mem, q, g, w, ids, count, allowance);
     match r {
         Turn::Refused(n) => {
-            cellunion::clear(mem, 0, 4096);
+            cellunion::clear(mem, 0, MEMORY_WORDS);
             Ran::Refused(n)
         }
         Turn::Going(t) => {
-            let end = 3072 + t.kept;
-            cellunion::clear(mem, 0, 3072);
-            cellunion::clear(mem, end, 4096);
+            let end = QUEUE_WORDS + t.kept;
+            cellunion::clear(mem, 0, QUEUE_WORDS);
+            cellunion::clear(mem, end, MEMORY_WORDS);
             Ran::Done {
                 count: t.kept,
                 steps: t.steps,

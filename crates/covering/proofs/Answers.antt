@@ -5,34 +5,31 @@ use mathlib.Core.List.{List, _++_, append-nil}
 use Prim.Native.Nat.{ℕ, _+_, _-_, _≤_, _<_}
 use native.Mathlib.Nat.{sub-zero}
 use native.Mathlib.Omega.{arith}
-use lib.Dec.{leb, eqb}
+use lib.Dec.{leb}
 use lib.ListN.{length, take, drop, length-drop, length-map, drop-of-length-le}
 use lib.Seq.{take-all, take-at, drop-at, drop-drop, drop-append-add, length-take-le}
-use borrow.Author.Tests.{le-leb, lt-leb, ne-eqb}
 use Rattle.cellid.specs.CellId.{Cell}
 use Rattle.order.specs.Order.{All}
 use Rattle.region.specs.declared.Region.{Region}
-use Rattle.region.specs.Region.{boundOf}
 use Rattle.cellunion.specs.declared.Laid.{Laid}
 use Rattle.cellunion.specs.CellUnion.{normalise, denormalise}
 use Rattle.cellunion.specs.Memory.{zeros, laid, normalised, roomFor, laidOver}
 use Rattle.cellunion.proofs.Memory.{laid-start, drop-more, length-zeros, zeros-add}
 use Rattle.cellunion.proofs.Norm.{normalise-normal}
 use Rattle.cellunion.proofs.Results.{take-normalised, drop-normalised, length-normal}
-use Rattle.fast.specs.declared.RegionCoverer.{RegionCoverer}
-use Rattle.fast.specs.Memory.{fastCoveringFor}
-use Rattle.run.specs.Run.{Outcome, State, Grown, rawIds, asideTotal}
+use Rattle.run.specs.declared.RegionCoverer.{RegionCoverer}
+use Rattle.run.specs.Run.{rawMost, Outcome, State, Grown, rawIds, asideTotal, queueWords, memoryWords}
 use Rattle.run.specs.Run as Run
-use Rattle.run.proofs.Steps.{run-refuses}
 use Rattle.coverer.specs.declared.Ran.{Ran}
-use Rattle.coverer.specs.Coverer.{cleared, holding, outcomeOf, memoryOf}
-use Rattle.coverer.specs.Coverer as Coverer
+use Rattle.coverer.specs.Coverer.{cleared, onlyWords, engineAnswer, engineMemory}
 use Rattle.coverer.specs.Engine.{wordsAt, past}
-use Rattle.coverer.proofs.Memory.{words-length, cleared-front, holding-words, holding-room, holding-past}
+use Rattle.coverer.proofs.Memory.{words-length, cleared-front, only-words, only-room, only-past}
 use Rattle.covering.specs.declared.Answer.{Answer}
 use Rattle.covering.specs.declared.Ending.{Ending}
-use Rattle.covering.specs.Covering.{earlyOf, Result, refused, done, fitted, checked, listOf, leftBy, endedAs, ranOf, resultOf, fastResultOf, answerOf, outputAfter, memoryAfter, Answered, laidAs}
-use Rattle.covering.proofs.Early.{Valid, early-none, early-low}
+use Rattle.bars.specs.declared.Bar.{Bar}
+use Rattle.bars.specs.Bars.{barOf}
+use Rattle.covering.specs.Covering.{Result, refused, done, fitted, checked, listOf, leftBy, endedAs, ranOf, refusal, answerOf, outputAfter, memoryAfter, Answered, answerLaid}
+use Rattle.bars.proofs.Early.{Valid, early-none}
 use Rattle.covering.proofs.Starts.{raw-cells}
 
 -- what is answered is answered whatever it is called
@@ -44,32 +41,37 @@ answered-as {m = m} {o = o} e a x y z = record {
 }
 
 -- 1 to 6 leave everything as it was
-pub answered-early : (n : ℕ) (m o : List ℕ) → n ≤ 6 → Answered (refused n) (Answer.Refused n) m m o o
-unfolding answerOf memoryAfter outputAfter
-answered-early n m o h = record { answer = refl; memory = rw (memoryAfter, le-leb n 6 h); output = refl }
+pub answered-barred : (b : Bar) (R : Result) (n : ℕ) (r : Answer) (m o : List ℕ) → b ≡ Bar.Barred n → r ≡ refusal n → Answered (checked b R) r m m o o
+unfolding checked answerOf memoryAfter outputAfter
+answered-barred b R n r m o e d = rw (e, checked) (record { answer = d; memory = refl; output = refl })
 
--- 7 to 10 leave the first 4,096 words zero
-pub answered-late : (n : ℕ) (m o : List ℕ) → 6 < n → Answered (refused n) (Answer.Refused n) m (cleared 0 4096 m) o o
+-- where nothing bars it, a request is answered as what it comes to
+pub answered-open : (b : Bar) (R : Result) (r : Answer) (m m′ o o′ : List ℕ) → b ≡ Bar.Open → Answered R r m m′ o o′ → Answered (checked b R) r m m′ o o′
+unfolding checked
+answered-open b R r m m′ o o′ e A = rw (e, checked) A
+
+-- 7 to 10 leave the words of a run zero
+answered-late : (n : ℕ) (m o : List ℕ) → Answered (refused n) (refusal n) m (cleared 0 memoryWords m) o o
 unfolding answerOf memoryAfter outputAfter
-answered-late n m o h = record { answer = refl; memory = rw (memoryAfter, lt-leb n 6 h); output = refl }
+answered-late n m o = record { answer = refl; memory = refl; output = refl }
 
 -- a finished list, laid over the output or with no room there
-pub answered-laid : (l m o : List ℕ) (steps aside : ℕ) → Answered (fitted (length o) l steps aside) (laidAs (roomFor l o) steps aside) m (cleared 0 4096 m) o (laidOver l o)
-unfolding fitted laidAs roomFor laidOver answerOf memoryAfter outputAfter
+pub answered-laid : (l m o : List ℕ) (steps aside : ℕ) → Answered (fitted (length o) l steps aside) (answerLaid (roomFor l o) steps aside) m (cleared 0 memoryWords m) o (laidOver l o)
+unfolding fitted answerLaid roomFor laidOver answerOf memoryAfter outputAfter
 answered-laid l m o steps aside = by (leb (length l) (length o))
   where
-    by : (b : Bool) → Answered (elim b [ true ↦ done l steps aside | false ↦ refused 10 ]) (laidAs (elim b [ true ↦ Laid.Done (length l) | false ↦ Laid.NoRoom ]) steps aside) m (cleared 0 4096 m) o (elim b [ true ↦ laid 0 l o | false ↦ o ])
+    by : (b : Bool) → Answered (elim b [ true ↦ done l steps aside | false ↦ refused 10 ]) (answerLaid (elim b [ true ↦ Laid.Done (length l) | false ↦ Laid.NoRoom ]) steps aside) m (cleared 0 memoryWords m) o (elim b [ true ↦ laid 0 l o | false ↦ o ])
     by true = record { answer = refl; memory = refl; output = laid-start l o }
     by false = record { answer = refl; memory = refl; output = refl }
 
--- the memory's first 4,096 words make no difference to what is left
-pub fitted-front : (room : ℕ) (l : List ℕ) (steps aside : ℕ) (r : Answer) (m m₁ m₂ o o₂ : List ℕ) → past 4096 m₁ ≡ past 4096 m → Answered (fitted room l steps aside) r m₁ m₂ o o₂ → Answered (fitted room l steps aside) r m m₂ o o₂
+-- the words of a run make no difference to what is left
+pub fitted-front : (room : ℕ) (l : List ℕ) (steps aside : ℕ) (r : Answer) (m m₁ m₂ o o₂ : List ℕ) → past memoryWords m₁ ≡ past memoryWords m → Answered (fitted room l steps aside) r m₁ m₂ o o₂ → Answered (fitted room l steps aside) r m m₂ o o₂
 unfolding fitted memoryAfter
 fitted-front room l steps aside r m m₁ m₂ o o₂ e A = record { answer = A .answer; memory = A .memory ∙ by (leb (length l) room); output = A .output }
   where
     by : (b : Bool) → memoryAfter (elim b [ true ↦ done l steps aside | false ↦ refused 10 ]) m₁ ≡ memoryAfter (elim b [ true ↦ done l steps aside | false ↦ refused 10 ]) m
-    by true = cleared-front 4096 m m₁ e
-    by false = cleared-front 4096 m m₁ e
+    by true = cleared-front memoryWords m m₁ e
+    by false = cleared-front memoryWords m m₁ e
 
 -- ---- the list that is asked for
 
@@ -98,22 +100,6 @@ module _ (e : Ending) (c : RegionCoverer) (n : ℕ) (m o : List ℕ) (r : Laid) 
     unfolding LayDone listOf leftBy
     lay-covering E h =
         rw E (h .0 ∙ ap (λ (l : List ℕ). roomFor (denormalise (c .«min_level») (c .«level_mod») l) o) (front n m k m′ K), h .1 ∙ ap (λ (l : List ℕ). laidOver (denormalise (c .«min_level») (c .«level_mod») l) o) (front n m k m′ K), K .1)
-
--- ---- the refusals 1 to 6 come first
-
-pub checked-refused : (c : RegionCoverer) (g : Region) (m o : List ℕ) (R : Result) (n : ℕ) → n ≡ earlyOf c g (length m) → (n ≡ 0 → ⊥) → Answered (checked c g (length m) R) (Answer.Refused n) m m o o
-checked-refused c g m o R n e h =
-    let t : eqb (earlyOf c g (length m)) 0 ≡ false = ne-eqb _ _ (λ z. h (e ∙ z)) in
-    let r : checked c g (length m) R ≡ refused n = rw (checked, t) (ap refused (sym e)) in
-    answered-as r (answered-early n m o (rw e (early-low c g (length m)))) refl refl refl
-
-pub checked-none : (c : RegionCoverer) (g : Region) (memory : ℕ) (R : Result) → earlyOf c g memory ≡ 0 → checked c g memory R ≡ R
-checked-none c g memory R e = rw (checked, e)
-
-pub fast-answered : (c : RegionCoverer) (g : Region) (m o : List ℕ) → earlyOf c g (length m) ≡ 0
-    → Answered (fastResultOf c g (length m) (length o)) (laidAs (roomFor (fastCoveringFor c (boundOf g)) o) 0 0) m (cleared 0 4096 m) o (laidOver (fastCoveringFor c (boundOf g)) o)
-unfolding fastResultOf
-fast-answered c g m o e = answered-as (checked-none c g (length m) _ e) (answered-laid (fastCoveringFor c (boundOf g)) m o 0 0) refl refl refl
 
 -- ---- the end of a run
 
@@ -145,16 +131,16 @@ module _ (a k : ℕ) (m : List ℕ) (K : k ≡ length m - a) where
       ∙ drop-append-add (take a m) l (b - a) ∙ e ∙ ap (drop (b - a)) part ∙ drop-drop (b - a) a m ∙ ap (λ (j : ℕ). drop j m) z
 
 -- m has zeros in its first b words, but for the k words from a on; so m′, which differs from it in those k alone, has zeros in all once they are cleared
-module _ (a b k : ℕ) (m m′ : List ℕ) (h : a + k ≤ b) (g : b ≤ length m) (H : m ≡ holding a b (wordsAt a k m) m) where
+module _ (a b k : ℕ) (m m′ : List ℕ) (h : a + k ≤ b) (g : b ≤ length m) (H : m ≡ onlyWords a b (wordsAt a k m) m) where
   zeros-first : take a m ≡ zeros a
-  unfolding holding
+  unfolding onlyWords
   zeros-first = ap (take a) H ∙ take-at (zeros a) _ a (length-zeros a)
 
   zeros-after : drop (a + k) m ≡ zeros (b - (a + k)) ++ drop b m
   zeros-after =
       let l = wordsAt a k m in
       let n : length l ≡ k = words-length a k m (omega arith) in
-      sym (drop-drop k a m) ∙ ap (λ (x : List ℕ). drop k (drop a x)) H ∙ ap (drop k) (holding-words a b l m) ∙ drop-at l _ k n ∙ ap (λ (j : ℕ). zeros (b - (a + j)) ++ drop b m) n
+      sym (drop-drop k a m) ∙ ap (λ (x : List ℕ). drop k (drop a x)) H ∙ ap (drop k) (only-words a b l m) ∙ drop-at l _ k n ∙ ap (λ (j : ℕ). zeros (b - (a + j)) ++ drop b m) n
 
   pub wiped : take a m′ ≡ take a m → past (a + k) m′ ≡ past (a + k) m → laid a (zeros ((a + k) - a)) m′ ≡ cleared 0 b m
   unfolding laid past
@@ -170,32 +156,32 @@ module _ (a b k : ℕ) (m m′ : List ℕ) (h : a + k ≤ b) (g : b ≤ length m
       ∙ ap (λ (j : ℕ). zeros j ++ drop b m) y
       ∙ sym (laid-start (zeros (b - 0)) m ∙ rw (length-zeros (b - 0), sub-zero))
 
--- the raw list in the memory from the word 3,072 on
-module _ (e : Ending) (c : RegionCoverer) (n : ℕ) (m : List ℕ) (P : (4096 ≤ length m) × (n ≤ 1024) × All Cell (wordsAt 3072 n m) × (c .«min_level» ≤ 30) × (0 < c .«level_mod»)) where
+-- the raw list in the memory behind the queue's words
+module _ (e : Ending) (c : RegionCoverer) (n : ℕ) (m : List ℕ) (P : (memoryWords ≤ length m) × (n ≤ rawMost) × All Cell (wordsAt queueWords n m) × (c .«min_level» ≤ 30) × (0 < c .«level_mod»)) where
   abbrev ids : List ℕ
-  ids = take (length m - 3072) (drop 3072 m)
+  ids = take (length m - queueWords) (drop queueWords m)
 
-  words : take n ids ≡ wordsAt 3072 n m
-  words = part-words 3072 (length m - 3072) m refl n
+  words : take n ids ≡ wordsAt queueWords n m
+  words = part-words queueWords (length m - queueWords) m refl n
 
   pub lay-asks : (n ≤ length ids) × All Cell (take n ids) × (c .«min_level» ≤ 30) × (0 < c .«level_mod»)
-  lay-asks = (omega (arith, P .0, P .1, ap length (part 3072 (length m - 3072) m refl), length-drop 3072 m), subst (All Cell) (sym words) (P .2), P .3, P .4)
+  lay-asks = (omega (arith, P .0, P .1, ap length (part queueWords (length m - queueWords) m refl), length-drop queueWords m), subst (All Cell) (sym words) (P .2), P .3, P .4)
 
-  pub finish-gives : m ≡ holding 3072 4096 (wordsAt 3072 n m) m → (steps aside : ℕ) (o : List ℕ) (w : Laid) (r : Answer) (l m₂ o₂ : List ℕ)
-      → (w ≡ roomFor (listOf e c (take n ids)) o) × (o₂ ≡ laidOver (listOf e c (take n ids)) o) × (l ≡ leftBy e n ids) → r ≡ laidAs w steps aside
-      → m₂ ≡ laid 3072 (zeros ((3072 + n) - 3072)) (take 3072 m ++ (l ++ drop (length m - 3072) (drop 3072 m))) → Answered (fitted (length o) (listOf e c (wordsAt 3072 n m)) steps aside) r m m₂ o o₂
+  pub finish-gives : m ≡ onlyWords queueWords memoryWords (wordsAt queueWords n m) m → (steps aside : ℕ) (o : List ℕ) (w : Laid) (r : Answer) (l m₂ o₂ : List ℕ)
+      → (w ≡ roomFor (listOf e c (take n ids)) o) × (o₂ ≡ laidOver (listOf e c (take n ids)) o) × (l ≡ leftBy e n ids) → r ≡ answerLaid w steps aside
+      → m₂ ≡ laid queueWords (zeros ((queueWords + n) - queueWords)) (take queueWords m ++ (l ++ drop (length m - queueWords) (drop queueWords m))) → Answered (fitted (length o) (listOf e c (wordsAt queueWords n m)) steps aside) r m m₂ o o₂
   finish-gives H steps aside o w r l m₂ o₂ L R M =
-      let j = (3072 + n) - 3072 in
-      answered-as refl (answered-laid (listOf e c (wordsAt 3072 n m)) m o steps aside)
-      (R ∙ ap (λ (v : Laid). laidAs v steps aside) (L .0 ∙ ap (λ (x : List ℕ). roomFor (listOf e c x) o) words))
-      (M ∙ wiped 3072 4096 n m _ (omega (arith, P .1)) (P .0) H
-      (take-at (take 3072 m) _ 3072 (length-take-le 3072 m (omega (arith, P .0))))
-      (put-past 3072 (length m - 3072) m refl (3072 + n) l (omega arith) (omega (arith, P .0, P .1)) (ap (drop j) (L .2) ∙ left-past e n j ids (omega arith) (lay-asks .0) (lay-asks .1))))
+      let j = (queueWords + n) - queueWords in
+      answered-as refl (answered-laid (listOf e c (wordsAt queueWords n m)) m o steps aside)
+      (R ∙ ap (λ (v : Laid). answerLaid v steps aside) (L .0 ∙ ap (λ (x : List ℕ). roomFor (listOf e c x) o) words))
+      (M ∙ wiped queueWords memoryWords n m _ (omega (arith, P .1)) (P .0) H
+      (take-at (take queueWords m) _ queueWords (length-take-le queueWords m (omega (arith, P .0))))
+      (put-past queueWords (length m - queueWords) m refl (queueWords + n) l (omega arith) (omega (arith, P .0, P .1)) (ap (drop j) (L .2) ∙ left-past e n j ids (omega arith) (lay-asks .0) (lay-asks .1))))
       (L .1 ∙ ap (λ (x : List ℕ). laidOver (listOf e c x) o) words)
 
 -- the run's answer tells its outcome
-pub ran-refused : (o : Outcome) (n : ℕ) → Ran.Refused n ≡ Coverer.answerOf o → o ≡ Run.refused n
-unfolding Coverer.answerOf
+pub ran-refused : (o : Outcome) (n : ℕ) → Ran.Refused n ≡ engineAnswer o → o ≡ Run.refused n
+unfolding engineAnswer
 ran-refused (Run.refused k) n e = let z : k ≡ n = cc in ap Run.refused z
 ran-refused (Run.going s) n e = let z : _≡_ {A = ℕ} 0 1 = cc in absurd (omega arith)
 
@@ -206,38 +192,37 @@ pub record RanDone (o : Outcome) (count steps aside : ℕ) : Type 0 where
   pub taken : steps ≡ state .steps
   pub total : aside ≡ asideTotal state
 
-pub ran-done : (o : Outcome) (count steps aside : ℕ) → Ran.Done count steps aside ≡ Coverer.answerOf o → RanDone o count steps aside
-unfolding Coverer.answerOf rawIds
+pub ran-done : (o : Outcome) (count steps aside : ℕ) → Ran.Done count steps aside ≡ engineAnswer o → RanDone o count steps aside
+unfolding engineAnswer rawIds
 ran-done (Run.refused n) count steps aside e = let z : _≡_ {A = ℕ} 0 1 = cc in absurd (omega arith)
 ran-done (Run.going s) count steps aside e =
     let x : count ≡ length (s .raw) = cc in
     record { state = s; is = refl; counted = x ∙ sym (length-map (s .raw) (λ (w : Grown). w .id)); taken = cc; total = cc }
 
-module _ (e : Ending) (inner : Bool) (c : RegionCoverer) (g : Region) (allowance : ℕ) (m o : List ℕ) (none : earlyOf c g (length m) ≡ 0) (m₁ : List ℕ) (M : m₁ ≡ memoryOf (ranOf inner c g allowance) m) where
+module _ (e : Ending) (inner : Bool) (c : RegionCoverer) (g : Region) (allowance : ℕ) (m o : List ℕ) (none : barOf c g (length m) ≡ Bar.Open) (m₁ : List ℕ) (M : m₁ ≡ engineMemory (ranOf inner c g allowance) m) where
   -- 7, 8 or 9
-  pub respond-late : (n : ℕ) → Ran.Refused n ≡ Coverer.answerOf (ranOf inner c g allowance) → Answered (resultOf e inner c g allowance (length m) (length o)) (Answer.Refused n) m m₁ o o
-  unfolding resultOf endedAs memoryOf ranOf outcomeOf
-  respond-late n r =
-      let f : ranOf inner c g allowance ≡ Run.refused n = ran-refused _ n r in
-      let late = run-refuses _ _ _ _ _ allowance n f in
-      answered-as (checked-none c g (length m) _ none ∙ ap (endedAs e c (length o)) f) (answered-late n m o (late .0)) refl (M ∙ ap (λ (w : Outcome). memoryOf w m) f) refl
+  pub respond-late : (n : ℕ) (r : Answer) → Ran.Refused n ≡ engineAnswer (ranOf inner c g allowance) → r ≡ refusal n → Answered (endedAs e c (length o) (ranOf inner c g allowance)) r m m₁ o o
+  unfolding endedAs engineMemory
+  respond-late n r x y =
+      let f : ranOf inner c g allowance ≡ Run.refused n = ran-refused _ n x in
+      answered-as (ap (endedAs e c (length o)) f) (answered-late n m o) y (M ∙ ap (λ (w : Outcome). engineMemory w m) f) refl
 
   module _ (count steps aside : ℕ) (D : RanDone (ranOf inner c g allowance) count steps aside) (same : length m₁ ≡ length m) where
-    ended : m₁ ≡ holding 3072 4096 (rawIds (D .state)) m
-    unfolding memoryOf
-    ended = M ∙ ap (λ (w : Outcome). memoryOf w m) (D .is)
+    ended : m₁ ≡ onlyWords queueWords memoryWords (rawIds (D .state)) m
+    unfolding engineMemory
+    ended = M ∙ ap (λ (w : Outcome). engineMemory w m) (D .is)
 
-    kept-words : wordsAt 3072 count m₁ ≡ rawIds (D .state)
+    kept-words : wordsAt queueWords count m₁ ≡ rawIds (D .state)
     unfolding wordsAt
-    kept-words = ap (λ (x : List ℕ). take count (drop 3072 x)) ended ∙ ap (take count) (holding-words 3072 4096 (rawIds (D .state)) m) ∙ take-at (rawIds (D .state)) _ count (sym (D .counted))
+    kept-words = ap (λ (x : List ℕ). take count (drop queueWords x)) ended ∙ ap (take count) (only-words queueWords memoryWords (rawIds (D .state)) m) ∙ take-at (rawIds (D .state)) _ count (sym (D .counted))
 
     valid : Valid c g (length m)
     valid = early-none c g (length m) none
 
-    few : 3072 + length (rawIds (D .state)) ≤ 4096
-    few = holding-room 3072 4096 (rawIds (D .state)) m (omega arith) (valid .long) (ap length (sym ended) ∙ same)
+    few : queueWords + length (rawIds (D .state)) ≤ memoryWords
+    few = only-room queueWords memoryWords (rawIds (D .state)) m (omega arith) (valid .long) (ap length (sym ended) ∙ same)
 
-    pub finish-asks : (4096 ≤ length m₁) × (count ≤ 1024) × All Cell (wordsAt 3072 count m₁) × (c .«min_level» ≤ 30) × (0 < c .«level_mod»)
+    pub finish-asks : (memoryWords ≤ length m₁) × (count ≤ rawMost) × All Cell (wordsAt queueWords count m₁) × (c .«min_level» ≤ 30) × (0 < c .«level_mod»)
     finish-asks = (
       omega (arith, same, valid .long),
       omega (arith, D .counted, few),
@@ -246,14 +231,14 @@ module _ (e : Ending) (inner : Bool) (c : RegionCoverer) (g : Region) (allowance
       valid .«mod» .0,
     )
 
-    pub finish-holds : m₁ ≡ holding 3072 4096 (wordsAt 3072 count m₁) m₁
-    unfolding holding
-    finish-holds = ended ∙ sym (ap (λ (x : List ℕ). holding 3072 4096 x m₁) kept-words ∙ ap (λ (x : List ℕ). zeros 3072 ++ (rawIds (D .state) ++ (zeros (4096 - (3072 + length (rawIds (D .state)))) ++ x))) (ap (drop 4096) ended ∙ holding-past 3072 4096 (rawIds (D .state)) m few))
+    pub finish-holds : m₁ ≡ onlyWords queueWords memoryWords (wordsAt queueWords count m₁) m₁
+    unfolding onlyWords
+    finish-holds = ended ∙ sym (ap (λ (x : List ℕ). onlyWords queueWords memoryWords x m₁) kept-words ∙ ap (λ (x : List ℕ). zeros queueWords ++ (rawIds (D .state) ++ (zeros (memoryWords - (queueWords + length (rawIds (D .state)))) ++ x))) (ap (drop memoryWords) ended ∙ only-past queueWords memoryWords (rawIds (D .state)) m few))
 
     -- a success, or 10
-    pub respond-done : (r : Answer) (m₂ o₂ : List ℕ) → Answered (fitted (length o) (listOf e c (wordsAt 3072 count m₁)) steps aside) r m₁ m₂ o o₂ → Answered (resultOf e inner c g allowance (length m) (length o)) r m m₂ o o₂
-    unfolding resultOf endedAs past
+    pub respond-done : (r : Answer) (m₂ o₂ : List ℕ) → Answered (fitted (length o) (listOf e c (wordsAt queueWords count m₁)) steps aside) r m₁ m₂ o o₂ → Answered (endedAs e c (length o) (ranOf inner c g allowance)) r m m₂ o o₂
+    unfolding endedAs past
     respond-done r m₂ o₂ A =
-        let x : resultOf e inner c g allowance (length m) (length o) ≡ fitted (length o) (listOf e c (wordsAt 3072 count m₁)) steps aside =
-        checked-none c g (length m) _ none ∙ ap (endedAs e c (length o)) (D .is) ∙ sym (rw (kept-words, D .taken, D .total)) in
-        answered-as x (fitted-front (length o) (listOf e c (wordsAt 3072 count m₁)) steps aside r m m₁ m₂ o o₂ (ap (drop 4096) ended ∙ holding-past 3072 4096 (rawIds (D .state)) m few) A) refl refl refl
+        let x : endedAs e c (length o) (ranOf inner c g allowance) ≡ fitted (length o) (listOf e c (wordsAt queueWords count m₁)) steps aside =
+        ap (endedAs e c (length o)) (D .is) ∙ sym (rw (kept-words, D .taken, D .total)) in
+        answered-as x (fitted-front (length o) (listOf e c (wordsAt queueWords count m₁)) steps aside r m m₁ m₂ o o₂ (ap (drop memoryWords) ended ∙ only-past queueWords memoryWords (rawIds (D .state)) m few) A) refl refl refl

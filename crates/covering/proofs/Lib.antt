@@ -1,4 +1,3 @@
 pub mod Answers
-pub mod Early
 pub mod Starts
 pub mod Table

@@ -5,59 +5,58 @@ use mathlib.Core.Bool.{Bool, true, false}
 use mathlib.Core.List.{List}
 use mathlib.Core.Logic.{_↔_}
 use Prim.Native.Nat.{ℕ, _≤_, _<_}
-use native.Mathlib.Nat.{pos-of-ne-zero}
 use native.Mathlib.Omega.{arith}
-use lib.Dec.{leb, eqb}
-use lib.ListN.{length, drop}
-use borrow.Author.Tests.{le-leb, lt-leb, leb-true, leb-false, ne-eqb, eqb-true, eqb-false}
+use lib.Dec.{leb}
+use lib.ListN.{length, take, drop}
+use lib.Seq.{take-at}
+use borrow.Author.Tests.{le-leb, lt-leb, leb-true, leb-false}
 use Rattle.region.specs.declared.Region.{Region}
 use Rattle.region.specs.Region.{boundOf}
-use Rattle.fast.specs.declared.RegionCoverer.{RegionCoverer}
+use Rattle.run.specs.declared.RegionCoverer.{RegionCoverer}
 use Rattle.fast.specs.Memory.{fastCoveringFor}
-use Rattle.run.specs.Run.{Outcome, State, rawIds, asideTotal}
+use Rattle.run.specs.Run.{Outcome, State, rawIds, asideTotal, memoryWords}
 use Rattle.run.specs.Run as Run
 use Rattle.run.proofs.Lists.{if-ok}
 use Rattle.run.proofs.Steps.{run-refuses}
 use Rattle.coverer.specs.Coverer.{cleared, outcomeOf}
 use Rattle.covering.specs.declared.Answer.{Answer}
+use Rattle.bars.specs.declared.Bar.{Bar}
 use Rattle.covering.specs.declared.Ending.{Ending}
-use Rattle.covering.specs.Covering.{earlyOf, Result, refused, done, fitted, checked, listOf, endedAs, ranOf, resultOf, fastResultOf, answerOf, Values, valuesOf, outputAfter, memoryAfter, Answered}
-use Rattle.covering.proofs.Early.{Early, early-is, early-given, early-low}
-use Rattle.covering.proofs.Answers.{checked-none}
+use Rattle.covering.specs.declared.Kind.{Kind}
+use Rattle.bars.specs.Bars.{barOf}
+use Rattle.covering.specs.Covering.{Result, barred, refused, done, fitted, checked, listOf, endedAs, ranOf, comesTo, resultOf, refusal, answerOf, outputAfter, memoryAfter, Answered}
+use Rattle.bars.proofs.Early.{Early, early-is, early-given, early-low, Valid, early-none}
 
 -- the paper's number of a result
 abbrev pub numberOf : Result → ℕ
-numberOf R = valuesOf (answerOf R) .number
+numberOf R = answerOf R .number
 
 -- ---- 1 to 6 first, else what the request comes to
 
 number-refused : (n : ℕ) → numberOf (refused n) ≡ n
-unfolding valuesOf answerOf
+unfolding answerOf
 number-refused n = refl
-
-number-done : (l : List ℕ) (steps aside : ℕ) → numberOf (done l steps aside) ≡ 0
-unfolding valuesOf answerOf
-number-done l steps aside = refl
 
 module _ (c : RegionCoverer) (g : Region) (memory : ℕ) (R : Result) where
   data First : ℕ → Type 0 where
-    given : {n : ℕ} → Early c g memory n → 0 < n → First n
-    passed : Early c g memory 0 → First (numberOf R)
+    given : {n : ℕ} → Early c g memory (Bar.Barred n) → First n
+    passed : Early c g memory Bar.Open → First (numberOf R)
 
-  first-is : First (numberOf (checked c g memory R))
-  first-is = if-ok (λ (W : Result). First (numberOf W)) (eqb (earlyOf c g memory) 0) _ _
-      (λ t. passed (subst (Early c g memory) (eqb-true _ _ t) (early-is c g memory)))
-      (λ t. let z : earlyOf c g memory ≡ 0 → ⊥ = eqb-false _ _ t in subst First (sym (number-refused (earlyOf c g memory))) (given (early-is c g memory) (pos-of-ne-zero z)))
+  first-is : First (numberOf (checked (barOf c g memory) R))
+  unfolding checked answerOf
+  first-is = of (barOf c g memory) (early-is c g memory)
+    where
+      of : (b : Bar) → Early c g memory b → First (numberOf (checked b R))
+      of Bar.Open E = passed E
+      of (Bar.Barred n) E = given E
 
-  first-given : (n : ℕ) → Early c g memory n → 0 < n → numberOf (checked c g memory R) ≡ n
-  first-given n E h =
-      let e = early-given c g memory n E in
-      let t : eqb (earlyOf c g memory) 0 ≡ false = ne-eqb _ _ (λ (z : earlyOf c g memory ≡ 0). omega arith) in
-      let r : checked c g memory R ≡ refused (earlyOf c g memory) = rw (checked, t) in
-      ap numberOf r ∙ number-refused (earlyOf c g memory) ∙ e
+  first-given : (n : ℕ) → Early c g memory (Bar.Barred n) → numberOf (checked (barOf c g memory) R) ≡ n
+  unfolding checked answerOf
+  first-given n E = ap (λ (b : Bar). numberOf (checked b R)) (early-given c g memory (Bar.Barred n) E)
 
-  first-passed : Early c g memory 0 → checked c g memory R ≡ R
-  first-passed E = checked-none c g memory R (early-given c g memory 0 E)
+  first-passed : Early c g memory Bar.Open → checked (barOf c g memory) R ≡ R
+  unfolding checked
+  first-passed E = ap (λ (b : Bar). checked b R) (early-given c g memory Bar.Open E)
 
 -- a finished list: 10 where it is longer than the output, else a success
 module _ (room : ℕ) (l : List ℕ) (steps aside : ℕ) where
@@ -66,180 +65,254 @@ module _ (room : ℕ) (l : List ℕ) (steps aside : ℕ) where
     fits : length l ≤ room → Fitted 0
 
   fitted-is : Fitted (numberOf (fitted room l steps aside))
-  unfolding fitted valuesOf answerOf
+  unfolding fitted answerOf
   fitted-is = if-ok (λ (W : Result). Fitted (numberOf W)) (leb (length l) room) _ _ (λ t. fits (leb-true _ _ t)) (λ t. long (leb-false _ _ t))
 
   fitted-given : (n : ℕ) → Fitted n → numberOf (fitted room l steps aside) ≡ n
-  unfolding fitted valuesOf answerOf
+  unfolding fitted answerOf
   fitted-given n (long h) = rw (fitted, lt-leb (length l) room h)
   fitted-given n (fits h) = rw (fitted, le-leb (length l) room h)
 
--- ---- each number is given exactly when
+-- ---- each number is given exactly when, for every kind of answer
 
-module _ (e : Ending) (inner : Bool) (c : RegionCoverer) (g : Region) (allowance memory room : ℕ) where
-  abbrev ran : Outcome
-  ran = ranOf inner c g allowance
+-- the run of a request is refused with the number n; the quick covering has no run
+unfoldable pub Stopped : Kind → RegionCoverer → Region → ℕ → ℕ → Type 0
+Stopped (Kind.Outer e) c g allowance n = ranOf false c g allowance ≡ Run.refused n
+Stopped (Kind.Inner e) c g allowance n = ranOf true c g allowance ≡ Run.refused n
+Stopped Kind.Fast c g allowance n = ⊥
 
+-- a run's finished list, with its steps and its set-aside total
+pub record RunFinished (e : Ending) (inner : Bool) (c : RegionCoverer) (g : Region) (allowance : ℕ) (l : List ℕ) (steps aside : ℕ) : Type 0 where
+  pub state : State
+  pub ran : ranOf inner c g allowance ≡ Run.going state
+  pub list : l ≡ listOf e c (rawIds state)
+  pub taken : steps ≡ state .steps
+  pub total : aside ≡ asideTotal state
+
+-- the finished list of each kind
+unfoldable pub Finished : Kind → RegionCoverer → Region → ℕ → List ℕ → ℕ → ℕ → Type 0
+Finished (Kind.Outer e) c g allowance l steps aside = RunFinished e false c g allowance l steps aside
+Finished (Kind.Inner e) c g allowance l steps aside = RunFinished e true c g allowance l steps aside
+Finished Kind.Fast c g allowance l steps aside = (l ≡ fastCoveringFor c (boundOf g)) × (steps ≡ 0) × (aside ≡ 0)
+
+module _ (c : RegionCoverer) (g : Region) (allowance room : ℕ) where
+  data Comes (k : Kind) : Result → Type 0 where
+    stopped : {n : ℕ} → Stopped k c g allowance n → Comes k (refused n)
+    finished : (l : List ℕ) (steps aside : ℕ) → Finished k c g allowance l steps aside → Comes k (fitted room l steps aside)
+
+  -- a run comes to a refusal or to a finished list
+  module _ (e : Ending) (inner : Bool) (k : Kind) (late : (n : ℕ) → ranOf inner c g allowance ≡ Run.refused n → Stopped k c g allowance n)
+      (end : (l : List ℕ) (steps aside : ℕ) → RunFinished e inner c g allowance l steps aside → Finished k c g allowance l steps aside) where
+    run-comes : (o : Outcome) → ranOf inner c g allowance ≡ o → Comes k (endedAs e c room o)
+    unfolding endedAs
+    run-comes (Run.refused n) f = stopped (late n f)
+    run-comes (Run.going s) f = finished _ _ _ (end _ _ _ (record { state = s; ran = f; list = refl; taken = refl; total = refl }))
+
+  comes-is : (k : Kind) → Comes k (comesTo k c g allowance room)
+  unfolding comesTo Stopped Finished
+  comes-is (Kind.Outer e) = run-comes e false (Kind.Outer e) (λ n f. f) (λ l steps aside F. F) _ refl
+  comes-is (Kind.Inner e) = run-comes e true (Kind.Inner e) (λ n f. f) (λ l steps aside F. F) _ refl
+  comes-is Kind.Fast = finished _ 0 0 (refl, refl, refl)
+
+  stopped-comes : (k : Kind) (n : ℕ) → Stopped k c g allowance n → comesTo k c g allowance room ≡ refused n
+  unfolding comesTo Stopped endedAs
+  stopped-comes (Kind.Outer e) n f = ap (endedAs e c room) f
+  stopped-comes (Kind.Inner e) n f = ap (endedAs e c room) f
+  stopped-comes Kind.Fast n f = absurd f
+
+  run-finished : (e : Ending) (inner : Bool) (l : List ℕ) (steps aside : ℕ) → RunFinished e inner c g allowance l steps aside → endedAs e c room (ranOf inner c g allowance) ≡ fitted room l steps aside
+  unfolding endedAs
+  run-finished e inner l steps aside F = ap (endedAs e c room) (F .ran) ∙ sym (rw (F .list, F .taken, F .total))
+
+  finished-comes : (k : Kind) (l : List ℕ) (steps aside : ℕ) → Finished k c g allowance l steps aside → comesTo k c g allowance room ≡ fitted room l steps aside
+  unfolding comesTo Finished
+  finished-comes (Kind.Outer e) l steps aside F = run-finished e false l steps aside F
+  finished-comes (Kind.Inner e) l steps aside F = run-finished e true l steps aside F
+  finished-comes Kind.Fast l steps aside F = sym (rw (F .0, F .1, F .2))
+
+  run-late : (inner : Bool) (n : ℕ) → ranOf inner c g allowance ≡ Run.refused n → (7 ≤ n) × (n ≤ 9)
+  unfolding ranOf outcomeOf
+  run-late inner n f = run-refuses _ _ _ allowance n f
+
+  stopped-late : (k : Kind) (n : ℕ) → Stopped k c g allowance n → (7 ≤ n) × (n ≤ 9)
+  unfolding Stopped
+  stopped-late (Kind.Outer e) n f = run-late false n f
+  stopped-late (Kind.Inner e) n f = run-late true n f
+  stopped-late Kind.Fast n f = absurd f
+
+module _ (k : Kind) (c : RegionCoverer) (g : Region) (allowance memory room : ℕ) where
   abbrev number : ℕ
-  number = numberOf (resultOf e inner c g allowance memory room)
+  number = numberOf (resultOf k c g allowance memory room)
 
   data Given : ℕ → Type 0 where
-    first : {n : ℕ} → Early c g memory n → 0 < n → Given n
-    late : {n : ℕ} → Early c g memory 0 → ran ≡ Run.refused n → Given n
-    ended : {n : ℕ} {s : State} → Early c g memory 0 → ran ≡ Run.going s → Fitted room (listOf e c (rawIds s)) (s .steps) (asideTotal s) n → Given n
-
-  ended-is : (o : Outcome) → Early c g memory 0 → ran ≡ o → Given (numberOf (endedAs e c room o))
-  unfolding endedAs
-  ended-is (Run.refused n) E f = subst Given (sym (number-refused n)) (late E f)
-  ended-is (Run.going s) E f = ended E f (fitted-is room (listOf e c (rawIds s)) (s .steps) (asideTotal s))
+    first : {n : ℕ} → Early c g memory (Bar.Barred n) → Given n
+    late : {n : ℕ} → Early c g memory Bar.Open → Stopped k c g allowance n → Given n
+    ended : {n : ℕ} {l : List ℕ} {steps aside : ℕ} → Early c g memory Bar.Open → Finished k c g allowance l steps aside → Fitted room l steps aside n → Given n
 
   given-is : Given number
-  unfolding resultOf
-  given-is = from (first-is c g memory (endedAs e c room ran))
+  unfolding resultOf answerOf
+  given-is = from (first-is c g memory (comesTo k c g allowance room))
     where
-      from : {n : ℕ} → First c g memory (endedAs e c room ran) n → Given n
-      from (given E h) = first E h
-      from (passed E) = ended-is ran E refl
+      then : Early c g memory Bar.Open → {R : Result} → Comes c g allowance room k R → Given (numberOf R)
+      then E (stopped S) = late E S
+      then E (finished l steps aside F) = ended E F (fitted-is room l steps aside)
+
+      from : {n : ℕ} → First c g memory (comesTo k c g allowance room) n → Given n
+      from (given E) = first E
+      from (passed E) = then E (comes-is c g allowance room k)
 
   given-number : (n : ℕ) → Given n → number ≡ n
-  unfolding resultOf endedAs
-  given-number n (first E h) = first-given c g memory (endedAs e c room ran) n E h
-  given-number n (late E f) = ap numberOf (first-passed c g memory (endedAs e c room ran) E ∙ ap (endedAs e c room) f) ∙ number-refused n
-  given-number n (ended {s = s} E f h) =
-      ap numberOf (first-passed c g memory (endedAs e c room ran) E ∙ ap (endedAs e c room) f) ∙ fitted-given room (listOf e c (rawIds s)) (s .steps) (asideTotal s) n h
-
-  ran-late : (n : ℕ) → ran ≡ Run.refused n → (7 ≤ n) × (n ≤ 9)
-  unfolding ranOf outcomeOf
-  ran-late n f = run-refuses _ _ _ _ _ allowance n f
+  unfolding resultOf
+  given-number n (first E) = first-given c g memory (comesTo k c g allowance room) n E
+  given-number n (late E S) = ap numberOf (first-passed c g memory (comesTo k c g allowance room) E ∙ stopped-comes c g allowance room k n S) ∙ number-refused n
+  given-number n (ended {l = l} {steps} {aside} E F h) =
+      ap numberOf (first-passed c g memory (comesTo k c g allowance room) E ∙ finished-comes c g allowance room k l steps aside F) ∙ fitted-given room l steps aside n h
 
   -- 1 to 6: `Early` has the rows, each with the earlier ones not true
-  pub when-early : (n : ℕ) → 0 < n → n ≤ 6 → (number ≡ n) ↔ Early c g memory n
-  when-early n h k = (λ x. of n h k (subst Given x given-is), λ E. given-number n (first E h))
+  pub when-early : (n : ℕ) → n ≤ 6 → 0 < n → (number ≡ n) ↔ Early c g memory (Bar.Barred n)
+  when-early n h p = (λ x. of n h p (subst Given x given-is), λ E. given-number n (first E))
     where
-      of : (n : ℕ) → 0 < n → n ≤ 6 → Given n → Early c g memory n
-      of n h k (first E p) = E
-      of n h k (late E f) = absurd (omega (arith, ran-late n f .0))
-      of n h k (ended E f (long p)) = absurd (omega arith)
-      of n h k (ended E f (fits p)) = absurd (omega arith)
+      of : (n : ℕ) → n ≤ 6 → 0 < n → Given n → Early c g memory (Bar.Barred n)
+      of n h p (first E) = E
+      of n h p (late E S) = absurd (omega (arith, stopped-late c g allowance room k n S .0))
+      of n h p (ended E F (long q)) = absurd (omega arith)
+      of n h p (ended E F (fits q)) = absurd (omega arith)
 
   -- 7 to 9: none of these, and the defined run is refused with the number
-  pub when-late : (n : ℕ) → 7 ≤ n → n ≤ 9 → (number ≡ n) ↔ (Early c g memory 0 × (ran ≡ Run.refused n))
-  when-late n h k = (λ x. of n h k (subst Given x given-is), λ w. given-number n (late (w .0) (w .1)))
+  pub when-late : (n : ℕ) → 7 ≤ n → n ≤ 9 → (number ≡ n) ↔ (Early c g memory Bar.Open × Stopped k c g allowance n)
+  when-late n h p = (λ x. of n h p (subst Given x given-is), λ w. given-number n (late (w .0) (w .1)))
     where
-      of : (n : ℕ) → 7 ≤ n → n ≤ 9 → Given n → Early c g memory 0 × (ran ≡ Run.refused n)
-      of n h k (first E p) = absurd (omega (arith, early-low c g memory, early-given c g memory n E))
-      of n h k (late E f) = (E, f)
-      of n h k (ended E f (long p)) = absurd (omega arith)
-      of n h k (ended E f (fits p)) = absurd (omega arith)
+      of : (n : ℕ) → 7 ≤ n → n ≤ 9 → Given n → Early c g memory Bar.Open × Stopped k c g allowance n
+      of n h p (first E) = absurd (omega (arith, early-low c g memory E .1))
+      of n h p (late E S) = (E, S)
+      of n h p (ended E F (long q)) = absurd (omega arith)
+      of n h p (ended E F (fits q)) = absurd (omega arith)
 
-  -- 10: the run ends, and the finished list is longer than the output
-  pub when-long : (number ≡ 10) ↔ (Early c g memory 0 × ((s : State) × (ran ≡ Run.going s) × (room < length (listOf e c (rawIds s)))))
-  when-long = (λ x. of 10 refl (subst Given x given-is), λ w. given-number 10 (ended (w .0) (w .1 .1) (long (w .1 .2))))
+  -- a finished list, its steps and its set-aside total, of which Q is true
+  abbrev pub Ended : (List ℕ → Type 0) → Type 0
+  Ended Q = Early c g memory Bar.Open × ((l : List ℕ) × (steps : ℕ) × (aside : ℕ) × Finished k c g allowance l steps aside × Q l)
+
+  -- 10: the list is finished, and longer than the output
+  pub when-long : (number ≡ 10) ↔ Ended (λ l. room < length l)
+  when-long = (λ x. of 10 refl (subst Given x given-is), λ w. given-number 10 (ended (w .0) (w .1 .3) (long (w .1 .4))))
     where
-      of : (n : ℕ) → n ≡ 10 → Given n → Early c g memory 0 × ((s : State) × (ran ≡ Run.going s) × (room < length (listOf e c (rawIds s))))
-      of n z (first E p) = absurd (omega (arith, early-low c g memory, early-given c g memory n E))
-      of n z (late E f) = absurd (omega (arith, ran-late n f .1))
-      of n z (ended {s = s} E f (long p)) = (E, (s, f, p))
-      of n z (ended E f (fits p)) = absurd (omega arith)
+      of : (n : ℕ) → n ≡ 10 → Given n → Ended (λ l. room < length l)
+      of n z (first E) = absurd (omega (arith, early-low c g memory E .1))
+      of n z (late E S) = absurd (omega (arith, stopped-late c g allowance room k n S .1))
+      of n z (ended E F (long q)) = (E, (_, _, _, F, q))
+      of n z (ended E F (fits q)) = absurd (omega arith)
 
   -- a success: none of the ten
-  pub when-done : (number ≡ 0) ↔ (Early c g memory 0 × ((s : State) × (ran ≡ Run.going s) × (length (listOf e c (rawIds s)) ≤ room)))
-  when-done = (λ x. of 0 refl (subst Given x given-is), λ w. given-number 0 (ended (w .0) (w .1 .1) (fits (w .1 .2))))
+  pub when-done : (number ≡ 0) ↔ Ended (λ l. length l ≤ room)
+  when-done = (λ x. of 0 refl (subst Given x given-is), λ w. given-number 0 (ended (w .0) (w .1 .3) (fits (w .1 .4))))
     where
-      of : (n : ℕ) → n ≡ 0 → Given n → Early c g memory 0 × ((s : State) × (ran ≡ Run.going s) × (length (listOf e c (rawIds s)) ≤ room))
-      of n z (first E p) = absurd (omega arith)
-      of n z (late E f) = absurd (omega (arith, ran-late n f .0))
-      of n z (ended E f (long p)) = absurd (omega arith)
-      of n z (ended {s = s} E f (fits p)) = (E, (s, f, p))
+      of : (n : ℕ) → n ≡ 0 → Given n → Ended (λ l. length l ≤ room)
+      of n z (first E) = absurd (omega (arith, early-low c g memory E .0))
+      of n z (late E S) = absurd (omega (arith, stopped-late c g allowance room k n S .0))
+      of n z (ended E F (long q)) = absurd (omega arith)
+      of n z (ended E F (fits q)) = (E, (_, _, _, F, q))
 
   -- and no other number is given
   pub number-small : number ≤ 10
   number-small = of given-is
     where
       of : {n : ℕ} → Given n → n ≤ 10
-      of {n} (first E p) = omega (arith, early-low c g memory, early-given c g memory n E)
-      of {n} (late E f) = omega (arith, ran-late n f .1)
-      of (ended E f (long p)) = omega arith
-      of (ended E f (fits p)) = omega arith
+      of {n} (first E) = omega (arith, early-low c g memory E .1)
+      of {n} (late E S) = omega (arith, stopped-late c g allowance room k n S .1)
+      of (ended E F (long q)) = omega arith
+      of (ended E F (fits q)) = omega arith
 
 -- "`fast_covering` gives only 1 to 6 and 10"
-module _ (c : RegionCoverer) (g : Region) (memory room : ℕ) where
-  abbrev fastList : List ℕ
-  fastList = fastCoveringFor c (boundOf g)
+pub fast-numbers : (c : RegionCoverer) (g : Region) (allowance memory room n : ℕ) → 7 ≤ n → n ≤ 9 → numberOf (resultOf Kind.Fast c g allowance memory room) ≡ n → ⊥
+unfolding Stopped
+fast-numbers c g allowance memory room n h p x = when-late Kind.Fast c g allowance memory room n h p .0 x .1
 
-  abbrev fastNumber : ℕ
-  fastNumber = numberOf (fastResultOf c g memory room)
+-- ---- what any result is: a refusal's number is not 0, and a list is no longer than the output has places
 
-  data FastGiven : ℕ → Type 0 where
-    first : {n : ℕ} → Early c g memory n → 0 < n → FastGiven n
-    ended : {n : ℕ} → Early c g memory 0 → Fitted room fastList 0 0 n → FastGiven n
+unfoldable pub Sound : ℕ → Result → Type 0
+Sound room (barred n) = 0 < n
+Sound room (refused n) = 0 < n
+Sound room (done l steps aside) = length l ≤ room
 
-  fast-is : FastGiven fastNumber
-  unfolding fastResultOf
-  fast-is = from (first-is c g memory (fitted room fastList 0 0))
+fitted-sound : (room : ℕ) (l : List ℕ) (steps aside : ℕ) → Sound room (fitted room l steps aside)
+unfolding fitted Sound
+fitted-sound room l steps aside = if-ok (Sound room) (leb (length l) room) _ _ (λ t. leb-true _ _ t) (λ t. omega arith)
+
+module _ (k : Kind) (c : RegionCoverer) (g : Region) (allowance memory room : ℕ) where
+  comes-sound : {R : Result} → Comes c g allowance room k R → Sound room R
+  unfolding Sound
+  comes-sound (stopped {n} S) = omega (arith, stopped-late c g allowance room k n S .0)
+  comes-sound (finished l steps aside F) = fitted-sound room l steps aside
+
+  pub result-sound : Sound room (resultOf k c g allowance memory room)
+  unfolding resultOf checked Sound
+  result-sound = of (barOf c g memory) (early-is c g memory)
     where
-      from : {n : ℕ} → First c g memory (fitted room fastList 0 0) n → FastGiven n
-      from (given E h) = first E h
-      from (passed E) = ended E (fitted-is room fastList 0 0)
-
-  fast-number : (n : ℕ) → FastGiven n → fastNumber ≡ n
-  unfolding fastResultOf
-  fast-number n (first E h) = first-given c g memory (fitted room fastList 0 0) n E h
-  fast-number n (ended E h) = ap numberOf (first-passed c g memory (fitted room fastList 0 0) E) ∙ fitted-given room fastList 0 0 n h
-
-  pub fast-when-early : (n : ℕ) → 0 < n → n ≤ 6 → (fastNumber ≡ n) ↔ Early c g memory n
-  fast-when-early n h k = (λ x. of n h k (subst FastGiven x fast-is), λ E. fast-number n (first E h))
-    where
-      of : (n : ℕ) → 0 < n → n ≤ 6 → FastGiven n → Early c g memory n
-      of n h k (first E p) = E
-      of n h k (ended E (long p)) = absurd (omega arith)
-      of n h k (ended E (fits p)) = absurd (omega arith)
-
-  pub fast-when-long : (fastNumber ≡ 10) ↔ (Early c g memory 0 × (room < length fastList))
-  fast-when-long = (λ x. of 10 refl (subst FastGiven x fast-is), λ w. fast-number 10 (ended (w .0) (long (w .1))))
-    where
-      of : (n : ℕ) → n ≡ 10 → FastGiven n → Early c g memory 0 × (room < length fastList)
-      of n z (first E p) = absurd (omega (arith, early-low c g memory, early-given c g memory n E))
-      of n z (ended E (long p)) = (E, p)
-      of n z (ended E (fits p)) = absurd (omega arith)
-
-  pub fast-when-done : (fastNumber ≡ 0) ↔ (Early c g memory 0 × (length fastList ≤ room))
-  fast-when-done = (λ x. of 0 refl (subst FastGiven x fast-is), λ w. fast-number 0 (ended (w .0) (fits (w .1))))
-    where
-      of : (n : ℕ) → n ≡ 0 → FastGiven n → Early c g memory 0 × (length fastList ≤ room)
-      of n z (first E p) = absurd (omega arith)
-      of n z (ended E (long p)) = absurd (omega arith)
-      of n z (ended E (fits p)) = (E, p)
-
-  pub fast-numbers : (n : ℕ) → fastNumber ≡ n → 6 < n → n ≡ 10
-  fast-numbers n x h = of n h (subst FastGiven x fast-is)
-    where
-      of : (n : ℕ) → 6 < n → FastGiven n → n ≡ 10
-      of n h (first E p) = absurd (omega (arith, early-low c g memory, early-given c g memory n E))
-      of n h (ended E (long p)) = refl
-      of n h (ended E (fits p)) = absurd (omega arith)
+      of : (b : Bar) → Early c g memory b → Sound room (checked b (comesTo k c g allowance room))
+      of Bar.Open E = comes-sound (comes-is c g allowance room k)
+      of (Bar.Barred n) E = early-low c g memory E .0
 
 -- ---- what a refusal leaves
 
 -- "Each refusal returns its number, count 0, steps 0, set-aside 0, and the output unchanged."
-pub refusal-values : (R : Result) (out : List ℕ) → 0 < numberOf R → (valuesOf (answerOf R) ≡ record { number = numberOf R; count = 0; steps = 0; aside = 0 }) × (outputAfter R out ≡ out)
-unfolding valuesOf answerOf outputAfter
+pub refusal-values : (R : Result) (out : List ℕ) → 0 < numberOf R → (answerOf R ≡ refusal (numberOf R)) × (outputAfter R out ≡ out)
+unfolding answerOf outputAfter
+refusal-values (barred n) out h = (refl, refl)
 refusal-values (refused n) out h = (refl, refl)
 refusal-values (done l steps aside) out h = absurd (omega arith)
 
--- 1 to 6: "unchanged"
-pub refusal-early : (R : Result) (m : List ℕ) → 0 < numberOf R → numberOf R ≤ 6 → memoryAfter R m ≡ m
-unfolding valuesOf answerOf memoryAfter
-refusal-early (refused n) m h k = rw (memoryAfter, le-leb n 6 k)
-refusal-early (done l steps aside) m h k = absurd (omega arith)
+module _ (k : Kind) (c : RegionCoverer) (g : Region) (allowance memory room : ℕ) (m : List ℕ) where
+  fitted-cleared : (l : List ℕ) (steps aside : ℕ) → memoryAfter (fitted room l steps aside) m ≡ cleared 0 memoryWords m
+  unfolding fitted memoryAfter
+  fitted-cleared l steps aside = if-ok (λ (W : Result). memoryAfter W m ≡ cleared 0 memoryWords m) (leb (length l) room) _ _ (λ t. refl) (λ t. refl)
 
--- 7 to 10: "first 4,096 zero"
-pub refusal-late : (R : Result) (m : List ℕ) → 6 < numberOf R → memoryAfter R m ≡ cleared 0 4096 m
-unfolding valuesOf answerOf memoryAfter
-refusal-late (refused n) m h = rw (memoryAfter, lt-leb n 6 h)
-refusal-late (done l steps aside) m h = absurd (omega arith)
+  comes-cleared : {R : Result} → Comes c g allowance room k R → memoryAfter R m ≡ cleared 0 memoryWords m
+  unfolding memoryAfter
+  comes-cleared (stopped S) = refl
+  comes-cleared (finished l steps aside F) = fitted-cleared l steps aside
+
+  -- 1 to 6: "unchanged"
+  pub refusal-early : (n : ℕ) → n ≤ 6 → 0 < n → numberOf (resultOf k c g allowance memory room) ≡ n → memoryAfter (resultOf k c g allowance memory room) m ≡ m
+  unfolding resultOf checked memoryAfter
+  refusal-early n h p x = ap (λ (b : Bar). memoryAfter (checked b (comesTo k c g allowance room)) m) (early-given c g memory (Bar.Barred n) (when-early k c g allowance memory room n h p .0 x))
+
+  -- 7 to 10, and a success: "first 4,096 zero"
+  pub refusal-late : Early c g memory Bar.Open → memoryAfter (resultOf k c g allowance memory room) m ≡ cleared 0 memoryWords m
+  unfolding resultOf
+  refusal-late E = ap (λ (R : Result). memoryAfter R m) (first-passed c g memory (comesTo k c g allowance room) E) ∙ comes-cleared (comes-is c g allowance room k)
 
 -- ---- any two results that a contract allows are one: the answer, the whole memory and the whole output
 
 pub determined : (R : Result) (r r′ : Answer) (m m₁ m₂ o o₁ o₂ : List ℕ) → Answered R r m m₁ o o₁ → Answered R r′ m m₂ o o₂ → (r ≡ r′) × (m₁ ≡ m₂) × (o₁ ≡ o₂)
 determined R r r′ m m₁ m₂ o o₁ o₂ a b = (a .answer ∙ sym (b .answer), a .memory ∙ sym (b .memory), a .output ∙ sym (b .output))
+
+-- ---- what a success says: the finished list stands in the output's first places
+
+pub record Done (k : Kind) (c : RegionCoverer) (g : Region) (allowance memory : ℕ) (r : Answer) (out : List ℕ) : Type 0 where
+  pub valid : Valid c g memory
+  pub finished : Finished k c g allowance (take (r .count) out) (r .steps) (r .aside)
+
+fitted-done : (room : ℕ) (l : List ℕ) (steps aside : ℕ) (out : List ℕ) → length l ≤ room
+    → (answerOf (fitted room l steps aside) ≡ record { number = 0; count = length l; steps = steps; aside = aside }) × (take (length l) (outputAfter (fitted room l steps aside) out) ≡ l)
+unfolding fitted answerOf outputAfter
+fitted-done room l steps aside out h = rw (le-leb (length l) room h, fitted) (refl, take-at l (drop (length l) out) (length l) refl)
+
+finished-as : (k : Kind) (c : RegionCoverer) (g : Region) (allowance : ℕ) (l l′ : List ℕ) (steps steps′ aside aside′ : ℕ) → l ≡ l′ → steps ≡ steps′ → aside ≡ aside′
+    → Finished k c g allowance l steps aside → Finished k c g allowance l′ steps′ aside′
+finished-as k c g allowance l l′ steps steps′ aside aside′ e d f F = rw (← e, ← d, ← f) F
+
+pub answered-done : (k : Kind) (c : RegionCoverer) (g : Region) (allowance : ℕ) (r : Answer) (mem mem′ out out′ : List ℕ)
+    → Answered (resultOf k c g allowance (length mem) (length out)) r mem mem′ out out′ → r .number ≡ 0 → Done k c g allowance (length mem) r out′
+unfolding resultOf
+answered-done k c g allowance r mem mem′ out out′ A z =
+    let R = resultOf k c g allowance (length mem) (length out) in
+    let w = when-done k c g allowance (length mem) (length out) .0 (sym (ap (λ (a : Answer). a .number) (A .answer)) ∙ z) in
+    let l = w .1 .0 in
+    let e : R ≡ fitted (length out) l (w .1 .1) (w .1 .2) = first-passed c g (length mem) (comesTo k c g allowance (length out)) (w .0) ∙ finished-comes c g allowance (length out) k l (w .1 .1) (w .1 .2) (w .1 .3) in
+    let f = fitted-done (length out) l (w .1 .1) (w .1 .2) out (w .1 .4) in
+    let d : r ≡ record { number = 0; count = length l; steps = w .1 .1; aside = w .1 .2 } = A .answer ∙ ap answerOf e ∙ f .0 in
+    let t : l ≡ take (r .count) out′ = sym (ap (λ (a : Answer). take (a .count) out′) d ∙ ap (take (length l)) (A .output ∙ ap (λ (W : Result). outputAfter W out) e) ∙ f .1) in
+    record {
+      valid = early-none c g (length mem) (early-given c g (length mem) Bar.Open (w .0));
+      finished = finished-as k c g allowance l _ (w .1 .1) _ (w .1 .2) _ t (sym (ap (λ (a : Answer). a .steps) d)) (sym (ap (λ (a : Answer). a .aside) d)) (w .1 .3);
+    }

@@ -7,54 +7,58 @@ ghost use lib.ListN.{length, take};
 ghost use Rattle.cellid.specs.CellId.{Cell};
 ghost use Rattle.order.specs.Order.{All};
 ghost use Rattle.cellunion.specs.Memory.{roomFor, laidOver};
-ghost use Rattle.covering.specs.Covering.{earlyOf, fitted, listOf, ranOf, leftBy, laidAs, resultOf, fastResultOf, Answered};
-ghost use Rattle.coverer.specs.Coverer.{cleared, holding, answerOf, memoryOf};
+ghost use Rattle.bars.specs.declared.Bar.{Bar};
+ghost use Rattle.bars.specs.Bars.{barOf};
+ghost use Rattle.covering.specs.declared.Kind.{Kind};
+ghost use Rattle.covering.specs.declared.Ending.{Ending};
+ghost use Rattle.covering.specs.Covering.{refusal, fitted, listOf, ranOf, endedAs, leftBy, answerLaid, checked, resultOf, Answered};
+ghost use Rattle.fast.specs.Memory.{fastCoveringFor};
+ghost use Rattle.region.specs.Region.{boundOf};
+ghost use Rattle.run.specs.Run.{rawMost, queueWords, memoryWords};
+ghost use Rattle.coverer.specs.Coverer.{cleared, onlyWords, engineAnswer, engineMemory};
 ghost use Rattle.coverer.specs.Engine.{wordsAt};
-use candidate::Asked;
+use bars::Bar;
 use cellunion::Laid;
 use coverer::Ran;
-use fast::RegionCoverer;
 use region::Region;
+use run::MEMORY_WORDS;
+use run::QUEUE_WORDS;
+use run::RegionCoverer;
+use run::Request;
 
-// Done: how many ids stand in the output's first places, how many steps the run took, how many leaves it set aside. Refused: paper 01's number.
-pub enum Answer {
-    Done(usize, u32, u64),
-    Refused(u64),
+// The answer's number and values: 0 for a success, else paper 01's number of the refusal; how many ids stand in the output's first places, how many steps the
+// run took, how many leaves it set aside. A refusal has zeros there.
+pub struct Answer {
+    pub number: u64,
+    pub count: usize,
+    pub steps: u32,
+    pub aside: u64,
 }
 
-// Which list a request asks for: the raw one, in the order kept, the normalised one, or the final one.
+// Which list of a run a request asks for: the raw one, in the order kept, the normalised one, or the final one.
 pub enum Ending {
     Raw,
     CellUnion,
     Covering,
 }
 
-// The first of the refusals 1 to 6 that is to be given, or 0.
-pub fn first_refusal(c: RegionCoverer, g: Region, memory: usize) -> u64
-    ensures { λ r. ⌜ r ≡ earlyOf c g memory ⌝ }
+// Every kind of answer: a list of the outer run, one of the inner run, or the quick covering.
+pub enum Kind {
+    Outer(Ending),
+    Inner(Ending),
+    Fast,
+}
+
+// A refusal's values.
+fn refuse(number: u64) -> Answer
+    ensures { λ r. ⌜ r ≡ refusal number ⌝ }
 {
-    if c.max_level > 30 {
-        return 1;
+    Answer {
+        number,
+        count: 0,
+        steps: 0,
+        aside: 0,
     }
-    if c.max_level < c.min_level {
-        return 2;
-    }
-    if c.level_mod < 1 {
-        return 3;
-    }
-    if c.level_mod > 3 {
-        return 3;
-    }
-    if c.max_cells > 1000 {
-        return 4;
-    }
-    if region::in_domain(g) {
-        if memory < 4096 {
-            return 6;
-        }
-        return 0;
-    }
-    5
 }
 
 // Lays the list that is asked for over the output's first places, made of the first `count` ids, in place.
@@ -75,43 +79,42 @@ fn lay_list(e: Ending, c: RegionCoverer, ids: &mut [u64], count: usize, out: &mu
     }
 }
 
-// The working memory's first 4,096 words become zero.
+// The words of a run become zero.
 fn clear_front(mem: &mut [u64])
-    requires { ⌜ 4096 ≤ length (now mem) ⌝ }
-    ensures { λ _. ⌜ now (mem .exit) ≡ cleared 0 4096 (now (mem .entry)) ⌝ }
+    requires { ⌜ memoryWords ≤ length (now mem) ⌝ }
+    ensures { λ _. ⌜ now (mem .exit) ≡ cleared 0 memoryWords (now (mem .entry)) ⌝ }
 {
-    cellunion::clear(mem, 0, 4096);
+    cellunion::clear(mem, 0, MEMORY_WORDS);
 }
 
 // The answer to a list that was laid, or had no room.
 fn laid_answer(laid: Laid, steps: u32, aside: u64) -> Answer
-    ensures { λ r. ⌜ r ≡ laidAs laid steps aside ⌝ }
+    ensures { λ r. ⌜ r ≡ answerLaid laid steps aside ⌝ }
 {
     match laid {
-        Laid::Done(count) => Answer::Done(count, steps, aside),
-        Laid::NoRoom => Answer::Refused(10),
+        Laid::Done(count) => Answer {
+            number: 0,
+            count,
+            steps,
+            aside,
+        },
+        Laid::NoRoom => refuse(10),
     }
 }
 
-// The run of a request that lies in the domain, from its start cells; the raw list stays in the memory, from the word 3,072 on.
+// The run of a request that lies in the domain, from its start cells; the raw list stays in the memory, behind the queue's words.
 fn run_from_starts(inner: bool, c: RegionCoverer, g: Region, allowance: u32, mem: &mut [u64]) -> Ran
-    requires { ⌜ earlyOf c g (length (now mem)) ≡ 0 ⌝ }
-    ensures { λ r. ⌜ (r ≡ answerOf (ranOf inner c g allowance)) × (now (mem .exit) ≡ memoryOf (ranOf inner c g allowance) (now (mem .entry))) ⌝ }
+    requires { ⌜ barOf c g (length (now mem)) ≡ Bar.Open ⌝ }
+    ensures { λ r. ⌜ (r ≡ engineAnswer (ranOf inner c g allowance)) × (now (mem .exit) ≡ engineMemory (ranOf inner c g allowance) (now (mem .entry))) ⌝ }
 {
     let starts = fast::starts(c, g);
-    let q = Asked {
-        min_level: c.min_level,
-        max_level: c.max_level,
-        level_mod: c.level_mod,
-        max_cells: c.max_cells,
-        inner,
-    };
+    let q = Request { coverer: c, inner };
     let ids = starts.ids;
     coverer::run(mem, q, g, ids, starts.count, allowance)
 }
 
-// Ends a request whose raw list stands in the memory from the word 3,072 on: lays the list that is asked for over the output, if it has room, and clears
-// the raw list's words. The others of the first 4,096 are zero already.
+// Ends a request whose raw list stands in the memory behind the queue's words: lays the list that is asked for over the output, if it has room, and clears
+// the raw list's words. The other words of a run are zero already.
 fn finish(
     e: Ending,
     c: RegionCoverer,
@@ -121,17 +124,17 @@ fn finish(
     mem: &mut [u64],
     out: &mut [u64],
 ) -> Answer
-    requires { ⌜ (4096 ≤ length (now mem)) × (count ≤ 1024) × All Cell (wordsAt 3072 count (now mem)) × (c .«min_level» ≤ 30) × (0 < c .«level_mod») ⌝ }
-    requires { ⌜ now mem ≡ holding 3072 4096 (wordsAt 3072 count (now mem)) (now mem) ⌝ }
-    ensures { λ r. ⌜ Answered (fitted (length (now (out .entry))) (listOf e c (wordsAt 3072 count (now (mem .entry)))) steps aside) r (now (mem .entry)) (now (mem .exit)) (now (out .entry)) (now (out .exit)) ⌝ }
+    requires { ⌜ (memoryWords ≤ length (now mem)) × (count ≤ rawMost) × All Cell (wordsAt queueWords count (now mem)) × (c .«min_level» ≤ 30) × (0 < c .«level_mod») ⌝ }
+    requires { ⌜ now mem ≡ onlyWords queueWords memoryWords (wordsAt queueWords count (now mem)) (now mem) ⌝ }
+    ensures { λ r. ⌜ Answered (fitted (length (now (out .entry))) (listOf e c (wordsAt queueWords count (now (mem .entry)))) steps aside) r (now (mem .entry)) (now (mem .exit)) (now (out .entry)) (now (out .exit)) ⌝ }
 {
-    let laid = lay_list(e, c, &mut mem[3072..], count, out);
-    cellunion::clear(mem, 3072, 3072 + count);
+    let laid = lay_list(e, c, &mut mem[QUEUE_WORDS..], count, out);
+    cellunion::clear(mem, QUEUE_WORDS, QUEUE_WORDS + count);
     laid_answer(laid, steps, aside)
 }
 
-// Answers an outer or inner request with the list that it asks for; the six functions below are its cases.
-pub fn respond(
+// The run of a request that is not barred, and the list that it asks for.
+fn run_and_finish(
     e: Ending,
     inner: bool,
     c: RegionCoverer,
@@ -140,20 +143,75 @@ pub fn respond(
     mem: &mut [u64],
     out: &mut [u64],
 ) -> Answer
-    ensures { λ r. ⌜ Answered (resultOf e inner c g allowance (length (now (mem .entry))) (length (now (out .entry)))) r (now (mem .entry)) (now (mem .exit)) (now (out .entry)) (now (out .exit)) ⌝ }
+    requires { ⌜ barOf c g (length (now mem)) ≡ Bar.Open ⌝ }
+    ensures { λ r. ⌜ Answered (endedAs e c (length (now (out .entry))) (ranOf inner c g allowance)) r (now (mem .entry)) (now (mem .exit)) (now (out .entry)) (now (out .exit)) ⌝ }
 {
-    let number = first_refusal(c, g, mem.len());
-    if number != 0 {
-        return Answer::Refused(number);
-    }
     let ran = run_from_starts(inner, c, g, allowance, mem);
     match ran {
-        Ran::Refused(late) => Answer::Refused(late),
+        Ran::Refused(late) => refuse(late),
         Ran::Done {
             count,
             steps,
             aside,
         } => finish(e, c, count, steps, aside, mem, out),
+    }
+}
+
+// Answers an outer or inner request with the list that it asks for.
+fn respond_run(
+    e: Ending,
+    inner: bool,
+    c: RegionCoverer,
+    g: Region,
+    allowance: u32,
+    mem: &mut [u64],
+    out: &mut [u64],
+) -> Answer
+    ensures { λ r. ⌜ Answered (checked (barOf c g (length (now (mem .entry)))) (endedAs e c (length (now (out .entry))) (ranOf inner c g allowance))) r (now (mem .entry)) (now (mem .exit)) (now (out .entry)) (now (out .exit)) ⌝ }
+{
+    let first = bars::first_refusal(c, g, mem.len());
+    match first {
+        Bar::Open => run_and_finish(e, inner, c, g, allowance, mem, out),
+        Bar::Barred(number) => refuse(number),
+    }
+}
+
+// The quick covering of a request that is not barred.
+fn lay_fast(c: RegionCoverer, g: Region, mem: &mut [u64], out: &mut [u64]) -> Answer
+    requires { ⌜ barOf c g (length (now mem)) ≡ Bar.Open ⌝ }
+    ensures { λ r. ⌜ Answered (fitted (length (now (out .entry))) (fastCoveringFor c (boundOf g)) 0 0) r (now (mem .entry)) (now (mem .exit)) (now (out .entry)) (now (out .exit)) ⌝ }
+{
+    let laid = fast::fast_covering(c, g, out);
+    clear_front(mem);
+    laid_answer(laid, 0, 0)
+}
+
+// Answers a request for the quick covering.
+fn respond_fast(c: RegionCoverer, g: Region, mem: &mut [u64], out: &mut [u64]) -> Answer
+    ensures { λ r. ⌜ Answered (checked (barOf c g (length (now (mem .entry)))) (fitted (length (now (out .entry))) (fastCoveringFor c (boundOf g)) 0 0)) r (now (mem .entry)) (now (mem .exit)) (now (out .entry)) (now (out .exit)) ⌝ }
+{
+    let first = bars::first_refusal(c, g, mem.len());
+    match first {
+        Bar::Open => lay_fast(c, g, mem, out),
+        Bar::Barred(number) => refuse(number),
+    }
+}
+
+// A request of any kind: the functions below are its cases under the Rust's names. The quick covering takes no steps, and no allowance matters to it.
+pub fn respond(
+    kind: Kind,
+    c: RegionCoverer,
+    g: Region,
+    allowance: u32,
+    mem: &mut [u64],
+    out: &mut [u64],
+) -> Answer
+    ensures { λ r. ⌜ Answered (resultOf kind c g allowance (length (now (mem .entry))) (length (now (out .entry)))) r (now (mem .entry)) (now (mem .exit)) (now (out .entry)) (now (out .exit)) ⌝ }
+{
+    match kind {
+        Kind::Outer(e) => respond_run(e, false, c, g, allowance, mem, out),
+        Kind::Inner(e) => respond_run(e, true, c, g, allowance, mem, out),
+        Kind::Fast => respond_fast(c, g, mem, out),
     }
 }
 
@@ -165,9 +223,9 @@ pub fn covering(
     mem: &mut [u64],
     out: &mut [u64],
 ) -> Answer
-    ensures { λ r. ⌜ Answered (resultOf Ending.Covering false c g allowance (length (now (mem .entry))) (length (now (out .entry)))) r (now (mem .entry)) (now (mem .exit)) (now (out .entry)) (now (out .exit)) ⌝ }
+    ensures { λ r. ⌜ Answered (resultOf (Kind.Outer Ending.Covering) c g allowance (length (now (mem .entry))) (length (now (out .entry)))) r (now (mem .entry)) (now (mem .exit)) (now (out .entry)) (now (out .exit)) ⌝ }
 {
-    respond(Ending::Covering, false, c, g, allowance, mem, out)
+    respond(Kind::Outer(Ending::Covering), c, g, allowance, mem, out)
 }
 
 // The outer run's raw list, normalised; nothing is promised of levels.
@@ -178,16 +236,16 @@ pub fn cellunion(
     mem: &mut [u64],
     out: &mut [u64],
 ) -> Answer
-    ensures { λ r. ⌜ Answered (resultOf Ending.CellUnion false c g allowance (length (now (mem .entry))) (length (now (out .entry)))) r (now (mem .entry)) (now (mem .exit)) (now (out .entry)) (now (out .exit)) ⌝ }
+    ensures { λ r. ⌜ Answered (resultOf (Kind.Outer Ending.CellUnion) c g allowance (length (now (mem .entry))) (length (now (out .entry)))) r (now (mem .entry)) (now (mem .exit)) (now (out .entry)) (now (out .exit)) ⌝ }
 {
-    respond(Ending::CellUnion, false, c, g, allowance, mem, out)
+    respond(Kind::Outer(Ending::CellUnion), c, g, allowance, mem, out)
 }
 
 // The outer run's raw list, in the order kept.
 pub fn raw(c: RegionCoverer, g: Region, allowance: u32, mem: &mut [u64], out: &mut [u64]) -> Answer
-    ensures { λ r. ⌜ Answered (resultOf Ending.Raw false c g allowance (length (now (mem .entry))) (length (now (out .entry)))) r (now (mem .entry)) (now (mem .exit)) (now (out .entry)) (now (out .exit)) ⌝ }
+    ensures { λ r. ⌜ Answered (resultOf (Kind.Outer Ending.Raw) c g allowance (length (now (mem .entry))) (length (now (out .entry)))) r (now (mem .entry)) (now (mem .exit)) (now (out .entry)) (now (out .exit)) ⌝ }
 {
-    respond(Ending::Raw, false, c, g, allowance, mem, out)
+    respond(Kind::Outer(Ending::Raw), c, g, allowance, mem, out)
 }
 
 // Cells inside the region, of levels min_level to max_level in whole steps of level_mod.
@@ -198,9 +256,9 @@ pub fn interior_covering(
     mem: &mut [u64],
     out: &mut [u64],
 ) -> Answer
-    ensures { λ r. ⌜ Answered (resultOf Ending.Covering true c g allowance (length (now (mem .entry))) (length (now (out .entry)))) r (now (mem .entry)) (now (mem .exit)) (now (out .entry)) (now (out .exit)) ⌝ }
+    ensures { λ r. ⌜ Answered (resultOf (Kind.Inner Ending.Covering) c g allowance (length (now (mem .entry))) (length (now (out .entry)))) r (now (mem .entry)) (now (mem .exit)) (now (out .entry)) (now (out .exit)) ⌝ }
 {
-    respond(Ending::Covering, true, c, g, allowance, mem, out)
+    respond(Kind::Inner(Ending::Covering), c, g, allowance, mem, out)
 }
 
 // The inner run's raw list, normalised; nothing is promised of levels.
@@ -211,9 +269,9 @@ pub fn interior_cellunion(
     mem: &mut [u64],
     out: &mut [u64],
 ) -> Answer
-    ensures { λ r. ⌜ Answered (resultOf Ending.CellUnion true c g allowance (length (now (mem .entry))) (length (now (out .entry)))) r (now (mem .entry)) (now (mem .exit)) (now (out .entry)) (now (out .exit)) ⌝ }
+    ensures { λ r. ⌜ Answered (resultOf (Kind.Inner Ending.CellUnion) c g allowance (length (now (mem .entry))) (length (now (out .entry)))) r (now (mem .entry)) (now (mem .exit)) (now (out .entry)) (now (out .exit)) ⌝ }
 {
-    respond(Ending::CellUnion, true, c, g, allowance, mem, out)
+    respond(Kind::Inner(Ending::CellUnion), c, g, allowance, mem, out)
 }
 
 // The inner run's raw list, in the order kept.
@@ -224,20 +282,14 @@ pub fn interior_raw(
     mem: &mut [u64],
     out: &mut [u64],
 ) -> Answer
-    ensures { λ r. ⌜ Answered (resultOf Ending.Raw true c g allowance (length (now (mem .entry))) (length (now (out .entry)))) r (now (mem .entry)) (now (mem .exit)) (now (out .entry)) (now (out .exit)) ⌝ }
+    ensures { λ r. ⌜ Answered (resultOf (Kind.Inner Ending.Raw) c g allowance (length (now (mem .entry))) (length (now (out .entry)))) r (now (mem .entry)) (now (mem .exit)) (now (out .entry)) (now (out .exit)) ⌝ }
 {
-    respond(Ending::Raw, true, c, g, allowance, mem, out)
+    respond(Kind::Inner(Ending::Raw), c, g, allowance, mem, out)
 }
 
 // The quick, coarse covering from the region's bound alone, with no run and 0 steps.
 pub fn fast_covering(c: RegionCoverer, g: Region, mem: &mut [u64], out: &mut [u64]) -> Answer
-    ensures { λ r. ⌜ Answered (fastResultOf c g (length (now (mem .entry))) (length (now (out .entry)))) r (now (mem .entry)) (now (mem .exit)) (now (out .entry)) (now (out .exit)) ⌝ }
+    ensures { λ r. ⌜ Answered (resultOf Kind.Fast c g 0 (length (now (mem .entry))) (length (now (out .entry)))) r (now (mem .entry)) (now (mem .exit)) (now (out .entry)) (now (out .exit)) ⌝ }
 {
-    let number = first_refusal(c, g, mem.len());
-    if number != 0 {
-        return Answer::Refused(number);
-    }
-    let laid = fast::fast_covering(c, g, out);
-    clear_front(mem);
-    laid_answer(laid, 0, 0)
+    respond(Kind::Fast, c, g, 0, mem, out)
 }

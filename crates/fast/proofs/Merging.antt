@@ -13,7 +13,7 @@ use lib.Dec.{ltb}
 use borrow.Author.Tests.{lt-ltb, le-ltb, le-leb, lt-leb}
 use Rattle.cellid.specs.CellId.{Cell, levelOf, parentAt}
 use Rattle.order.specs.Order.{All}
-use Rattle.order.proofs.OrderLaws.{which}
+use Rattle.order.proofs.OrderLaws.{which, all-get}
 use Rattle.cellunion.specs.CellUnion.{lo, hi, Member, Normal, normalise}
 use Rattle.cellunion.proofs.Spans.{In}
 use Rattle.cellunion.proofs.Unique.{all-at, at-all, covers→, covers←}
@@ -84,12 +84,6 @@ unfolding All
 first-all Q [] v a b P h p = (p, h .1)
 first-all Q (x ∷ u) v a b P h p = (h .0, first-all Q u v a b P (h .1) p)
 
-pub all-getD : (Q : ℕ → Type 0) (l : List ℕ) (i : ℕ) → All Q l → i < length l → Q (getD l i 0)
-unfolding All
-all-getD Q [] i h g = absurd (omega arith)
-all-getD Q (x ∷ l) zero h g = h .0
-all-getD Q (x ∷ l) (suc i) h g = all-getD Q l i (h .1) (omega arith)
-
 -- the list cut at the pair that starts at place i
 split-pair : (l : List ℕ) (i : ℕ) → i + 1 < length l → l ≡ take i l ++ getD l i 0 ∷ getD l (i + 1) 0 ∷ drop (i + 2) l
 split-pair l i h =
@@ -134,8 +128,8 @@ join-laws l b C h J =
       shorter = simp (length-append, length-take, length-drop) (omega arith);
       keeps = λ low top step A.
           let Q : ℕ → Type 0 = λ z. Under low top step (levelOf z) in
-          let h′ : levelOf P ≤ levelOf x = in-higher x P (all-getD Cell l i C (omega arith)) (J .first .cell) (J .first .within) in
-          pair-all Q u v x y P (subst (All Q) l-is A) (under-le (levelOf P) h′ (all-getD Q l i A (omega arith)));
+          let h′ : levelOf P ≤ levelOf x = in-higher x P (all-get Cell l 0 i (omega arith) C) (J .first .cell) (J .first .within) in
+          pair-all Q u v x y P (subst (All Q) l-is A) (under-le (levelOf P) h′ (all-get Q l 0 i (omega arith) A));
       in-place = (
         subst (All Cell) (sym s-is) more,
         ap normalise s-is ∙ normalise-same (u ++ P ∷ y ∷ v) (u ++ P ∷ v) more cells (same-covered (u ++ P ∷ y ∷ v) (u ++ P ∷ v) more cells
@@ -201,7 +195,7 @@ module _ (low step cells : ℕ) where
       let b = bestOf low step l (length l - 1) in
       let f = best-found low step l (length l - 1) (omega arith) in
       let h : b .at + 1 < length l = omega (arith, f .before) in
-      let J = pair-joint low step (getD l (b .at) 0) (getD l (b .at + 1) 0) (all-getD Cell l (b .at) C (omega arith)) (all-getD Cell l (b .at + 1) C h) (omega (arith, f .depth)) in
+      let J = pair-joint low step (getD l (b .at) 0) (getD l (b .at + 1) 0) (all-get Cell l 0 (b .at) (omega arith) C) (all-get Cell l 0 (b .at + 1) h C) (omega (arith, f .depth)) in
       join-laws l b C h (subst (λ (d : ℕ). Joint (getD l (b .at) 0) (getD l (b .at + 1) 0) (d - 1)) (sym (f .depth)) J)
 
   -- the three ways of a turn

@@ -12,12 +12,12 @@ use borrow.Author.Tests.{lt-ltb, le-ltb}
 use Rattle.cellid.specs.CellId.{Cell, IsCell, levelOf, placeOf, parentAt, firstLeaf, lastLeaf, holds}
 use Rattle.cellid.proofs.Laws.{no-true, level-le, level-cell, place-id}
 use Rattle.order.specs.Order.{All}
-use Rattle.order.proofs.OrderLaws.{which}
+use Rattle.order.proofs.OrderLaws.{which, all-weak}
 use Rattle.cellunion.specs.CellUnion.{lo, hi, covers, Member, Apart, clearOf, goal, cellsFrom, below, denormalise}
 use Rattle.cellunion.specs.Stack.{Down}
 use Rattle.cellunion.proofs.Spans.{In, Nest, left, right, inside, around, span, nest, holds-in, holds-no}
 use Rattle.cellunion.proofs.Unique.{all-at, at-all, covers→, covers←}
-use Rattle.cellunion.proofs.Stack.{Cov, all-map}
+use Rattle.cellunion.proofs.Stack.{Cov}
 use Rattle.cellunion.proofs.Norm.{member-rev←, all-rev, apart-rev, length-rev}
 use Rattle.fast.specs.Fast.{adjusted, mergedCovering, fastCovering, without, keepStart, keepStarts, adjustedCells, startsOf}
 use Rattle.fast.specs.Memory.{NextStart}
@@ -118,7 +118,7 @@ clear-without (t ∷ s) c N n = ⊎-elim
     (λ (e : holds c t ≡ false).
     let h : hi t ≤ lo c = begin-before (N .cells .0) (N .cell) (N .begun .0) (N .to) (n t (inl refl)) e (nest (N .cells .0) (N .cell)) in
     let u = span (N .cells .0) in
-    let a : All (λ y. hi y ≤ lo c) s = all-map (λ y. hi y ≤ lo t) (λ y. hi y ≤ lo c) (λ y k. omega arith) s (N .down .0) in
+    let a : All (λ y. hi y ≤ lo c) s = all-weak (λ y. hi y ≤ lo t) (λ y. hi y ≤ lo c) s (λ y k. omega arith) (N .down .0) in
     let w : without c s ≡ s = without-none c (N .cell) s (N .cells .1) a in
     rw (e, clearOf, without-out c t s e, w) (refl, (h, a)))
     (which (holds c t))
@@ -205,7 +205,7 @@ begun-on x [] r c A h b = tt
 begun-on x (z ∷ l) r c A h b =
     let u = span c in
     let v = span (A .0) in
-    (all-map (λ y. lo y ≤ lo x) (λ y. lo y ≤ lo z) (λ y k. omega (arith, h .0)) r b, begun-on x l r c (A .1) (h .1) b)
+    (all-weak (λ y. lo y ≤ lo x) (λ y. lo y ≤ lo z) r (λ y k. omega (arith, h .0)) b, begun-on x l r c (A .1) (h .1) b)
 
 pub record KeptStarts (s l r : List ℕ) : Type 0 where
   pub cells : All Cell r

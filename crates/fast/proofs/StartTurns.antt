@@ -16,10 +16,10 @@ use Rattle.cellunion.specs.Memory.{zeros, laid}
 use Rattle.cellunion.proofs.Memory.{next-read, no-more, drop-more, length-zeros, zeros-add, zeros-replicate}
 use Rattle.cellunion.proofs.Runs.{HeadFree, down-pop, down-push, rev-down}
 use Rattle.fast.specs.Fast.{mergedCovering, keepStart, keepStarts, adjustedCells, startsOf}
-use Rattle.fast.specs.Memory.{NextStart, over}
+use Rattle.fast.specs.Memory.{NextStart, inPlace}
 use Rattle.fast.proofs.StartLaws.{clear-without, not-around, keep-in, keep-out, KeptStart, keep-start-laws, Begun, begun-none, begun-on, raised, next-start, adjusted-cells, rough-laws, starts-rough, starts-adjusted}
 use Rattle.fast.proofs.Laws.{Covering}
-use Rattle.fast.proofs.Turns.{over-again, take-over, length-over, bound-front}
+use Rattle.fast.proofs.Turns.{in-place-again, take-in-place, length-in-place, bound-front}
 
 -- ---- one more cell
 
@@ -109,8 +109,8 @@ module _ (low step : ℕ) where
       }
 
   pub adjusting-done : (m₀ : List ℕ) (n : ℕ) (m : List ℕ) (k i : ℕ) (out : List ℕ) → Adjusting m₀ n m k i → n ≤ i → out ≡ laid k (zeros (n - k)) m
-      → (k ≡ length (adjustedCells low step (take n m₀))) × (out ≡ over n (adjustedCells low step (take n m₀)) m₀)
-  unfolding adjustedCells keepStarts over laid
+      → (k ≡ length (adjustedCells low step (take n m₀))) × (out ≡ inPlace n (adjustedCells low step (take n m₀)) m₀)
+  unfolding adjustedCells keepStarts inPlace laid
   adjusting-done m₀ n m k i out A h e =
       let z = no-more m₀ n i (A .room) h in
       let s : down k m ≡ keepStarts low step [] (take n m₀) = sym (ap (keepStarts low step (down k m)) z) ∙ A .same in
@@ -125,15 +125,15 @@ module _ (low step : ℕ) where
 -- ---- in the array of the answer
 
 -- r in place of the bound's list, in an array that has zeros behind that
-in-array : (w n : ℕ) (ids bound r : List ℕ) → n ≡ length bound → n ≤ w → ids ≡ bound ++ replicate (w - length bound) 0 → length r ≤ n → over n r ids ≡ r ++ zeros (w - length r)
-unfolding over
+in-array : (w n : ℕ) (ids bound r : List ℕ) → n ≡ length bound → n ≤ w → ids ≡ bound ++ replicate (w - length bound) 0 → length r ≤ n → inPlace n r ids ≡ r ++ zeros (w - length r)
+unfolding inPlace
 in-array w n ids bound r e h f s =
     let t : drop n ids ≡ zeros (w - n) ++ [] = ap (drop n) f ∙ drop-at bound (replicate (w - length bound) 0) n (sym e) ∙ zeros-replicate (w - length bound) ∙ sym (append-nil (zeros (w - length bound))) ∙ ap (λ (k : ℕ). zeros (w - k) ++ []) (sym e) in
     let z : (n - length r) + (w - n) ≡ w - length r = omega arith in
     ap (λ (l : List ℕ). r ++ l) (ap (λ (l : List ℕ). zeros (n - length r) ++ l) t ∙ zeros-add (n - length r) (w - n) [] ∙ append-nil (zeros (n - length r + (w - n))) ∙ ap zeros z)
 
 module _ (low top step cells w n : ℕ) (ids bound : List ℕ) (C : All Cell bound) (e : n ≡ length bound) (h : n ≤ w) (f : ids ≡ bound ++ replicate (w - length bound) 0)
-    (few k : ℕ) (ids′ : List ℕ) (ef : few ≡ min cells 4) (ek : k ≡ length (mergedCovering 0 top 1 few (take n ids))) (ei : ids′ ≡ over n (mergedCovering 0 top 1 few (take n ids)) ids) where
+    (few k : ℕ) (ids′ : List ℕ) (ef : few ≡ min cells 4) (ek : k ≡ length (mergedCovering 0 top 1 few (take n ids))) (ei : ids′ ≡ inPlace n (mergedCovering 0 top 1 few (take n ids)) ids) where
   list : List ℕ
   list = mergedCovering 0 top 1 (min cells 4) bound
 
@@ -148,11 +148,11 @@ module _ (low top step cells w n : ℕ) (ids bound : List ℕ) (C : All Cell bou
   size : length list ≡ k
   size = sym (ek ∙ ap length same)
 
-  there : ids′ ≡ over n list ids
-  there = ei ∙ ap (λ (l : List ℕ). over n l ids) same
+  there : ids′ ≡ inPlace n list ids
+  there = ei ∙ ap (λ (l : List ℕ). inPlace n l ids) same
 
   front : take k ids′ ≡ list
-  front = ap (take k) there ∙ take-over n k list ids size
+  front = ap (take k) there ∙ take-in-place n k list ids size
 
   -- no adjustment
   pub starts-done : step ≤ 1 → (k ≡ length (startsOf low top step cells bound)) × (ids′ ≡ startsOf low top step cells bound ++ zeros (w - length (startsOf low top step cells bound)))
@@ -165,12 +165,12 @@ module _ (low top step cells w n : ℕ) (ids bound : List ℕ) (C : All Cell bou
   pub adjust-asks : (k ≤ length ids′) × All Cell (take k ids′) × Apart (take k ids′)
   adjust-asks =
       let r = bound-front n ids bound (replicate (w - length bound) 0) e f in (
-        omega (arith, ap length there, length-over n list ids (omega (arith, L .short)) (r .1), r .1, L .short, size),
+        omega (arith, ap length there, length-in-place n list ids (omega (arith, L .short)) (r .1), r .1, L .short, size),
         rw front (L .normal .cells),
         rw front (L .normal .apart),
       )
 
-  pub starts-adjusted-done : 1 < step → (r : ℕ) (ids″ : List ℕ) → r ≡ length (adjustedCells low step (take k ids′)) → ids″ ≡ over k (adjustedCells low step (take k ids′)) ids′
+  pub starts-adjusted-done : 1 < step → (r : ℕ) (ids″ : List ℕ) → r ≡ length (adjustedCells low step (take k ids′)) → ids″ ≡ inPlace k (adjustedCells low step (take k ids′)) ids′
       → (r ≡ length (startsOf low top step cells bound)) × (ids″ ≡ startsOf low top step cells bound ++ zeros (w - length (startsOf low top step cells bound)))
   unfolding list
   starts-adjusted-done g r ids″ er ei″ =
@@ -178,6 +178,6 @@ module _ (low top step cells w n : ℕ) (ids bound : List ℕ) (C : All Cell bou
       let A = adjusted-cells low step list (L .normal .cells) (L .normal .apart) in
       let s : length (adjustedCells low step (take k ids′)) ≤ k = omega (arith, ap (λ (l : List ℕ). length (adjustedCells low step l)) front, A .short, size) in
       let i : ids″ ≡ adjustedCells low step (take k ids′) ++ zeros (w - length (adjustedCells low step (take k ids′))) =
-      ei″ ∙ over-again n k list (adjustedCells low step (take k ids′)) ids ids′ ids′ size (omega (arith, L .short, size)) there refl s
+      ei″ ∙ in-place-again n k list (adjustedCells low step (take k ids′)) ids ids′ ids′ size (omega (arith, L .short, size)) there refl s
       ∙ in-array w n ids bound (adjustedCells low step (take k ids′)) e h f (omega (arith, s, L .short, size)) in
       (er ∙ ap length q, i ∙ ap (λ (l : List ℕ). l ++ zeros (w - length l)) q)

@@ -8,15 +8,16 @@ use lib.ListN.{length, getD, set, take, drop, length-append, length-map, length-
 use lib.Seq.{length-take-le, take-suc, drop-cons, getD-at, set-at, take-at, drop-at, getD-take, take-set-lt, drop-set-lt}
 use Rattle.cellid.specs.CellId.{Cell, parentAt}
 use Rattle.order.specs.Order.{All}
+use Rattle.order.proofs.OrderLaws.{all-get}
 use Rattle.cellunion.specs.CellUnion.{normalise, denormalise}
 use Rattle.cellunion.specs.Memory.{zeros, normalised}
 use Rattle.cellunion.proofs.Norm.{normalise-normal, normalise-short}
 use Rattle.cellunion.proofs.Memory.{length-zeros, zeros-add}
 use Rattle.fast.specs.declared.Best.{Best}
 use Rattle.fast.specs.Fast.{pairDepth, bestOf, lifted, joined, mergedIn, merged, mergedCovering, fastCovering}
-use Rattle.fast.specs.Memory.{over}
+use Rattle.fast.specs.Memory.{inPlace}
 use Rattle.fast.proofs.Levels.{pair-small}
-use Rattle.fast.proofs.Merging.{Found, best-found, best-better, best-same, Joined, best-joined, all-getD, merged-go, merged-laws}
+use Rattle.fast.proofs.Merging.{Found, best-found, best-better, best-same, Joined, best-joined, merged-go, merged-laws}
 use Rattle.fast.proofs.Laws.{lifted-cells, Covering, merged-covering}
 
 -- ---- each word to its image
@@ -53,33 +54,33 @@ lift-done f n m₀ m i L h = let e : i ≡ n = omega (arith, L .within) in L .sa
 
 -- ---- a list in place of the first n words
 
-pub over-all : (n : ℕ) (m : List ℕ) → n ≤ length m → m ≡ over n (take n m) m
-unfolding over zeros
-over-all n m h =
+pub in-place-all : (n : ℕ) (m : List ℕ) → n ≤ length m → m ≡ inPlace n (take n m) m
+unfolding inPlace zeros
+in-place-all n m h =
     let e : n - length (take n m) ≡ 0 = omega (arith, length-take-le n m h) in
     sym (take-append-drop n m) ∙ ap (λ (k : ℕ). take n m ++ (zeros k ++ drop n m)) (sym e)
 
-pub length-over : (n : ℕ) (l m : List ℕ) → length l ≤ n → n ≤ length m → length (over n l m) ≡ length m
-unfolding over
-length-over n l m h g = length-append l (zeros (n - length l) ++ drop n m) ∙ rw (length-append (zeros (n - length l)) (drop n m), length-zeros (n - length l), length-drop n m) (omega arith)
+pub length-in-place : (n : ℕ) (l m : List ℕ) → length l ≤ n → n ≤ length m → length (inPlace n l m) ≡ length m
+unfolding inPlace
+length-in-place n l m h g = length-append l (zeros (n - length l) ++ drop n m) ∙ rw (length-append (zeros (n - length l)) (drop n m), length-zeros (n - length l), length-drop n m) (omega arith)
 
 -- l′ in place of the first k words, where a list of k stands in place of the first n
-pub over-again : (n k : ℕ) (l l′ m₀ m x : List ℕ) → length l ≡ k → k ≤ n → m ≡ over n l m₀ → drop k x ≡ drop k m → length l′ ≤ k → over k l′ x ≡ over n l′ m₀
-unfolding over
-over-again n k l l′ m₀ m x e h w d s =
+pub in-place-again : (n k : ℕ) (l l′ m₀ m x : List ℕ) → length l ≡ k → k ≤ n → m ≡ inPlace n l m₀ → drop k x ≡ drop k m → length l′ ≤ k → inPlace k l′ x ≡ inPlace n l′ m₀
+unfolding inPlace
+in-place-again n k l l′ m₀ m x e h w d s =
     let r = length l′ in
     let t : drop k x ≡ zeros (n - k) ++ drop n m₀ = d ∙ ap (drop k) w ∙ drop-at l (zeros (n - length l) ++ drop n m₀) k e ∙ ap (λ (j : ℕ). zeros (n - j) ++ drop n m₀) e in
     let z : (k - r) + (n - k) ≡ n - r = omega arith in
     ap (λ (y : List ℕ). l′ ++ (zeros (k - r) ++ y)) t
     ∙ ap (λ (y : List ℕ). l′ ++ y) (zeros-add (k - r) (n - k) (drop n m₀) ∙ ap (λ (j : ℕ). zeros j ++ drop n m₀) z)
 
-pub over-normalised : (n : ℕ) (m : List ℕ) → normalised n m ≡ over n (normalise (take n m)) m
-unfolding over normalised
-over-normalised n m = refl
+pub in-place-normalised : (n : ℕ) (m : List ℕ) → normalised n m ≡ inPlace n (normalise (take n m)) m
+unfolding inPlace normalised
+in-place-normalised n m = refl
 
-pub take-over : (n r : ℕ) (l m : List ℕ) → length l ≡ r → take r (over n l m) ≡ l
-unfolding over
-take-over n r l m e = take-at l (zeros (n - length l) ++ drop n m) r e
+pub take-in-place : (n r : ℕ) (l m : List ℕ) → length l ≡ r → take r (inPlace n l m) ≡ l
+unfolding inPlace
+take-in-place n r l m e = take-at l (zeros (n - length l) ++ drop n m) r e
 
 -- ---- the scan, in memory
 
@@ -101,7 +102,7 @@ module _ (low step cells : ℕ) where
     pub room : n ≤ length m₀
     pub len : length m ≡ length m₀
     pub each : All Cell (take k m)
-    pub whole : m ≡ over n (take k m) m₀
+    pub whole : m ≡ inPlace n (take k m) m₀
     pub fuel : ℕ
     pub enough : k ≤ fuel
     pub rest : mergedIn low step cells fuel (take k m) ≡ merged low step cells (take n m₀)
@@ -112,7 +113,7 @@ module _ (low step cells : ℕ) where
     room = h;
     len = refl;
     each = C;
-    whole = over-all n m₀ h;
+    whole = in-place-all n m₀ h;
     fuel = length (take n m₀);
     enough = omega (arith, length-take-le n m₀ h);
     rest = refl;
@@ -122,13 +123,13 @@ module _ (low step cells : ℕ) where
   going-size n m₀ m k G = length-take-le k m (omega (arith, G .within, G .room, G .len))
 
   pub going-cell : (n : ℕ) (m₀ m : List ℕ) (k i : ℕ) → Going n m₀ m k → i < k → Cell (getD m i 0)
-  going-cell n m₀ m k i G h = subst Cell (getD-take k m i 0 h) (all-getD Cell (take k m) i (G .each) (omega (arith, going-size n m₀ m k G)))
+  going-cell n m₀ m k i G h = subst Cell (getD-take k m i 0 h) (all-get Cell (take k m) 0 i (omega (arith, going-size n m₀ m k G)) (G .each))
 
   pub going-done : (n : ℕ) (m₀ m : List ℕ) (k : ℕ) (G : Going n m₀ m k) → mergedIn low step cells (G .fuel) (take k m) ≡ take k m
-      → (k ≡ length (merged low step cells (take n m₀))) × (m ≡ over n (merged low step cells (take n m₀)) m₀)
+      → (k ≡ length (merged low step cells (take n m₀))) × (m ≡ inPlace n (merged low step cells (take n m₀)) m₀)
   going-done n m₀ m k G e =
       let f : take k m ≡ merged low step cells (take n m₀) = sym e ∙ G .rest in
-      (sym (going-size n m₀ m k G) ∙ ap length f, G .whole ∙ ap (λ (l : List ℕ). over n l m₀) f)
+      (sym (going-size n m₀ m k G) ∙ ap length f, G .whole ∙ ap (λ (l : List ℕ). inPlace n l m₀) f)
 
   -- the whole list is scanned, and the best level found does not lie below min
   module _ (n : ℕ) (m₀ m : List ℕ) (k : ℕ) (G : Going n m₀ m k) (b : Best) (e : b ≡ bestOf low step (take k m) (length (take k m) - 1)) (g : low < b .depth) where
@@ -167,17 +168,17 @@ module _ (low step cells : ℕ) where
           let few : r < k = rw er shorter in
           let h : b .at + 1 < k = turn-place in
           let size : length (take k m) ≡ k = going-size n m₀ m k G in
-          let new : m′ ≡ over n (normalise (take k (set m (b .at) P))) m₀ =
-          em ∙ over-normalised k (set m (b .at) P)
-          ∙ over-again n k (take k m) (normalise (take k (set m (b .at) P))) m₀ m (set m (b .at) P) size (G .within) (G .whole) (drop-set-lt k m (b .at) P (omega arith)) (omega (arith, shorter)) in
-          let list : take r m′ ≡ normalise (joined (take k m) b) = ap (take r) new ∙ take-over n r _ m₀ (sym er) ∙ normal in (
+          let new : m′ ≡ inPlace n (normalise (take k (set m (b .at) P))) m₀ =
+          em ∙ in-place-normalised k (set m (b .at) P)
+          ∙ in-place-again n k (take k m) (normalise (take k (set m (b .at) P))) m₀ m (set m (b .at) P) size (G .within) (G .whole) (drop-set-lt k m (b .at) P (omega arith)) (omega (arith, shorter)) in
+          let list : take r m′ ≡ normalise (joined (take k m) b) = ap (take r) new ∙ take-in-place n r _ m₀ (sym er) ∙ normal in (
             few,
             record {
               within = omega (arith, G .within);
               room = G .room;
-              len = ap length new ∙ length-over n (normalise (take k (set m (b .at) P))) m₀ (omega (arith, shorter, G .within)) (G .room);
+              len = ap length new ∙ length-in-place n (normalise (take k (set m (b .at) P))) m₀ (omega (arith, shorter, G .within)) (G .room);
               each = rw list (normalise-normal (joined (take k m) b) (joins .cells) .cells);
-              whole = new ∙ ap (λ (l : List ℕ). over n l m₀) (normal ∙ sym list);
+              whole = new ∙ ap (λ (l : List ℕ). inPlace n l m₀) (normal ∙ sym list);
               fuel = G .fuel - 1;
               enough = omega (arith, G .enough);
               rest =
@@ -190,9 +191,9 @@ module _ (low step cells : ℕ) where
 
 -- ---- lift, normalise, merge
 
-over-same : (n : ℕ) (l m x : List ℕ) → drop n x ≡ drop n m → over n l x ≡ over n l m
-unfolding over
-over-same n l m x e = ap (λ (t : List ℕ). l ++ (zeros (n - length l) ++ t)) e
+in-place-same : (n : ℕ) (l m x : List ℕ) → drop n x ≡ drop n m → inPlace n l x ≡ inPlace n l m
+unfolding inPlace
+in-place-same n l m x e = ap (λ (t : List ℕ). l ++ (zeros (n - length l) ++ t)) e
 
 module _ (low top step cells n : ℕ) (m : List ℕ) (room : n ≤ length m) (C : All Cell (take n m)) (m₁ : List ℕ) (e₁ : m₁ ≡ map (lifted low top step) (take n m) ++ drop n m) where
   size : length (map (lifted low top step) (take n m)) ≡ n
@@ -223,38 +224,38 @@ module _ (low top step cells n : ℕ) (m : List ℕ) (room : n ≤ length m) (C 
     unfolding list
     few = omega (arith, long, normalise-short (map (lifted low top step) (take n m)) (lifted-cells low top step (take n m) C), size)
 
-    there : m₂ ≡ over n list m
+    there : m₂ ≡ inPlace n list m
     unfolding list
-    there = e₂ ∙ over-normalised n m₁ ∙ over-same n (normalise (take n m₁)) m m₁ back ∙ ap (λ (l : List ℕ). over n (normalise l) m) front
+    there = e₂ ∙ in-place-normalised n m₁ ∙ in-place-same n (normalise (take n m₁)) m m₁ back ∙ ap (λ (l : List ℕ). inPlace n (normalise l) m) front
 
     at-front : take k m₂ ≡ list
-    at-front = ap (take k) there ∙ take-over n k list m long
+    at-front = ap (take k) there ∙ take-in-place n k list m long
 
     pub merge-asks : (k ≤ length m₂) × All Cell (take k m₂)
-    merge-asks = (omega (arith, ap length there, length-over n list m (omega (arith, long, few)) room, few), rw at-front each)
+    merge-asks = (omega (arith, ap length there, length-in-place n list m (omega (arith, long, few)) room, few), rw at-front each)
 
-    pub merge-done : (r : ℕ) (m₃ : List ℕ) → r ≡ length (merged low step cells (take k m₂)) → m₃ ≡ over k (merged low step cells (take k m₂)) m₂
-        → (r ≡ length (mergedCovering low top step cells (take n m))) × (m₃ ≡ over n (mergedCovering low top step cells (take n m)) m)
+    pub merge-done : (r : ℕ) (m₃ : List ℕ) → r ≡ length (merged low step cells (take k m₂)) → m₃ ≡ inPlace k (merged low step cells (take k m₂)) m₂
+        → (r ≡ length (mergedCovering low top step cells (take n m))) × (m₃ ≡ inPlace n (mergedCovering low top step cells (take n m)) m)
     unfolding mergedCovering list
     merge-done r m₃ er e₃ =
         let M = merged low step cells list in
         let s : length M ≤ k = omega (arith, merged-laws low step cells (length list) list each .short, long) in
-        (er ∙ ap (λ (l : List ℕ). length (merged low step cells l)) at-front, e₃ ∙ ap (λ (l : List ℕ). over k (merged low step cells l) m₂) at-front ∙ over-again n k list M m m₂ m₂ long few there refl s)
+        (er ∙ ap (λ (l : List ℕ). length (merged low step cells l)) at-front, e₃ ∙ ap (λ (l : List ℕ). inPlace k (merged low step cells l) m₂) at-front ∙ in-place-again n k list M m m₂ m₂ long few there refl s)
 
 -- ---- the list that is denormalised
 
 module _ (low top step cells n : ℕ) (m : List ℕ) (room : n ≤ length m) (C : All Cell (take n m)) (o : low ≤ top) (k : ℕ) (m′ : List ℕ)
-    (ek : k ≡ length (mergedCovering low top step cells (take n m))) (em : m′ ≡ over n (mergedCovering low top step cells (take n m)) m) where
+    (ek : k ≡ length (mergedCovering low top step cells (take n m))) (em : m′ ≡ inPlace n (mergedCovering low top step cells (take n m)) m) where
   covering : Covering low top step (take n m) (mergedCovering low top step cells (take n m))
   covering = merged-covering low top step cells (take n m) o C
 
   pub covering-front : take k m′ ≡ mergedCovering low top step cells (take n m)
-  covering-front = ap (take k) em ∙ take-over n k (mergedCovering low top step cells (take n m)) m (sym ek)
+  covering-front = ap (take k) em ∙ take-in-place n k (mergedCovering low top step cells (take n m)) m (sym ek)
 
   pub covering-asks : (k ≤ length m′) × All Cell (take k m′)
   covering-asks =
       let s : length (mergedCovering low top step cells (take n m)) ≤ n = omega (arith, covering .short, length-take-le n m room) in
-      (omega (arith, ap length em, length-over n (mergedCovering low top step cells (take n m)) m s room), rw covering-front (covering .normal .cells))
+      (omega (arith, ap length em, length-in-place n (mergedCovering low top step cells (take n m)) m s room), rw covering-front (covering .normal .cells))
 
   pub covering-fast : denormalise low step (take k m′) ≡ fastCovering low top step cells (take n m)
   unfolding fastCovering

@@ -7,11 +7,11 @@ use Rattle.order.specs.Order.{All}
 use Rattle.cellunion.specs.CellUnion.{lo, hi}
 use Rattle.cellunion.specs.Memory.{zeros}
 use Rattle.cellunion.specs.Stack.{Down}
-use Rattle.fast.specs.declared.RegionCoverer.{RegionCoverer}
+use Rattle.run.specs.declared.RegionCoverer.{RegionCoverer}
 use Rattle.fast.specs.Fast.{lifted, merged, mergedCovering, fastCovering, adjustedCells, startsOf}
 
 -- the request's numbers lie in the domain, as far as the functions here ask it
-pub record Domain (c : RegionCoverer) : Type 0 where
+pub record NumbersFit (c : RegionCoverer) : Type 0 where
   pub ordered : c .«min_level» ≤ c .«max_level»
   pub deep : c .«max_level» ≤ 30
   pub some : 0 < c .«level_mod»
@@ -36,8 +36,8 @@ abbrev pub startsFor : RegionCoverer → List ℕ → List ℕ
 startsFor c l = startsOf (c .«min_level») (c .«max_level») (c .«level_mod») (c .«max_cells») l
 
 -- l in place of the first n words: zeros in the words that it leaves over, and what stood from n on
-unfoldable pub over : ℕ → List ℕ → List ℕ → List ℕ
-over n l m = l ++ (zeros (n - length l) ++ drop n m)
+unfoldable pub inPlace : ℕ → List ℕ → List ℕ → List ℕ
+inPlace n l m = l ++ (zeros (n - length l) ++ drop n m)
 
 -- the first n words are cells
 abbrev pub Cells : ℕ → List ℕ → Type 0

@@ -10,15 +10,8 @@ ghost use Rattle.cellunion.specs.Memory.{zeros, roomFor, laidOver};
 ghost use Rattle.cellunion.specs.Stack.{down, Gives};
 ghost use Rattle.region.specs.Region.{inDomain, boundOf};
 ghost use Rattle.fast.specs.Fast.{adjusted, pairDepth, keepStart};
-ghost use Rattle.fast.specs.Memory.{Domain, liftedFor, mergedFor, mergedCoveringFor, fastCoveringFor, adjustedFor, startsFor, over, Cells, NextStart};
-
-// What is asked of a covering.
-pub struct RegionCoverer {
-    pub min_level: u64,
-    pub max_level: u64,
-    pub level_mod: u64,
-    pub max_cells: u64,
-}
+ghost use Rattle.fast.specs.Memory.{NumbersFit, liftedFor, mergedFor, mergedCoveringFor, fastCoveringFor, adjustedFor, startsFor, inPlace, Cells, NextStart};
+use run::RegionCoverer;
 
 // The start cells of a run, at most six, with zeros behind them.
 pub struct StartCells {
@@ -40,7 +33,7 @@ fn lesser(a: u64, b: u64) -> u64
 
 // The level, moved up onto the steps from min_level where it lies below that.
 fn adjust_level(c: RegionCoverer, level: u64) -> u64
-    requires { ⌜ Domain c ⌝ }
+    requires { ⌜ NumbersFit c ⌝ }
     ensures { λ r. ⌜ r ≡ adjusted (c .«min_level») (c .«level_mod») level ⌝ }
 {
     if c.min_level < level {
@@ -52,7 +45,7 @@ fn adjust_level(c: RegionCoverer, level: u64) -> u64
 
 // One more than the adjusted level of the two cells' common ancestor; 0 for none.
 fn depth(c: RegionCoverer, a: u64, b: u64) -> u64
-    requires { ⌜ Domain c × Cell a × Cell b ⌝ }
+    requires { ⌜ NumbersFit c × Cell a × Cell b ⌝ }
     ensures { λ r. ⌜ r ≡ pairDepth (c .«min_level») (c .«level_mod») a b ⌝ }
 {
     let common = cellid::common_ancestor_level(a, b);
@@ -64,7 +57,7 @@ fn depth(c: RegionCoverer, a: u64, b: u64) -> u64
 
 // Moves each of the first n cells whose level is above max_level or off step to its ancestor that is neither.
 fn lift(c: RegionCoverer, mem: &mut [u64], n: usize)
-    requires { ⌜ Domain c × (n ≤ length (now mem)) ⌝ }
+    requires { ⌜ NumbersFit c × (n ≤ length (now mem)) ⌝ }
     ensures { λ _. ⌜ now (mem .exit) ≡ liftedFor c (take n (now (mem .entry))) ++ drop n (now (mem .entry)) ⌝ }
 {
     let top = c.max_level;
@@ -80,8 +73,8 @@ fn lift(c: RegionCoverer, mem: &mut [u64], n: usize)
 // Merges the first n cells, a normal list, while they are more than max_cells: the neighbours whose common ancestor lies deepest become that
 // ancestor, as long as it lies at min_level or deeper. Gives how many are left.
 fn merge(c: RegionCoverer, mem: &mut [u64], n: usize) -> usize
-    requires { ⌜ Domain c × Cells n (now mem) ⌝ }
-    ensures { λ r. ⌜ (r ≡ length (mergedFor c (take n (now (mem .entry))))) × (now (mem .exit) ≡ over n (mergedFor c (take n (now (mem .entry)))) (now (mem .entry))) ⌝ }
+    requires { ⌜ NumbersFit c × Cells n (now mem) ⌝ }
+    ensures { λ r. ⌜ (r ≡ length (mergedFor c (take n (now (mem .entry))))) × (now (mem .exit) ≡ inPlace n (mergedFor c (take n (now (mem .entry)))) (now (mem .entry))) ⌝ }
 {
     let low = c.min_level;
     let cells = c.max_cells;
@@ -108,9 +101,9 @@ fn merge(c: RegionCoverer, mem: &mut [u64], n: usize) -> usize
 }
 
 // Fast covering's normal list, before it is denormalised, in place of the first n cells of the memory; gives its length.
-pub fn merge_covering(c: RegionCoverer, mem: &mut [u64], n: usize) -> usize
-    requires { ⌜ Domain c × Cells n (now mem) ⌝ }
-    ensures { λ r. ⌜ (r ≡ length (mergedCoveringFor c (take n (now (mem .entry))))) × (now (mem .exit) ≡ over n (mergedCoveringFor c (take n (now (mem .entry)))) (now (mem .entry))) ⌝ }
+fn merge_covering(c: RegionCoverer, mem: &mut [u64], n: usize) -> usize
+    requires { ⌜ NumbersFit c × Cells n (now mem) ⌝ }
+    ensures { λ r. ⌜ (r ≡ length (mergedCoveringFor c (take n (now (mem .entry))))) × (now (mem .exit) ≡ inPlace n (mergedCoveringFor c (take n (now (mem .entry)))) (now (mem .entry))) ⌝ }
 {
     lift(c, mem, n);
     let k = cellunion::normalize(mem, n);
@@ -125,8 +118,8 @@ pub fn normalize_covering(
     n: usize,
     out: &mut [u64],
 ) -> cellunion::Laid
-    requires { ⌜ Domain c × Cells n (now mem) ⌝ }
-    ensures { λ r. ⌜ (r ≡ roomFor (fastCoveringFor c (take n (now (mem .entry)))) (now (out .entry))) × (now (out .exit) ≡ laidOver (fastCoveringFor c (take n (now (mem .entry)))) (now (out .entry))) × (now (mem .exit) ≡ over n (mergedCoveringFor c (take n (now (mem .entry)))) (now (mem .entry))) ⌝ }
+    requires { ⌜ NumbersFit c × Cells n (now mem) ⌝ }
+    ensures { λ r. ⌜ (r ≡ roomFor (fastCoveringFor c (take n (now (mem .entry)))) (now (out .entry))) × (now (out .exit) ≡ laidOver (fastCoveringFor c (take n (now (mem .entry)))) (now (out .entry))) × (now (mem .exit) ≡ inPlace n (mergedCoveringFor c (take n (now (mem .entry)))) (now (mem .entry))) ⌝ }
 {
     let k = merge_covering(c, mem, n);
     cellunion::denormalize(mem, k, c.min_level, c.level_mod, out)
@@ -134,7 +127,7 @@ pub fn normalize_covering(
 
 // Fast covering of the region's bound, laid over the output's first places. It takes no steps.
 pub fn fast_covering(c: RegionCoverer, g: region::Region, out: &mut [u64]) -> cellunion::Laid
-    requires { ⌜ Domain c × (inDomain g ≡ true) ⌝ }
+    requires { ⌜ NumbersFit c × (inDomain g ≡ true) ⌝ }
     ensures { λ r. ⌜ (r ≡ roomFor (fastCoveringFor c (boundOf g)) (now (out .entry))) × (now (out .exit) ≡ laidOver (fastCoveringFor c (boundOf g)) (now (out .entry))) ⌝ }
 {
     let b = region::cell_union_bound(g);
@@ -159,8 +152,8 @@ fn keep_start(mem: &mut [u64], k: usize, id: u64) -> usize
 
 // The first n cells, which ascend and do not overlap, each moved to its adjusted level, with none inside another. Gives how many are left.
 fn adjust_cell_levels(c: RegionCoverer, mem: &mut [u64], n: usize) -> usize
-    requires { ⌜ Domain c × Cells n (now mem) × Apart (take n (now mem)) ⌝ }
-    ensures { λ r. ⌜ (r ≡ length (adjustedFor c (take n (now (mem .entry))))) × (now (mem .exit) ≡ over n (adjustedFor c (take n (now (mem .entry)))) (now (mem .entry))) ⌝ }
+    requires { ⌜ NumbersFit c × Cells n (now mem) × Apart (take n (now mem)) ⌝ }
+    ensures { λ r. ⌜ (r ≡ length (adjustedFor c (take n (now (mem .entry))))) × (now (mem .exit) ≡ inPlace n (adjustedFor c (take n (now (mem .entry)))) (now (mem .entry))) ⌝ }
 {
     let mut kept: usize = 0;
     let mut i: usize = 0;
@@ -177,7 +170,7 @@ fn adjust_cell_levels(c: RegionCoverer, mem: &mut [u64], n: usize) -> usize
 // The cells that a run for the region starts from: fast covering of its bound with at most four cells where that goes, then moved to levels on
 // step. At most six, ascending, none inside another; every leaf of the bound lies under one.
 pub fn starts(c: RegionCoverer, g: region::Region) -> StartCells
-    requires { ⌜ Domain c × (inDomain g ≡ true) ⌝ }
+    requires { ⌜ NumbersFit c × (inDomain g ≡ true) ⌝ }
     ensures { λ r. ⌜ (r .count ≡ length (startsFor c (boundOf g))) × (r .ids ≡ startsFor c (boundOf g) ++ zeros (6 - length (startsFor c (boundOf g)))) ⌝ }
 {
     let b = region::cell_union_bound(g);

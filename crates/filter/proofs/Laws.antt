@@ -10,7 +10,7 @@ use Rattle.replies.specs.Write.{Wrote, Whole, newline}
 use Rattle.replies.proofs.Lengths.{wrote-whole, decimal-length}
 use Rattle.tokens.specs.declared.Form.{Form}
 use Rattle.tokens.specs.declared.Answer.{Answer}
-use Rattle.tokens.specs.Tokens.{linesOf, idsOf, Result, malformed, noRoom, done, writeResult, readResult, answerOf, outputAfter, Answered}
+use Rattle.tokens.specs.Tokens.{linesOf, idsOf, Result, malformed, noRoom, done, writeResult, readResult, tokenAnswer, outputAfter, Answered}
 use Rattle.tokens.specs.Texts.{Readable, BadLine}
 use Rattle.tokens.proofs.Laws.{readable, bad-line, lines-short}
 use Rattle.tokens.proofs.Answers.{Told, is-11, is-12, is-0, read-when, write-when, written}
@@ -31,8 +31,8 @@ module _ (from to : Form) (text : List ℕ) (ids ids' page page' : List ℕ) whe
   turned-done n r A W = let B = onward-done to _ n ids ids' r page page' A W in record { answer = B .answer; places = A .output; output = B .output }
 
 module _ (from to : Form) (text : List ℕ) (ids ids' page : List ℕ) where
-  kept : (R : Result) (a : Answer) → a ≡ answerOf R → ((n : ℕ) → a ≡ Answer.Done n → ⊥) → (a ≡ answerOf (onward to (length page) R)) × (page ≡ outputAfter (onward to (length page) R) page)
-  unfolding onward answerOf outputAfter
+  kept : (R : Result) (a : Answer) → a ≡ tokenAnswer R → ((n : ℕ) → a ≡ Answer.Done n → ⊥) → (a ≡ tokenAnswer (onward to (length page) R)) × (page ≡ outputAfter (onward to (length page) R) page)
+  unfolding onward tokenAnswer outputAfter
   kept (malformed k) a e h = (e, refl)
   kept noRoom a e h = (e, refl)
   kept (done l) a e h = absurd (h (length l) e)
@@ -81,23 +81,23 @@ module _ (S : Result) (places : ℕ) (page page' : List ℕ) where
   abbrev Said : Bool → ℕ → Type 0
   Said good n = (good ≡ isDone S) × Whole (replyText places S) page n page'
 
-said-done : (S : Result) (places : ℕ) (page page' : List ℕ) (n : ℕ) → Answer.Done n ≡ answerOf S → page' ≡ outputAfter S page → Said S places page page' true n
-unfolding answerOf outputAfter isDone replyText
+said-done : (S : Result) (places : ℕ) (page page' : List ℕ) (n : ℕ) → Answer.Done n ≡ tokenAnswer S → page' ≡ outputAfter S page → Said S places page page' true n
+unfolding tokenAnswer outputAfter isDone replyText
 said-done (malformed k) places page page' n e o = let z : _≡_ {A = ℕ} 0 1 = cc in absurd (omega arith)
 said-done noRoom places page page' n e o = let z : _≡_ {A = ℕ} 0 1 = cc in absurd (omega arith)
 said-done (done l) places page page' n e o = (refl, record { count = cc; bytes = o })
 
 module _ (places : ℕ) (page mid page' : List ℕ) (r : ℕ) (room : 64 ≤ length page) where
-  said-bad : (S : Result) (k : ℕ) → Answer.Malformed k ≡ answerOf S → mid ≡ outputAfter S page → Wrote 0 (malformedText k) mid r page' → Said S places page page' false r
-  unfolding answerOf outputAfter isDone replyText
+  said-bad : (S : Result) (k : ℕ) → Answer.Malformed k ≡ tokenAnswer S → mid ≡ outputAfter S page → Wrote 0 (malformedText k) mid r page' → Said S places page page' false r
+  unfolding tokenAnswer outputAfter isDone replyText
   said-bad (malformed n) k e o w =
       let g : k ≡ n = cc in
       (refl, wrote-whole (omega (arith, malformed-length n)) (rw (g, o) at w))
   said-bad noRoom k e o w = let z : _≡_ {A = ℕ} 0 1 = cc in absurd (omega arith)
   said-bad (done l) k e o w = let z : _≡_ {A = ℕ} 0 1 = cc in absurd (omega arith)
 
-  said-full : (S : Result) → Answer.NoRoom ≡ answerOf S → mid ≡ outputAfter S page → Wrote 0 (overText places (ascii " lines" ++ newline)) mid r page' → Said S places page page' false r
-  unfolding answerOf outputAfter isDone replyText ascii
+  said-full : (S : Result) → Answer.NoRoom ≡ tokenAnswer S → mid ≡ outputAfter S page → Wrote 0 (overText places (ascii " lines" ++ newline)) mid r page' → Said S places page page' false r
+  unfolding tokenAnswer outputAfter isDone replyText ascii
   said-full (malformed n) e o w = let z : _≡_ {A = ℕ} 0 1 = cc in absurd (omega arith)
   said-full noRoom e o w = (refl, wrote-whole (omega (arith, over-length places (ascii " lines" ++ newline) (omega arith))) (rw o at w))
   said-full (done l) e o w = let z : _≡_ {A = ℕ} 0 1 = cc in absurd (omega arith)

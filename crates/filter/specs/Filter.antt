@@ -8,7 +8,7 @@ use Rattle.text.specs.Ascii.{ascii}
 use Rattle.replies.specs.Write.{Whole, decimalText, newline}
 use Rattle.tokens.specs.declared.Form.{Form}
 use Rattle.tokens.specs.declared.Answer.{Answer}
-use Rattle.tokens.specs.Tokens.{Result, malformed, noRoom, done, writeResult, readResult, answerOf, outputAfter}
+use Rattle.tokens.specs.Tokens.{Result, malformed, noRoom, done, writeResult, readResult, tokenAnswer, outputAfter}
 use Rattle.filter.specs.declared.Reply.{Reply}
 
 -- the list that was read is written
@@ -23,7 +23,7 @@ turnedResult from to text places room = onward to room (readResult from text pla
 
 -- the ids stand in their places, the other text in the page
 pub record Turned (from to : Form) (text : List ℕ) (r : Answer) (ids ids' page page' : List ℕ) : Type 0 where
-  pub answer : r ≡ answerOf (turnedResult from to text (length ids) (length page))
+  pub answer : r ≡ tokenAnswer (turnedResult from to text (length ids) (length page))
   pub places : ids' ≡ outputAfter (readResult from text (length ids)) ids
   pub output : page' ≡ outputAfter (turnedResult from to text (length ids) (length page)) page
 

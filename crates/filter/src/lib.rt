@@ -2,7 +2,7 @@
 // refused is told on standard error, and nothing is written to standard output then.
 ghost use mathlib.Core.Path.{_≡_};
 ghost use Prim.Native.Nat.{_≤_, _<_};
-ghost use lib.ListN.{length};
+ghost use lib.ListN.{replicate, length};
 ghost use Rattle.replies.specs.Write.{Wrote};
 ghost use Rattle.filter.specs.Filter.{Turned, malformedText, overText, Replied};
 use input::All;
@@ -21,6 +21,7 @@ pub struct Reply {
 // Room for a text of 1,114,112 bytes, 65,536 lines of sixteen digits, and one byte more.
 pub fn buffer() -> [u8; 1114113]
     ensures { λ r. ⌜ 1114113 ≡ length r ⌝ }
+    ensures { λ r. ⌜ r ≡ replicate 1114113 0 ⌝ }
 {
     [0; 1114113]
 }
@@ -28,6 +29,7 @@ pub fn buffer() -> [u8; 1114113]
 // Room for the ids of a text.
 pub fn places() -> [u64; 65536]
     ensures { λ r. ⌜ 65536 ≡ length r ⌝ }
+    ensures { λ r. ⌜ r ≡ replicate 65536 0 ⌝ }
 {
     [0; 65536]
 }
@@ -35,6 +37,7 @@ pub fn places() -> [u64; 65536]
 // Room for the text of as many ids.
 pub fn page() -> [u8; 1114112]
     ensures { λ r. ⌜ 1114112 ≡ length r ⌝ }
+    ensures { λ r. ⌜ r ≡ replicate 1114112 0 ⌝ }
 {
     [0; 1114112]
 }

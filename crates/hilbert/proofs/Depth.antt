@@ -55,9 +55,13 @@ walk-on id n (suc m) =
     let e = ij-lt (walk id (m + n) .row) (posAt id (29 - (m + n))) (walk-in id (m + n) .row) b in
     rw s (half-down _ _ m (omega arith) ∙ r .0, half-down _ _ m (omega arith) ∙ r .1)
 
+-- the place of any id lies in the square that its walk comes to at a level
+pub walk-square : (id L : ℕ) → L ≤ 30 → (faceIj id .i / 2 ^ (30 - L) ≡ walk id L .i) × (faceIj id .j / 2 ^ (30 - L) ≡ walk id L .j)
+unfolding faceIj
+walk-square id L h =
+    let e : 30 - L + L ≡ 30 = omega arith in
+    subst (λ (n : ℕ). (walk id n .i / 2 ^ (30 - L) ≡ walk id L .i) × (walk id n .j / 2 ^ (30 - L) ≡ walk id L .j)) e (walk-on id L (30 - L))
+
 -- the leaf in a cell's middle lies in the cell's square
 pub face-ij-square : (id L p : ℕ) → IsCell id L p → (faceIj id .i / 2 ^ (30 - L) ≡ walk id L .i) × (faceIj id .j / 2 ^ (30 - L) ≡ walk id L .j)
-unfolding faceIj
-face-ij-square id L p c =
-    let e : 30 - L + L ≡ 30 = omega (arith, c .level) in
-    subst (λ (n : ℕ). (walk id n .i / 2 ^ (30 - L) ≡ walk id L .i) × (walk id n .j / 2 ^ (30 - L) ≡ walk id L .j)) e (walk-on id L (30 - L))
+face-ij-square id L p c = walk-square id L (c .level)

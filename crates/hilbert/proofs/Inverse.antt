@@ -9,17 +9,17 @@ use borrow.Author.Tests.{eqb-true}
 use Rattle.cellid.specs.CellId.{IsCell, idOf, faceOf}
 use Rattle.cellid.proofs.Laws.{every, pow-pair, level-cell}
 use Rattle.cellid.proofs.Parts.{upper, upper-step}
-use Rattle.hilbert.specs.Curve.{ijAt, posAt, turnOf, walk, faceIj, placeIn, posOf, ijOf, stepOf, digits, leafOf}
+use Rattle.hilbert.specs.Curve.{ijAt, posAt, turnOf, walk, faceIj, indexIn, posOf, ijOf, stepOf, digits, leafOf}
 use Rattle.hilbert.proofs.Laws.{table, ij-lt, pos-lt, walk-in, digits-in, leaf-cell}
 use Rattle.hilbert.proofs.Depth.{pos-upper, walk-on}
 
 -- in each row the two tables undo each other
 pub pos-ij : (row pos : ℕ) → row < 4 → pos < 4 → posOf row (ijAt row pos) ≡ pos
-unfolding ijAt posOf placeIn every
+unfolding ijAt posOf indexIn every
 pos-ij row pos h g = eqb-true _ _ (table (λ r p. eqb (posOf r (ijAt r p)) p) refl row pos h g)
 
 pub ij-pos : (row ij : ℕ) → row < 4 → ij < 4 → ijAt row (posOf row ij) ≡ ij
-unfolding ijAt posOf placeIn every
+unfolding ijAt posOf indexIn every
 ij-pos row ij h g = eqb-true _ _ (table (λ r q. eqb (ijAt r (posOf r q)) q) refl row ij h g)
 
 -- ---- from an id to its place, and back

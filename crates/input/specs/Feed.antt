@@ -93,7 +93,7 @@ unfoldable pub leftWaiting : ℕ → ℕ → ℕ → ℕ → ℕ → ℕ
 leftWaiting room waiting longest end filled = cond (mayWait room waiting longest end filled) waiting 0
 
 -- how many bytes of a file are held
-unfoldable pub heldOf : All → ℕ
-heldOf (All.Held n) = n
-heldOf All.TooLong = 0
-heldOf All.Failed = 0
+unfoldable pub heldBytes : All → ℕ
+heldBytes (All.Held n) = n
+heldBytes All.TooLong = 0
+heldBytes All.Failed = 0

@@ -3,8 +3,8 @@
 ghost use mathlib.Core.Path.{_≡_};
 ghost use mathlib.Core.Bool.{false, _&&_};
 ghost use Prim.Native.Nat.{_+_, _-_, _≤_, _<_};
-ghost use lib.ListN.{length, take};
-ghost use Rattle.input.specs.Feed.{between, lineEnd, lineTo, lastLine, tooLong, failure, isLast, Ready, NoLine, ReadOn, NextLine, mayWait, leftWaiting, heldOf};
+ghost use lib.ListN.{replicate, length, take};
+ghost use Rattle.input.specs.Feed.{between, lineEnd, lineTo, lastLine, tooLong, failure, isLast, Ready, NoLine, ReadOn, NextLine, mayWait, leftWaiting, heldBytes};
 use libc::STDERR_FILENO;
 use libc::STDOUT_FILENO;
 
@@ -54,6 +54,7 @@ pub enum All {
 // Room for a line of 262,144 bytes and its newline.
 pub fn buffer() -> [u8; 262145]
     ensures { λ r. ⌜ 262145 ≡ length r ⌝ }
+    ensures { λ r. ⌜ r ≡ replicate 262145 0 ⌝ }
 {
     [0; 262145]
 }
@@ -93,7 +94,7 @@ fn fill(fd: i32, buf: &mut [u8], filled: usize) -> Filled
 
 // Reads a file to its end. Of a buffer that is full nobody knows whether it holds all, so a byte has to stay free.
 pub fn read_all(fd: i32, buf: &mut [u8]) -> All
-    ensures { λ r. ⌜ heldOf r ≤ length (now (buf .entry)) ⌝ }
+    ensures { λ r. ⌜ heldBytes r ≤ length (now (buf .entry)) ⌝ }
 {
     let mut filled = 0;
     while filled < buf.len() {

@@ -23,10 +23,11 @@ use Rattle.requests.specs.Requests as Requests
 use Rattle.requests.specs.Requests.{onFirst}
 use Rattle.requests.proofs.Laws.{take-min, drop-min, length-min}
 use Rattle.ranges.specs.declared.Answer.{Answer}
-use Rattle.ranges.specs.Ranges.{Result, refused, done, fitted, isList, pairsOf, isPairs, cellsOf, pairsResult, cellsResult, answerOf, wordsOf, outputAfter, Answered}
+use Rattle.cellunion.specs.CellUnion.{isList}
+use Rattle.ranges.specs.Ranges.{Result, refused, done, fitted, pairsOf, isPairs, cellsOf, pairsResult, cellsResult, listAnswer, wordsOf, outputAfter, Answered}
 use Rattle.ranges.specs.Ranges as Ranges
 use Rattle.sets.specs.declared.Op.{Op}
-use Rattle.sets.specs.Sets.{setOf, isPickList, setResult}
+use Rattle.sets.specs.Sets.{combined, isPickList, setResult}
 use Rattle.lines.specs.declared.ListRead.{ListRead}
 use Rattle.lines.specs.declared.ListsRead.{ListsRead}
 use Rattle.lines.specs.Lines.{wordAfter, isAt, asksList, secondAfter, listsAfter, ReadLists, Question, questionOf, ReadQuestion, opOf, resultFor, resultIn, resultOf, resultText, AnsweredIn, answerText, textAt, memoryWith, outputAt, Told, textOf, memoryOf, outputOf, Replied}
@@ -151,13 +152,13 @@ answered-in kind lists first asked r out part o e = rw (e, part-to-end lists fir
 
 -- ---- the answer to a result, with the output that it leaves
 
-count-fits : (R : Result) (out rest : List ℕ) → wordsOf (answerOf R) ≤ length (outputAfter R out ++ rest)
-unfolding answerOf wordsOf outputAfter
+count-fits : (R : Result) (out rest : List ℕ) → wordsOf (listAnswer R) ≤ length (outputAfter R out ++ rest)
+unfolding listAnswer wordsOf outputAfter
 count-fits (refused n) out rest = omega arith
 count-fits (done l) out rest = simp length-append (omega arith)
 
-answer-text : (form : Form) (R : Result) (out rest : List ℕ) → answerText form (answerOf R) (outputAfter R out ++ rest) ≡ resultText form R
-unfolding answerOf outputAfter answerText resultText
+answer-text : (form : Form) (R : Result) (out rest : List ℕ) → answerText form (listAnswer R) (outputAfter R out ++ rest) ≡ resultText form R
+unfolding listAnswer outputAfter answerText resultText
 answer-text form (refused n) out rest = refl
 answer-text form (done l) out rest = ap (listText form) (ap (take (length l)) (append-assoc l _ rest) ∙ take-append-seam l _)
 
@@ -198,7 +199,7 @@ for-short kind a b room = by (eqb kind 0) (eqb kind 1)
     ])
     by true c = unless-short (isList a) 25 room _ (fitted-short 26 (pairsOf a) room)
     by false true = unless-short (isPairs a) 25 room _ (fitted-short 26 (cellsOf a) room)
-    by false false = unless-short (isPickList a) 15 room _ (unless-short (isPickList b) 16 room _ (fitted-short 17 (setOf (opOf (kind - 2)) a b) room))
+    by false false = unless-short (isPickList a) 15 room _ (unless-short (isPickList b) 16 room _ (fitted-short 17 (combined (opOf (kind - 2)) a b) room))
 
 question-short : (q : Question) (out : List ℕ) → length (resultText (q .form) (resultOf q out)) ≤ 17 * length out + 256
 unfolding resultIn

@@ -14,10 +14,9 @@ use Rattle.text.specs.Text.{Numbers, choiceAfter, listAfter, endAfter, startOf}
 use Rattle.tokens.specs.declared.Form.{Form}
 use Rattle.replies.specs.Write.{Whole, refusedText, listText, errorText}
 use Rattle.requests.specs.Line.{valueOr, formOf, optionsAfter}
-use Rattle.requests.specs.Requests.{onFirst}
-use Rattle.requests.specs.Requests as Requests
+use Rattle.requests.specs.Requests.{onFirst, askedText, askedMemory, askedOutput}
 use Rattle.ranges.specs.declared.Answer.{Answer}
-use Rattle.ranges.specs.Ranges.{Result, pairsResult, cellsResult, answerOf, outputAfter}
+use Rattle.ranges.specs.Ranges.{Result, pairsResult, cellsResult, listAnswer, outputAfter}
 use Rattle.ranges.specs.Ranges as Ranges
 use Rattle.sets.specs.declared.Op.{Op}
 use Rattle.sets.specs.Sets.{setResult}
@@ -130,19 +129,19 @@ outputAt (Place.Bad f) q out = out
 unfoldable pub textOf : ℕ → List ℕ → List ℕ → List ℕ → List ℕ
 textOf number line mem out = elim (asksList line) [
   | true ↦ textAt (questionOf (length mem) line .after) number (questionOf (length mem) line) out
-  | false ↦ Requests.textOf number line mem out
+  | false ↦ askedText number line mem out
 ]
 
 unfoldable pub memoryOf : List ℕ → List ℕ → List ℕ → List ℕ
 memoryOf line mem out = elim (asksList line) [
   | true ↦ memoryWith (questionOf (length mem) line .first) (questionOf (length mem) line .second) mem
-  | false ↦ Requests.memoryOf line mem out
+  | false ↦ askedMemory line mem out
 ]
 
 unfoldable pub outputOf : List ℕ → List ℕ → List ℕ → List ℕ
 outputOf line mem out = elim (asksList line) [
   | true ↦ outputAt (questionOf (length mem) line .after) (questionOf (length mem) line) out
-  | false ↦ Requests.outputOf line mem out
+  | false ↦ askedOutput line mem out
 ]
 
 -- what is ensured of a line: its answer is written whole
@@ -170,7 +169,7 @@ pub record ReadQuestion (q : Question) (r : ListRead) (mem mem' : List ℕ) : Ty
   pub memory : mem' ≡ memoryWith (q .first) (q .second) mem
 
 pub record AnsweredIn (kind : ℕ) (a b : List ℕ) (asked : ℕ) (r : Answer) (out out' : List ℕ) : Type 0 where
-  pub answer : r ≡ answerOf (resultIn kind a b asked out)
+  pub answer : r ≡ listAnswer (resultIn kind a b asked out)
   pub output : out' ≡ onFirst asked (outputAfter (resultIn kind a b asked out)) out
 
 -- the text of an answer, its numbers taken from the output's first places

@@ -1,6 +1,6 @@
 -- What the tests before a cast say of the whole number in a float: `toUnsigned 64`, which is 0 below 1 and for a NaN.
 use mathlib.Core.Path.{_≡_, refl, sym, _∙_, subst}
-use mathlib.Core.Bool.{Bool, true, false, _&&_, _||_}
+use mathlib.Core.Bool.{Bool, true, false, _&&_}
 use Prim.Native.Nat.{ℕ, _+_, _*_, _/_, _^_, _≤_, _<_}
 use native.Mathlib.Nat.{mul-one, div-lt-iff-lt-mul, le-div-iff-mul-le, div-eq-of-lt}
 use native.Mathlib.Omega.{arith}
@@ -10,23 +10,16 @@ use lib.Ieee.{Float, nan, inf, fin, lt, le, eq, neg, toUnsigned, ofBits, up, dow
 use lib.Ieee.Fits.{down-pos}
 use borrow.Author.Tests.{lt-ltb, ltb-true, ltb-false, ne-eqb, eqb-false}
 use Rattle.point.specs.Floats.{oneF}
-use Rattle.point.proofs.Laws.{never}
+use Rattle.cellid.proofs.Laws.{or-false}
+use Rattle.point.proofs.Laws.{never, and-no}
 use Rattle.neighbors.specs.Neighbors.{maxSize, stToIj}
 
 T-of : (b : Bool) → b ≡ true → T b
 T-of b h = subst T (sym h) tt
 
-and-no : (a : Bool) → (a && false) ≡ false
-and-no true = refl
-and-no false = refl
-
 and-yes : (a : Bool) → (a && true) ≡ a
 and-yes true = refl
 and-yes false = refl
-
-or-false : (a b : Bool) → (a || b) ≡ false → (a ≡ false) × (b ≡ false)
-or-false true b h = never (sym h)
-or-false false b h = (refl, h)
 
 -- no number below 0 is at least 1
 negative : (m : ℕ) (e : ℤ) → le oneF (fin true m e) ≡ false

@@ -21,7 +21,7 @@ use Rattle.point.specs.declared.Point.{Point}
 use Rattle.stuv.specs.Projection.{xyzToFaceUv, faceUvToXyz}
 use Rattle.stuv.proofs.Laws.{face-lt}
 use Rattle.neighbors.specs.declared.Toward.{Toward}
-use Rattle.neighbors.specs.Neighbors.{AtLevel, leafOfPoint, leafWrapped, leafBeside, middleOf, towardOf, vertexNeighbors}
+use Rattle.neighbors.specs.Neighbors.{AtLevel, leafOfPoint, leafWrapped, leafBeside, middleAt, towardOf, vertexNeighbors}
 
 -- ---- leaves
 
@@ -36,7 +36,7 @@ point-leaf p = (_, leaf-cell _ _ _ (face-uv-lt p))
 
 pub wrapped-leaf : (face i j : ℕ) → AtLevel 30 (leafWrapped face i j)
 unfolding leafWrapped
-wrapped-leaf face i j = (_, leaf-cell _ _ _ (face-uv-lt (faceUvToXyz face (middleOf i) (middleOf j))))
+wrapped-leaf face i j = (_, leaf-cell _ _ _ (face-uv-lt (faceUvToXyz face (middleAt i) (middleAt j))))
 
 pub beside-leaf : (face i j : ℕ) (same : Bool) → face < 6 → AtLevel 30 (leafBeside face i j same)
 unfolding leafBeside

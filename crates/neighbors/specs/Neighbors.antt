@@ -40,13 +40,13 @@ unfoldable pub clampOf : Float → Float → Float → Float
 clampOf x lo hi = cond (lt x lo) lo (cond (lt hi x) hi x)
 
 -- the middle of the leaf k - 1 along a face that runs from -1 to 1
-unfoldable pub middleOf : ℕ → Float
-middleOf k = clampOf (scale ⊗ (twoF ⊗ ofInt binary64 (minus k 1) ⊕ oneF ⊖ maxSize)) (neg limit) limit
+unfoldable pub middleAt : ℕ → Float
+middleAt k = clampOf (scale ⊗ (twoF ⊗ ofInt binary64 (minus k 1) ⊕ oneF ⊖ maxSize)) (neg limit) limit
 
 -- the leaf at i - 1, j - 1 of a face, which may lie on the face beside it
 unfoldable pub leafWrapped : ℕ → ℕ → ℕ → ℕ
 leafWrapped face i j =
-    let f = xyzToFaceUv (faceUvToXyz face (middleOf i) (middleOf j)) in
+    let f = xyzToFaceUv (faceUvToXyz face (middleAt i) (middleAt j)) in
     leafOf (f .face) (stToIj (halfF ⊗ (f .u ⊕ oneF))) (stToIj (halfF ⊗ (f .v ⊕ oneF)))
 
 -- the same, known to lie on the face itself or not
@@ -74,8 +74,8 @@ vertexNeighbors id level =
     cond (a .same || b .same) (parentAt (leafBeside (f .face) (a .at) (b .at) (a .same && b .same)) level ∷ []) []
 
 -- a list of at most four with its length, zeros after
-abbrev pub listed : List ℕ → Neighbors
-listed l = record { ids = take 4 (l ++ 0 ∷ 0 ∷ 0 ∷ 0 ∷ []); count = length l }
+abbrev pub inFour : List ℕ → Neighbors
+inFour l = record { ids = take 4 (l ++ 0 ∷ 0 ∷ 0 ∷ 0 ∷ []); count = length l }
 
 -- an id of a cell of the level L
 abbrev pub AtLevel : ℕ → ℕ → Type 0

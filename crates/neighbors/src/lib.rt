@@ -6,7 +6,7 @@ ghost use mathlib.Core.Bool.{true};
 ghost use Prim.Native.Nat.{_+_, _^_, _≤_, _<_};
 ghost use lib.Ieee.{binary64, minus, ofInt};
 ghost use Rattle.cellid.specs.CellId.{Cell};
-ghost use Rattle.neighbors.specs.Neighbors.{stToIj, leafOfPoint, clampOf, middleOf, leafWrapped, leafBeside, towardOf, vertexNeighbors, listed, AtLevel};
+ghost use Rattle.neighbors.specs.Neighbors.{stToIj, leafOfPoint, clampOf, middleAt, leafWrapped, leafBeside, towardOf, vertexNeighbors, inFour, AtLevel};
 use point::Point;
 
 // The way to the cell beside: whether it is on the same face, and its coordinate, one up.
@@ -71,7 +71,7 @@ fn coordinate(k: u64) -> f64
 // The middle of the leaf k - 1 along a face, from -1 to 1 and the next floats beyond.
 fn middle(k: u64) -> f64
     requires { ⌜ k ≤ 2 ^ 30 + 1 ⌝ }
-    ensures { λ r. ⌜ r ≡ middleOf k ⌝ }
+    ensures { λ r. ⌜ r ≡ middleAt k ⌝ }
 {
     clamp(
         SCALE * (2.0 * coordinate(k) + 1.0 - 1073741824.0),
@@ -145,7 +145,7 @@ fn nearer(i: u64, place: u64) -> Toward
 pub fn vertex_neighbors(id: u64, level: u64) -> Neighbors
     requires { ⌜ Cell id ⌝ }
     requires { ⌜ level < 30 ⌝ }
-    ensures { λ r. ⌜ r ≡ listed (vertexNeighbors id level) ⌝ }
+    ensures { λ r. ⌜ r ≡ inFour (vertexNeighbors id level) ⌝ }
 {
     let f = hilbert::face_ij_orientation(id);
     let a = nearer(f.i, 29 - level);

@@ -24,7 +24,7 @@ zero-low u zero p U e h = omega arith
 zero-low (suc u) (suc (suc d)) p U e h = absurd (omega arith)
 zero-low zero (suc (suc d)) p U e h = absurd (omega arith)
 
-parts : (f : Format) (s : Bool) (m : ℕ) (e : ℤ) → T (fits f (fin s m e)) → (m < 2 ^ prec f) × (down e ≤ 2 ^ low f) × (m * up e < 2 ^ suc (emax f) * down e)
+pub parts : (f : Format) (s : Bool) (m : ℕ) (e : ℤ) → T (fits f (fin s m e)) → (m < 2 ^ prec f) × (down e ≤ 2 ^ low f) × (m * up e < 2 ^ suc (emax f) * down e)
 unfolding fits
 parts f s zero e h = (pow-pos (prec f), zero-low (up e) (down e) (2 ^ low f) (up-pos e) (eqb→eq (up e * down e) 1 h) (pow-pos (low f)), subst (λ (x : ℕ). x < 2 ^ suc (emax f) * down e) (sym (zero-mul (up e))) (mul-pos (pow-pos (suc (emax f))) (down-pos e)))
 parts f s (suc m) e h =
@@ -37,7 +37,7 @@ parts f s (suc m) e h =
       ltb→lt (suc m * up e) (2 ^ suc (emax f) * down e) (and-r (A && B && C) D h),
     )
 
-grid : (l m : ℕ) (e : ℤ) → down e ≤ 2 ^ l → (j : ℕ) × (m * up e * 2 ^ l ≡ m * 2 ^ j * down e)
+pub grid : (l m : ℕ) (e : ℤ) → down e ≤ 2 ^ l → (j : ℕ) × (m * up e * 2 ^ l ≡ m * 2 ^ j * down e)
 grid l m (pos i) h = (i + l, mul-assoc m (2 ^ i) (2 ^ l) ∙ ap (λ (x : ℕ). m * x) (sym (pow-add 2 i l)) ∙ sym (mul-one (m * 2 ^ (i + l))))
 grid l m (negsuc i) h =
     let g : suc i ≤ l = le-of-suc-le-suc (lt-of-not-le (λ (k : suc l ≤ suc i). not-le-of-lt (pow-lt k) h)) in
@@ -61,7 +61,7 @@ unique f (inf t) s m e p q v = absurd v
 unique f (fin t n d) s m e p q v =
     sym (ofBits-toBits f (fin t n d) p) ∙ ap (ofBits f) (ap (λ (b : Bool). toBits f (fin b n d)) (v .0) ∙ same-bits f s n m d e (v .1)) ∙ ofBits-toBits f (fin s m e) q
 
-round-own : (f : Format) (s : Bool) (m : ℕ) (e : ℤ) → T (fits f (fin s m e)) → round f s (m * up e) (down e) ≡ fin s m e
+pub round-own : (f : Format) (s : Bool) (m : ℕ) (e : ℤ) → T (fits f (fin s m e)) → round f s (m * up e) (down e) ≡ fin s m e
 round-own f s m e h =
     let p = parts f s m e h in
     let g = grid (low f) m e (p .1) in

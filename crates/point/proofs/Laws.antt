@@ -1,4 +1,4 @@
--- What the tests of `abs` say of the float without its sign.
+-- What the tests of `abs` say of the float without its sign, and when a float is finite.
 use mathlib.Core.Path.{_≡_, refl, sym, ap, _∙_, subst}
 use mathlib.Core.Bool.{Bool, true, false, _&&_}
 use Prim.Native.Nat.{zero, suc, _+_, _*_, _^_, _≤_, _<_}
@@ -10,10 +10,14 @@ use lib.Dec.{T}
 use lib.Ieee.{Float, nan, inf, fin, binary64, lt, eq, neg, fits, ofBits, up, down}
 use lib.Ieee.Fits.{up-pos}
 use borrow.Author.Tests.{ltb-true, ltb-false, eqb-true}
-use Rattle.point.specs.Floats.{zeroF, absOf}
+use Rattle.point.specs.Floats.{zeroF, absOf, isFinite}
 
 pub never : {A : Type 0} → false ≡ true → A
 never h = absurd (subst T (sym h) tt)
+
+pub and-no : (a : Bool) → (a && false) ≡ false
+and-no true = refl
+and-no false = refl
 
 pub abs-below : (x : Float) → lt x zeroF ≡ true → neg x ≡ absOf x
 unfolding lt neg absOf ofBits
@@ -54,3 +58,11 @@ abs-above (fin true m e) h g =
     let z : m * up e * 1 ≡ 0 = omega (arith, l) in
     let y : 0 * up (pos 0) * down e ≡ 0 = omega arith in
     never (sym g ∙ rw (z, y))
+
+-- finite is between the infinities
+pub finite-is : (x : Float) → (lt (inf true) x && lt x (inf false)) ≡ isFinite x
+unfolding lt isFinite
+finite-is nan = refl
+finite-is (inf true) = refl
+finite-is (inf false) = refl
+finite-is (fin s m e) = refl

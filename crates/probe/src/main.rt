@@ -6,13 +6,13 @@ ghost use Prim.Native.Nat.{_<_, _≤_};
 ghost use lib.ListN.{length};
 ghost use Rattle.cellid.specs.CellId as CellId;
 ghost use Rattle.region.specs.Region.{inDomain};
-ghost use Rattle.fast.specs.Memory.{Domain, Cells};
+ghost use Rattle.fast.specs.Memory.{NumbersFit, Cells};
 ghost use Rattle.input.specs.Feed.{Ready};
+use bars::Bar;
 use cell::Cap;
 use cell::Cell;
 use cellid::Common;
 use cellunion::Laid;
-use fast::RegionCoverer;
 use hilbert::FaceIj;
 use input::Feed;
 use input::Found;
@@ -21,6 +21,8 @@ use point::Point;
 use region::Region;
 use requests::CovererRead;
 use requests::RegionRead;
+use run::MEMORY_WORDS;
+use run::RegionCoverer;
 use text::Base;
 use text::Fault;
 use text::Place;
@@ -335,7 +337,7 @@ fn put_bound(g: Region, page: &mut Page) -> usize
 }
 
 fn put_starts(c: RegionCoverer, g: Region, page: &mut Page) -> usize
-    requires { ⌜ Domain c × (inDomain g ≡ true) ⌝ }
+    requires { ⌜ NumbersFit c × (inDomain g ≡ true) ⌝ }
 {
     let s = fast::starts(c, g);
     let ids = s.ids;
@@ -351,7 +353,7 @@ fn put_normal(ids: &mut [u64; 4096], n: usize, page: &mut Page) -> usize
 
 // Lays the list over the output.
 fn lay(k: u64, c: RegionCoverer, ids: &mut [u64; 4096], n: usize, out: &mut [u64; 65536]) -> Laid
-    requires { ⌜ Domain c × Cells n (now ids) ⌝ }
+    requires { ⌜ NumbersFit c × Cells n (now ids) ⌝ }
 {
     match k {
         19 => cellunion::denormalize(ids, n, c.min_level, c.level_mod, out),
@@ -368,7 +370,7 @@ fn put_laid(page: &mut Page, laid: Laid, out: &[u64; 65536]) -> usize {
 }
 
 fn put_covering(k: u64, c: RegionCoverer, ids: &mut [u64; 4096], n: usize, page: &mut Page) -> usize
-    requires { ⌜ Domain c × Cells n (now ids) ⌝ }
+    requires { ⌜ NumbersFit c × Cells n (now ids) ⌝ }
 {
     let mut out = places();
     let laid = lay(k, c, ids, n, &mut out);
@@ -383,7 +385,7 @@ fn put_answer(
     n: usize,
     page: &mut Page,
 ) -> usize
-    requires { ⌜ Domain c × (inDomain g ≡ true) × Cells n (now ids) ⌝ }
+    requires { ⌜ NumbersFit c × (inDomain g ≡ true) × Cells n (now ids) ⌝ }
 {
     match k {
         16 => put_bound(g, page),
@@ -403,10 +405,16 @@ fn answer_list(
     page: &mut Page,
 ) -> usize {
     let m = cells_in_front(ids, n);
-    if covering::first_refusal(c, g, 4096) == 0 && m == n {
-        return put_answer(k, c, g, ids, m, page);
+    let first = bars::first_refusal(c, g, MEMORY_WORDS);
+    match first {
+        Bar::Open => {
+            if m == n {
+                return put_answer(k, c, g, ids, m, page);
+            }
+            0
+        }
+        Bar::Barred(_) => 0,
     }
-    0
 }
 
 fn words() -> [u64; 4096] {

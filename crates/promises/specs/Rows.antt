@@ -2,15 +2,14 @@
 use mathlib.Core.Path.{_≡_}
 use mathlib.Core.Bool.{false}
 use mathlib.Core.List.{List, [], _∷_, map}
-use Prim.Native.Nat.{ℕ, _*_, _^_}
+use Prim.Native.Nat.{ℕ}
 use lib.IntN.{negsuc}
-use lib.Ieee.{Float, fin, binary64}
+use lib.Ieee.{Float, fin, binary64, ofBits, toBits}
 use Rattle.root.specs.Root.{root}
-use Rattle.cellid.specs.CellId.{faceCell, childOf, validId}
+use Rattle.cellid.specs.CellId.{faceCell, childOf, validId, one}
 use Rattle.cellunion.specs.CellUnion.{goal}
 use Rattle.fast.specs.Fast.{adjusted, fastCovering}
-use Rattle.run.specs.Run.{costOf}
-use Rattle.run.specs.Ground.{one}
+use Rattle.run.specs.Run.{full, costOf}
 
 -- the row's number, what the definitions give, what the paper says
 pub data Row : Type 0 where
@@ -21,9 +20,9 @@ abbrev pub Right : Row → Type 0
 Right (numbers n given said) = given ≡ said
 Right (float n given said) = given ≡ said
 
--- 4 ^ level_mod
+-- the run's own 4 ^ level_mod, for a request with that level_mod
 abbrev pub four : ℕ → ℕ
-four m = 2 ^ (2 * m)
+four m = full (record { coverer = record { «min_level» = 0; «max_level» = 30; «level_mod» = m; «max_cells» = 8 }; inner = false })
 
 unfoldable pub table : List Row
 table =
@@ -47,6 +46,7 @@ table =
     -- first two children of face 0, max_cells 1: min 0 gives face 0; min 1 leaves both
     ∷ numbers 9 (fastCovering 0 30 1 1 (map (childOf (faceCell 0)) (0 ∷ 1 ∷ []))) (faceCell 0 ∷ [])
     ∷ numbers 9 (fastCovering 1 30 1 1 (map (childOf (faceCell 0)) (0 ∷ 1 ∷ []))) (map (childOf (faceCell 0)) (0 ∷ 1 ∷ []))
-    -- root of 2^−1074 is 2^−537
+    -- root of 2^−1074 is 2^−537: as values, and as patterns of bits
     ∷ float 10 (root binary64 (fin false 1 (negsuc 1073))) (fin false 1 (negsuc 536))
+    ∷ numbers 10 (toBits binary64 (root binary64 (ofBits binary64 1)) ∷ []) (0x1e60000000000000 ∷ [])
     ∷ []

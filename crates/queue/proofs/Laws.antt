@@ -5,18 +5,18 @@ use Prim.Native.Nat.{ℕ, _+_, _*_, _<_}
 use native.Mathlib.Omega.{arith}
 use lib.ListN.{set, drop}
 use lib.Seq.{drop-set-lt, getD-set-other}
-use Rattle.order.specs.Heap.{Heap}
 use Rattle.order.specs.Queue.{Queue}
 use Rattle.order.proofs.HeapSteps.{pushed-out, popped-out}
 use Rattle.order.proofs.Queues.{heap-queue}
 use Rattle.queue.specs.declared.Rec.{Rec}
 use Rattle.queue.specs.declared.Rule.{Rule}
-use Rattle.queue.specs.Queue.{getR, putR, capR, before, pushR, popR}
+use Rattle.queue.specs.Queue.{getR, putR, capR, before, pushR, popR, Held, nextR}
 use Rattle.queue.proofs.Mem.{store, order}
 
--- the heap of records is a queue: the sorted list of its records by the rule's order, least first
-pub heap : (w : Rule) → Queue (before w) getR capR (Heap getR (before w)) (pushR w) (λ m n. getR m 0) (popR w)
-heap w = heap-queue getR putR (before w) capR (order w) store
+-- the records in memory are a queue: the sorted list of them by the rule's order, least first
+pub held : (w : Rule) → Queue (before w) getR capR (Held w) (pushR w) nextR (popR w)
+unfolding Held nextR
+held w = heap-queue getR putR (before w) capR (order w) store
 
 -- words from 3 * bound on are as they were
 pub putR-out : (bound : ℕ) (m : List ℕ) (i : ℕ) (r : Rec) → i < bound → drop (3 * bound) (putR m i r) ≡ drop (3 * bound) m

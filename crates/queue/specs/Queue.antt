@@ -6,7 +6,7 @@ use Prim.Native.Nat.{ℕ, _+_, _*_, _/_}
 use lib.ListN.{length, getD, set}
 use lib.Count.{ones}
 use Rattle.cellid.specs.CellId.{levelOf}
-use Rattle.order.specs.Heap.{pushed, popped, lesser}
+use Rattle.order.specs.Heap.{Heap, pushed, popped, lesser}
 use Rattle.order.specs.Lex.{lexb}
 use Rattle.run.specs.Run.{costOf}
 use Rattle.queue.specs.declared.Rec.{Rec}
@@ -48,3 +48,12 @@ popR w = popped getR putR (before w)
 
 abbrev pub lesserR : Rule → List ℕ → ℕ → ℕ → ℕ
 lesserR w = lesser getR putR (before w)
+
+-- the n records of m are the queue q, the next one first. An engine knows no more of its queue than that it is one (proofs/Laws `held`): how the records
+-- stand in memory is this definition's matter alone.
+unfoldable pub Held : Rule → List ℕ → ℕ → List Rec → Type 0
+Held w = Heap getR (before w)
+
+-- the record that a step takes, of n + 1
+unfoldable pub nextR : List ℕ → ℕ → Rec
+nextR m n = getR m 0

@@ -4,7 +4,7 @@ ghost use mathlib.Core.Path.{_≡_};
 ghost use Prim.Native.Nat.{_+_, _*_, _/_, _<_, _≤_};
 ghost use lib.Count.{ones};
 ghost use Rattle.order.specs.Lex.{lexb};
-ghost use Rattle.queue.specs.Queue.{costR, keyAt, getR, putR, capR, pushR, popR, lesserR};
+ghost use Rattle.queue.specs.Queue.{costR, keyAt, getR, putR, capR, pushR, popR, lesserR, nextR};
 
 // A candidate: its cell, the Hilbert places of its children, and of those that are terminal.
 pub struct Rec {
@@ -137,7 +137,7 @@ fn lesser(m: &[u64], n: usize, i: usize, w: Rule) -> Placed
 pub fn pop(m: &mut [u64], n: usize, w: Rule) -> Rec
     requires { ⌜ n < capR (now m) ⌝ }
     requires { ⌜ w .full ≤ 64 ⌝ }
-    ensures { λ r. ⌜ r ≡ getR (now (m .entry)) 0 ⌝ }
+    ensures { λ r. ⌜ r ≡ nextR (now (m .entry)) n ⌝ }
     ensures { λ _. ⌜ now (m .exit) ≡ popR w (now (m .entry)) n ⌝ }
 {
     let full = w.full;

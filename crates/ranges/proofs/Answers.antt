@@ -3,7 +3,7 @@ use mathlib.Core.Path.{_≡_, refl, sym, ap, ap₂, _∙_, subst}
 use mathlib.Core.Logic.{⊎-elim, _↔_}
 use mathlib.Core.Bool.{Bool, true, false}
 use mathlib.Core.List.{List}
-use Prim.Native.Nat.{ℕ, _≤_, _<_}
+use Prim.Native.Nat.{ℕ, _/_, _≤_, _<_}
 use native.Mathlib.Nat.{zero-add}
 use native.Mathlib.Omega.{arith}
 use lib.ListN.{length, take, drop}
@@ -11,14 +11,14 @@ use lib.Seq.{take-at, sets, sets-eq}
 use lib.Dec.{leb}
 use borrow.Author.Tests.{leb-true, leb-false, le-leb, lt-leb}
 use Rattle.order.proofs.OrderLaws.{which}
-use Rattle.cellunion.specs.CellUnion.{normalise}
+use Rattle.cellunion.specs.CellUnion.{normalise, isList}
 use Rattle.ranges.specs.declared.Answer.{Answer}
-use Rattle.ranges.specs.Ranges.{isList, isPairs, pairsOf, cellsOf, Result, refused, done, fitted, resultOf, pairsResult, cellsResult, answerOf, outputAfter, Answered}
+use Rattle.ranges.specs.Ranges.{isPairs, pairsOf, cellsOf, Result, refused, done, fitted, resultOf, pairsResult, cellsResult, listAnswer, outputAfter, Answered}
 use Rattle.ranges.specs.Steps.{looked}
-use Rattle.ranges.proofs.Laws.{there-and-back}
+use Rattle.ranges.proofs.Laws.{pairs-short, there-and-back}
 
-never : {A : Type 0} (k r : ℕ) → Answer.Refused r ≡ Answer.Done k → A
-never k r e = let z : _≡_ {A = ℕ} 0 1 = cc in absurd (omega arith)
+not-done : {A : Type 0} (k r : ℕ) → Answer.Refused r ≡ Answer.Done k → A
+not-done k r e = let z : _≡_ {A = ℕ} 0 1 = cc in absurd (omega arith)
 
 same-count : (k n : ℕ) → Answer.Done n ≡ Answer.Done k → k ≡ n
 same-count k n e = cc
@@ -28,11 +28,11 @@ same-count k n e = cc
 pub looked-done : (good : Bool) (l : List ℕ) (n : ℕ) → Answer.Done n ≡ looked good l → (good ≡ true) × (n ≡ length l)
 unfolding looked
 looked-done true l n e = (refl, same-count n (length l) (sym e))
-looked-done false l n e = never n 25 (sym e)
+looked-done false l n e = not-done n 25 (sym e)
 
 pub looked-refused : (good : Bool) (l : List ℕ) (n : ℕ) → Answer.Refused n ≡ looked good l → (good ≡ false) × (n ≡ 25)
 unfolding looked
-looked-refused true l n e = never (length l) n e
+looked-refused true l n e = not-done (length l) n e
 looked-refused false l n e = (refl, cc)
 
 -- ---- a list, or a number where there is no room for it
@@ -46,14 +46,14 @@ unfolding fitted
 fitted-full k l room h = rw (fitted, lt-leb (length l) room h)
 
 pub answered-refused : (n : ℕ) (out : List ℕ) → Answered (refused n) (Answer.Refused n) out out
-unfolding answerOf outputAfter
+unfolding listAnswer outputAfter
 answered-refused n out = record { answer = refl; output = refl }
 
 pub answered-full : (k : ℕ) (l out : List ℕ) (n : ℕ) → n ≡ length l → length out < n → Answered (fitted k l (length out)) (Answer.Refused k) out out
 answered-full k l out n e h = rw (fitted-full k l (length out) (omega arith)) (answered-refused k out)
 
 pub answered-done : (k : ℕ) (l out : List ℕ) (n r : ℕ) (out' : List ℕ) → n ≡ length l → n ≤ length out → (r ≡ length l) × (out' ≡ sets out 0 l) → Answered (fitted k l (length out)) (Answer.Done r) out out'
-unfolding answerOf outputAfter
+unfolding listAnswer outputAfter
 answered-done k l out n r out' e h w =
     rw (fitted-done k l (length out) (omega arith)) (record { answer = ap Answer.Done (w .0); output = w .1 ∙ (rw zero-add at (sets-eq l out 0 (omega arith))) })
 
@@ -98,6 +98,21 @@ answer-done good l out n r out' e h w =
     let q = looked-done good l n e in
     rw (result-good good l (length out) (q .0)) (answered-done 26 l out n r out' (q .1) h w)
 
+-- the same by two tests: whether the input is good, and whether there is room
+pub room-sure : (ids : List ℕ) (room : ℕ) → length ids ≤ room / 2 → true ≡ leb (length (pairsOf ids)) room
+room-sure ids room h = sym (le-leb (length (pairsOf ids)) room (omega (arith, pairs-short ids)))
+
+module _ (b good : Bool) (l out : List ℕ) (e : b ≡ good) where
+  pub tested-bad : b ≡ false → Answered (resultOf good l (length out)) (Answer.Refused 25) out out
+  tested-bad t = rw (result-bad good l (length out) (sym e ∙ t)) (answered-refused 25 out)
+
+  module _ (t : b ≡ true) (v : Bool) (r : v ≡ leb (length l) (length out)) where
+    pub tested-full : v ≡ false → Answered (resultOf good l (length out)) (Answer.Refused 26) out out
+    tested-full h = rw (result-good good l (length out) (sym e ∙ t)) (answered-full 26 l out (length l) refl (leb-false (length l) (length out) (sym r ∙ h)))
+
+    pub tested-done : (n : ℕ) (out' : List ℕ) → v ≡ true → (n ≡ length l) × (out' ≡ sets out 0 l) → Answered (resultOf good l (length out)) (Answer.Done n) out out'
+    tested-done n out' h w = rw (result-good good l (length out) (sym e ∙ t)) (answered-done 26 l out (length l) n out' refl (leb-true (length l) (length out) (sym r ∙ h)) w)
+
 -- ---- each answer exactly when paper 02 says so
 
 pub data Told (good : Bool) (l : List ℕ) (room : ℕ) : Result → Type 0 where
@@ -120,9 +135,9 @@ exactly-when good l room R = (λ e. subst (Told good l room) e (told good l room
 
 -- "output unchanged"
 pub unchanged : (R : Result) (n : ℕ) (out out' : List ℕ) → Answered R (Answer.Refused n) out out' → out' ≡ out
-unfolding answerOf outputAfter
+unfolding listAnswer outputAfter
 unchanged (refused m) n out out' A = A .output
-unchanged (done l) n out out' A = never (length l) n (A .answer)
+unchanged (done l) n out out' A = not-done (length l) n (A .answer)
 
 -- a list that was given stands in the output's first places
 pub record Written (R : Result) (k : ℕ) (out' : List ℕ) : Type 0 where
@@ -132,8 +147,8 @@ pub record Written (R : Result) (k : ℕ) (out' : List ℕ) : Type 0 where
   pub there : take k out' ≡ list
 
 pub written : (R : Result) (k : ℕ) (out out' : List ℕ) → Answered R (Answer.Done k) out out' → Written R k out'
-unfolding answerOf outputAfter
-written (refused n) k out out' A = never k n (sym (A .answer))
+unfolding listAnswer outputAfter
+written (refused n) k out out' A = not-done k n (sym (A .answer))
 written (done l) k out out' A =
     let c : k ≡ length l = same-count k (length l) (sym (A .answer)) in
     record { list = l; is = refl; count = c; there = ap₂ take c (A .output) ∙ take-at l (drop (length l) out) (length l) refl }

@@ -8,9 +8,9 @@ use lib.Count.{trailingZeros}
 use borrow.Author.Tests.{le-leb}
 use Rattle.cellid.specs.CellId.{Cell, validId, firstLeaf, lastLeaf, lowBit}
 use Rattle.order.specs.Order.{All}
-use Rattle.cellunion.specs.CellUnion.{covers, normalise}
-use Rattle.ranges.specs.Ranges.{leaves, faces, listed, listFrom, isList, pairBefore, pairsOf, inPairs, follows, pairsFrom, fits, sizeFrom, size, tileBy, tile, eachPair, cellsOf, fitted, resultOf, pairsResult, cellsResult, done}
-use Rattle.ranges.proofs.Inputs.{is-list→}
+use Rattle.cellunion.specs.CellUnion.{covers, normalise, listed, listFrom, isList}
+use Rattle.cellunion.proofs.Lists.{is-list}
+use Rattle.ranges.specs.Ranges.{leaves, faces, pairBefore, pairsOf, inPairs, follows, pairsFrom, fits, sizeFrom, size, tileBy, tile, eachPair, cellsOf, fitted, resultOf, pairsResult, cellsResult, done}
 use Rattle.ranges.proofs.Laws.{list-leaves, there-and-back}
 
 -- "Six faces become one pair, 0x0000000000000001 to 0xbfffffffffffffff."
@@ -34,7 +34,7 @@ unfolding firstLeaf lastLeaf lowBit trailingZeros pairsOf pairBefore
 faces-pairs = refl
 
 pub faces-cells : All Cell faces
-faces-cells = is-list→ faces faces-list .0
+faces-cells = is-list faces .0 faces-list .0
 
 -- every leaf lies under it
 pub faces-leaves : (n : ℕ) → n < leaves → covers faces n ≡ true

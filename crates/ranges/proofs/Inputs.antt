@@ -1,80 +1,31 @@
 -- Lists and pairs as they come: what the tests say, and the stretches of their leaves.
 use mathlib.Core.Path.{_≡_, refl, sym, ap, ap₂, _∙_, subst}
-use mathlib.Core.Logic.{_⊎_, _↔_, inl, inr, ⊎-elim}
+use mathlib.Core.Logic.{_⊎_, inl, inr, ⊎-elim}
 use mathlib.Core.Bool.{Bool, true, false, _&&_, _||_}
 use mathlib.Core.List.{List, [], _∷_, _++_, append-nil}
 use Prim.Native.Nat.{ℕ, zero, suc, _+_, _-_, _*_, _/_, _%_, _≤_, _<_}
 use native.Mathlib.Omega.{arith}
 use lib.Dec.{leb, ltb, eqb}
 use borrow.Author.Tests.{ltb-true, ltb-false, lt-ltb, le-ltb, leb-true, le-leb, lt-leb, eqb-true, eqb-false, eq-eqb, ne-eqb}
-use Rattle.cellid.specs.CellId.{Cell, validId, firstLeaf, lastLeaf, IsCell, idOf}
-use Rattle.cellid.proofs.Laws.{and-true, bool-iff, no-true, true-or, valid-is, cell-valid}
+use Rattle.cellid.specs.CellId.{Cell, firstLeaf, lastLeaf}
+use Rattle.cellid.proofs.Laws.{and-true, bool-iff, no-true, true-or}
 use Rattle.order.specs.Order.{All}
 use Rattle.order.proofs.OrderLaws.{which}
-use Rattle.cellunion.specs.CellUnion.{lo, hi, hasLeaf, covers, Apart}
-use Rattle.cellunion.proofs.Spans.{span, leaf→, leaf←}
-use Rattle.cellunion.proofs.Unique.{all-at, at-all, covers→}
-use Rattle.cellunion.proofs.Stack.{all-map}
+use Rattle.cellunion.specs.CellUnion.{lo, hi, covers, Apart, isList}
+use Rattle.cellunion.proofs.Spans.{span}
+use Rattle.cellunion.proofs.Unique.{all-at, covers→}
 use Rattle.cellunion.proofs.Counts.{hi-le}
-use Rattle.ranges.specs.Ranges.{leaves, listed, listFrom, isList, pairBefore, pairsOf, follows, pairsFrom, isPairs, inPairs, tile, eachPair, cellsOf}
+use Rattle.cellunion.proofs.Lists.{is-list, covers-nil, head-in, head-out, apart-from, before-first}
+use Rattle.ranges.specs.Ranges.{leaves, pairBefore, pairsOf, follows, pairsFrom, isPairs, inPairs, tile, eachPair, cellsOf}
 use Rattle.ranges.specs.Stretches.{each, stretches, pair}
 use Rattle.ranges.proofs.Tiles.{between, between→, between←, between-none, tile-nil}
-use Rattle.ranges.proofs.Stretches.{covers-nil, rest, skip-yes, skip-no, skip-none, rest-end, rest-same, stretches-has}
-
--- ---- lists
-
-pub listed→ : (b id : ℕ) → listed b id ≡ true → Cell id × (b < firstLeaf id)
-unfolding listed
-listed→ b id t = let r = and-true (validId id) (ltb b (firstLeaf id)) t in (valid-is id (r .0), ltb-true _ _ (r .1))
-
-listed← : (b id : ℕ) → Cell id → b < firstLeaf id → listed b id ≡ true
-unfolding listed
-listed← b id C h = rw (cell-valid id (C .0) (C .1) (C .2), lt-ltb b (firstLeaf id) h)
-
-pub record Listed (b : ℕ) (l : List ℕ) : Type 0 where
-  pub cells : All Cell l
-  pub apart : Apart l
-  pub after : All (λ y. b < firstLeaf y) l
-
-list→ : (l : List ℕ) (b : ℕ) → listFrom b l ≡ true → Listed b l
-unfolding listFrom All Apart
-list→ [] b t = record { cells = tt; apart = tt; after = tt }
-list→ (x ∷ l) b t =
-    let r = and-true (listed b x) (listFrom (lastLeaf x) l) t in
-    let q = listed→ b x (r .0) in
-    let s = span (q .0) in
-    let T = list→ l (lastLeaf x) (r .1) in
-    record {
-      cells = (q .0, T .cells);
-      apart = (T .after, T .apart);
-      after = (q .1, all-map (λ y. lastLeaf x < firstLeaf y) (λ y. b < firstLeaf y) (λ y g. omega (arith, q .1)) l (T .after));
-    }
-
-list← : (l : List ℕ) (b : ℕ) → Listed b l → listFrom b l ≡ true
-unfolding listFrom All Apart
-list← [] b T = refl
-list← (x ∷ l) b T = rw (listed← b x (T .cells .0) (T .after .0)) (list← l (lastLeaf x) (record { cells = T .cells .1; apart = T .apart .1; after = T .apart .0 }))
-
--- THE LIST CHECK: valid, ascending, free of overlap
-pub is-list→ : (l : List ℕ) → isList l ≡ true → All Cell l × Apart l
-is-list→ l t = let T = list→ l 0 t in (T .cells, T .apart)
-
-pub is-list← : (l : List ℕ) → All Cell l → Apart l → isList l ≡ true
-is-list← l C A = list← l 0 (record { cells = C; apart = A; after = at-all (λ y. 0 < firstLeaf y) l (λ y m. let s = span (all-at Cell l C y m) in omega arith) })
+use Rattle.ranges.proofs.Stretches.{rest, skip-yes, skip-no, skip-none, rest-end, rest-same, stretches-has}
 
 -- no leaf past the last
 pub covers-end : (l : List ℕ) → All Cell l → (n : ℕ) → leaves ≤ n → covers l n ≡ false
 covers-end l C n h = no-true (covers l n) (λ t. let k = covers→ l n C t in let r = hi-le (all-at Cell l C (k .0) (k .1)) in omega (arith, k .3))
 
 -- ---- pairs
-
--- the words of a pair are leaf ids: the cells of level 30
-pub leaf-is : (w : ℕ) → ((w % 2 ≡ 1) × (w < 2 * leaves)) ↔ IsCell w 30 (w / 2)
-unfolding idOf
-leaf-is w = (
-  λ h. record { level = omega arith; place = omega (arith, h .1); is = omega (arith, h .0) },
-  λ C. (omega (arith, C .is), omega (arith, C .is, C .place)),
-)
 
 pub record Follows (b first last : ℕ) : Type 0 where
   pub odd : first % 2 ≡ 1
@@ -154,30 +105,6 @@ module _ (out : ℕ → ℕ → List ℕ) (nil : (s : ℕ) → out s s ≡ []) (
       (λ (u : ltb n N ≡ true). skip-no out f nil N s n (n + 1) (omega arith) (omega (arith, ltb-true n N u)) (λ i a b. let e : i ≡ n = omega arith in ap f e ∙ t))
       (λ (u : ltb n N ≡ false). let h = ltb-false n N u in rest-over N s n h ∙ sym (ap (λ (l : List ℕ). out s n ++ l) (rest-over N (n + 1) (n + 1) (omega arith) ∙ nil (n + 1)) ∙ append-nil (out s n)))
       (which (ltb n N))
-
-pub head-in : (x : ℕ) (l : List ℕ) (n : ℕ) → Cell x → lo x ≤ n → n < hi x → covers (x ∷ l) n ≡ true
-unfolding covers
-head-in x l n C a b = rw (leaf← n C a b)
-
-pub head-out : (x : ℕ) (l : List ℕ) (n : ℕ) → Cell x → (n < lo x) ⊎ (hi x ≤ n) → covers (x ∷ l) n ≡ covers l n
-unfolding covers
-head-out x l n C h = rw (no-true (hasLeaf x n) (λ t. let r = leaf→ n C t in ⊎-elim (λ (g : n < lo x). omega (arith, r .0)) (λ (g : hi x ≤ n). omega (arith, r .1)) h))
-
-covers-before : (l : List ℕ) (b n : ℕ) → All Cell l → All (λ y. b ≤ lo y) l → n < b → covers l n ≡ false
-covers-before l b n C A h = no-true (covers l n) (λ t. let k = covers→ l n C t in let g : b ≤ lo (k .0) = all-at (λ y. b ≤ lo y) l A (k .0) (k .1) in omega (arith, k .2))
-
-pub apart-from : (x : ℕ) (l : List ℕ) → All Cell (x ∷ l) → Apart (x ∷ l) → All (λ y. hi x ≤ lo y) l
-unfolding All Apart
-apart-from x l C A = at-all (λ y. hi x ≤ lo y) l (λ y m.
-    let g : lastLeaf x < firstLeaf y = all-at (λ y. lastLeaf x < firstLeaf y) l (A .0) y m in
-    let s = span (C .0) in let u = span (all-at Cell l (C .1) y m) in omega arith)
-
--- no leaf before the first cell of a list
-pub before-first : (x : ℕ) (l : List ℕ) (n : ℕ) → All Cell (x ∷ l) → Apart (x ∷ l) → n < lo x → covers (x ∷ l) n ≡ false
-unfolding All
-before-first x l n C A h =
-    let X = span (C .0) in
-    covers-before (x ∷ l) (lo x) n C (omega arith, at-all (λ y. lo x ≤ lo y) l (λ y m. let u : hi x ≤ lo y = all-at (λ y. hi x ≤ lo y) l (apart-from x l C A) y m in omega (arith, X .some))) h
 
 -- ---- a list's pairs, joined cell by cell, are these
 
@@ -261,7 +188,7 @@ cells-stretches (x ∷ l) C A =
 
 pub list-stretches : (l : List ℕ) → isList l ≡ true → pairsOf l ≡ stretches pair (covers l)
 unfolding stretches
-list-stretches l t = let T = is-list→ l t in cells-stretches l (T .0) (T .1)
+list-stretches l t = let T = is-list l .0 t in cells-stretches l (T .0) (T .1)
 
 -- ---- pairs one after another
 

@@ -8,20 +8,21 @@ use native.Mathlib.Omega.{arith}
 use lib.ListN.{length}
 use Rattle.cellid.specs.CellId.{firstLeaf, lastLeaf}
 use Rattle.order.proofs.OrderLaws.{which}
-use Rattle.cellunion.specs.CellUnion.{covers, SameLeaves, Normal, normalise, denormalise}
+use Rattle.cellunion.specs.CellUnion.{covers, SameLeaves, Normal, normalise, denormalise, isList}
 use Rattle.cellunion.proofs.Unique.{normal-unique}
+use Rattle.cellunion.proofs.Lists.{is-list}
 use Rattle.cellunion.proofs.Denorm.{denormalise-laws, denormalise-leaves, denormalise-apart}
-use Rattle.ranges.specs.Ranges.{leaves, joins, isList, isPairs, inPairs, pairBefore, pairsOf, cellsOf}
+use Rattle.ranges.specs.Ranges.{leaves, joins, isPairs, inPairs, pairBefore, pairsOf, cellsOf}
 use Rattle.ranges.specs.Stretches.{stretches, pair}
 use Rattle.ranges.proofs.Stretches.{stretches-same, cells-leaves, cells-normal, cells-are}
-use Rattle.ranges.proofs.Inputs.{is-list→, is-list←, covers-end, pairs-past, list-stretches, each-cells, pairs-ruled, pairs-leaves, pairs-again}
+use Rattle.ranges.proofs.Inputs.{covers-end, pairs-past, list-stretches, each-cells, pairs-ruled, pairs-leaves, pairs-again}
 
 -- ---- a list's pairs
 
 module _ (l : List ℕ) (t : isList l ≡ true) where
   -- "The pairs hold exactly the list's leaves"
   pub list-leaves : (n : ℕ) → inPairs (pairsOf l) n ≡ covers l n
-  list-leaves n = ap (λ (ps : List ℕ). inPairs ps n) (list-stretches l t) ∙ pairs-leaves (covers l) (covers-end l (is-list→ l t .0)) n
+  list-leaves n = ap (λ (ps : List ℕ). inPairs ps n) (list-stretches l t) ∙ pairs-leaves (covers l) (covers-end l (is-list l .0 t .0)) n
 
   -- "ascending, none joinable"
   pub list-ruled : isPairs (pairsOf l) ≡ true
@@ -60,8 +61,8 @@ same-pairs a b s t same = list-pairs-only b (pairsOf a) t (list-ruled a s) (λ n
 -- so the pairs of a covering are those of the normalised list that it is made from
 pub final-pairs : (low step : ℕ) (l : List ℕ) → isList l ≡ true → pairsOf (denormalise low step l) ≡ pairsOf l
 final-pairs low step l t =
-    let T = is-list→ l t in
-    let D = is-list← (denormalise low step l) (denormalise-laws low step l (T .0) .cells) (denormalise-apart low step l (T .0) (T .1)) in
+    let T = is-list l .0 t in
+    let D = is-list (denormalise low step l) .1 (denormalise-laws low step l (T .0) .cells, denormalise-apart low step l (T .0) (T .1)) in
     same-pairs (denormalise low step l) l D t (denormalise-leaves low step l (T .0))
 
 -- ---- the cells of pairs
@@ -87,11 +88,11 @@ module _ (ps : List ℕ) (t : isPairs ps ≡ true) where
 -- "back into the normalised list"
 pub there-and-back : (l : List ℕ) → isList l ≡ true → cellsOf (pairsOf l) ≡ normalise l
 there-and-back l t =
-    let T = is-list→ l t in
+    let T = is-list l .0 t in
     each-cells (pairsOf l) (list-ruled l t) ∙ cells-are (inPairs (pairsOf l)) (λ n h. pairs-past 1 (pairsOf l) n (list-ruled l t) h) l (T .0) (λ n. sym (list-leaves l t n))
 
 cells-listed : (ps : List ℕ) → isPairs ps ≡ true → isList (cellsOf ps) ≡ true
-cells-listed ps t = let N = cells-normalised ps t in is-list← (cellsOf ps) (N .cells) (N .apart)
+cells-listed ps t = let N = cells-normalised ps t in is-list (cellsOf ps) .1 (N .cells, N .apart)
 
 pub back-and-there : (ps : List ℕ) → isPairs ps ≡ true → pairsOf (cellsOf ps) ≡ ps
 back-and-there ps t = sym (list-pairs-only (cellsOf ps) ps (cells-listed ps t) t (λ n. sym (cells-held ps t n)))

@@ -2,7 +2,7 @@
 use mathlib.Core.Path.{_≡_, refl, sym, ap, _∙_, subst}
 use mathlib.Core.Logic.{_⊎_, inl, inr, ⊎-elim}
 use mathlib.Core.Bool.{Bool, true, false, _&&_, _||_}
-use mathlib.Core.List.{List, [], _∷_, _++_, append-nil}
+use mathlib.Core.List.{List, [], _++_, append-nil}
 use Prim.Native.Nat.{ℕ, zero, suc, _+_, _-_, _≤_, _<_}
 use native.Mathlib.Omega.{arith}
 use lib.Dec.{ltb}
@@ -11,12 +11,13 @@ use Rattle.cellid.specs.CellId.{Cell, IsCell, idOf, childOf}
 use Rattle.cellid.proofs.Laws.{and-true, or-true, true-or, bool-iff}
 use Rattle.order.specs.Order.{All}
 use Rattle.order.proofs.OrderLaws.{which, all-append}
-use Rattle.cellunion.specs.CellUnion.{lo, hi, hasLeaf, covers, Member, Apart, NoFour, Normal, normalise}
+use Rattle.cellunion.specs.CellUnion.{lo, hi, covers, Member, Apart, NoFour, Normal, normalise}
 use Rattle.cellunion.proofs.Spans.{span, kids}
 use Rattle.cellunion.proofs.Unique.{all-at, at-all, covers←}
 use Rattle.cellunion.proofs.Norm.{normal-is}
 use Rattle.cellunion.proofs.Denorm.{member-append→, apart-append}
 use Rattle.cellunion.proofs.Counts.{hi-le}
+use Rattle.cellunion.proofs.Lists.{covers-nil, covers-append}
 use Rattle.ranges.specs.Ranges.{leaves, tile}
 use Rattle.ranges.specs.Stretches.{each, stretches}
 use Rattle.ranges.proofs.Tiles.{clash, between, between→, between←, and-both, tiled}
@@ -184,19 +185,6 @@ each-held f (suc k) s n h r =
     (λ (u : f n ≡ true). subst (Held f s (n + suc k)) (sym (each-yes tile f s n k u)) (subst (λ (x : ℕ). Held f s x (each tile f s (n + 1) k)) z (each-held f k s (n + 1) (omega arith) (omega arith))))
     (λ (u : f n ≡ false). subst (Held f s (n + suc k)) (sym (each-no tile f s n k u)) (held-more f s n (n + suc k) (each tile f (n + 1) (n + 1) k) h (omega arith) r u (subst (λ (x : ℕ). Held f (n + 1) x (each tile f (n + 1) (n + 1) k)) z (each-held f k (n + 1) (n + 1) (omega arith) (omega arith)))))
     (which (f n))
-
-pub covers-append : (a b : List ℕ) (n : ℕ) → covers (a ++ b) n ≡ (covers a n || covers b n)
-unfolding covers
-covers-append [] b n = refl
-covers-append (x ∷ a) b n = ap (λ (t : Bool). hasLeaf x n || t) (covers-append a b n) ∙ sym (or-assoc (hasLeaf x n) (covers a n) (covers b n))
-  where
-    or-assoc : (a b c : Bool) → ((a || b) || c) ≡ (a || (b || c))
-    or-assoc true b c = refl
-    or-assoc false b c = refl
-
-pub covers-nil : (n : ℕ) → covers [] n ≡ false
-unfolding covers
-covers-nil n = refl
 
 module _ (f : ℕ → Bool) (z : (n : ℕ) → leaves ≤ n → f n ≡ false) where
   -- their leaves are those that pass ..

@@ -11,11 +11,11 @@ use lib.ListN.{length}
 use lib.Pow.{pow-pos, pow-mono, pow-add}
 use lib.Dec.{leb, ltb, eqb}
 use borrow.Author.Tests.{leb-true, le-leb, ltb-true, ltb-false, lt-ltb, le-ltb, eqb-true, eq-eqb}
-use Rattle.cellid.specs.CellId.{Cell, IsCell, idOf, bitAt, firstLeaf, lastLeaf}
+use Rattle.cellid.specs.CellId.{Cell, IsCell, idOf, bitAt, firstLeaf, lastLeaf, hasLeaf}
 use Rattle.cellid.proofs.Laws.{odd-mul, and-true, or-true, true-or, bool-iff}
 use Rattle.order.specs.Order.{All}
 use Rattle.order.proofs.OrderLaws.{which}
-use Rattle.cellunion.specs.CellUnion.{lo, hi, hasLeaf, covers, Member, Apart}
+use Rattle.cellunion.specs.CellUnion.{lo, hi, covers, Member, Apart}
 use Rattle.cellunion.proofs.Spans.{lo-is, hi-is, span, leaf→, leaf←}
 use Rattle.cellunion.proofs.Unique.{all-at, at-all}
 use Rattle.ranges.specs.Ranges.{leaves, fits, sizeFrom, size, tileBy, tile}

@@ -9,15 +9,17 @@ use native.Mathlib.Numerals.{add-one}
 use lib.Seq.{sets, length-sets}
 use lib.ListN.{length, getD, drop, set}
 use Rattle.order.proofs.OrderLaws.{which}
+use Rattle.cellunion.specs.CellUnion.{listed, listFrom, isList}
 use Rattle.cellunion.proofs.Spans.{span}
 use Rattle.cellunion.proofs.Counts.{hi-le}
+use Rattle.cellunion.proofs.Lists.{listed→}
 use lib.Dec.{eqb}
 use borrow.Author.Tests.{eqb-true, eqb-false, eq-eqb, ne-eqb}
 use Rattle.cellid.specs.CellId.{Cell, firstLeaf, lastLeaf}
 use Rattle.cellid.proofs.Laws.{and-true, cell-pos}
-use Rattle.ranges.specs.Ranges.{leaves, joins, listed, listFrom, isList, pairBefore, pairsOf}
+use Rattle.ranges.specs.Ranges.{leaves, joins, pairBefore, pairsOf}
 use Rattle.ranges.specs.Steps.{held, closed, opened, pairsLeft}
-use Rattle.ranges.proofs.Inputs.{listed→, before-joined, before-apart, before-nil, pairs-nil, pairs-more}
+use Rattle.ranges.proofs.Inputs.{before-joined, before-apart, before-nil, pairs-nil, pairs-more}
 use Rattle.cellid.proofs.Puts.{next-of, none-left, Put, put-part, put-last}
 
 -- ---- the pair of the cells so far

@@ -5,7 +5,8 @@ use mathlib.Core.List.{List, [], _∷_, _++_}
 use Prim.Native.Nat.{ℕ, zero, suc, _+_, _-_, _*_, _/_, _%_, _^_}
 use lib.ListN.{length, drop}
 use lib.Dec.{leb, ltb, eqb}
-use Rattle.cellid.specs.CellId.{validId, firstLeaf, lastLeaf}
+use Rattle.cellid.specs.CellId.{firstLeaf, lastLeaf}
+use Rattle.cellunion.specs.CellUnion.{isList}
 use Rattle.ranges.specs.declared.Answer.{Answer}
 
 -- how many leaves there are; leaf number n, from 0, has the id 2n + 1
@@ -16,20 +17,7 @@ leaves = 6 * 2 ^ 60
 abbrev pub faces : List ℕ
 faces = 0x1000000000000000 ∷ 0x3000000000000000 ∷ 0x5000000000000000 ∷ 0x7000000000000000 ∷ 0x9000000000000000 ∷ 0xb000000000000000 ∷ []
 
--- ---- a list: "valid, ascending and free of overlap"
-
--- a valid id that may come next: its first leaf stands after b, the last leaf before it
-unfoldable pub listed : ℕ → ℕ → Bool
-listed b id = validId id && ltb b (firstLeaf id)
-
-unfoldable pub listFrom : ℕ → List ℕ → Bool
-listFrom b [] = true
-listFrom b (id ∷ l) = listed b id && listFrom (lastLeaf id) l
-
-abbrev pub isList : List ℕ → Bool
-isList l = listFrom 0 l
-
--- ---- its pairs: one word after another, first, last, first, last
+-- ---- a list's pairs: one word after another, first, last, first, last
 
 -- "neighbouring pairs joined when the next first is the last plus 2"
 abbrev pub joins : ℕ → ℕ → Bool
@@ -121,9 +109,9 @@ pairsResult ids room = resultOf (isList ids) (pairsOf ids) room
 unfoldable pub cellsResult : List ℕ → ℕ → Result
 cellsResult ps room = resultOf (isPairs ps) (cellsOf ps) room
 
-unfoldable pub answerOf : Result → Answer
-answerOf (refused n) = Answer.Refused n
-answerOf (done l) = Answer.Done (length l)
+unfoldable pub listAnswer : Result → Answer
+listAnswer (refused n) = Answer.Refused n
+listAnswer (done l) = Answer.Done (length l)
 
 -- the paper's number of an answer, 0 for success, and how many words it has
 unfoldable pub numberOf : Answer → ℕ
@@ -141,5 +129,5 @@ outputAfter (done l) out = l ++ drop (length l) out
 
 -- what a public function ensures of its answer and the output
 pub record Answered (R : Result) (r : Answer) (out out' : List ℕ) : Type 0 where
-  pub answer : r ≡ answerOf R
+  pub answer : r ≡ listAnswer R
   pub output : out' ≡ outputAfter R out

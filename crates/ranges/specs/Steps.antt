@@ -1,11 +1,10 @@
 -- The loops' own numbers and lists: what one look tells, a list's pairs one after another, and the largest cell that can begin at a leaf.
 use mathlib.Core.Bool.{Bool, true, false}
 use mathlib.Core.List.{List, [], _∷_}
-use Prim.Native.Nat.{ℕ, _+_, _/_, min}
+use Prim.Native.Nat.{ℕ, _/_, min}
 use lib.Count.{trailingZeros}
 use lib.Dec.{eqb}
 use lib.ListN.{length}
-use Rattle.cellid.specs.CellId.{firstLeaf, lastLeaf}
 use Rattle.ranges.specs.declared.Answer.{Answer}
 use Rattle.ranges.specs.Ranges.{joins, pairBefore, pairsOf}
 
@@ -13,14 +12,6 @@ use Rattle.ranges.specs.Ranges.{joins, pairBefore, pairsOf}
 
 unfoldable pub looked : Bool → List ℕ → Answer
 looked good l = elim good [ false ↦ Answer.Refused 25 | true ↦ Answer.Done (length l) ]
-
--- how many words a cell adds to the pairs of those before it, the last leaf of which is `last`
-unfoldable pub added : ℕ → ℕ → ℕ
-added last first = elim (joins last first) [ true ↦ 0 | false ↦ 2 ]
-
-unfoldable pub wordsAfter : ℕ → List ℕ → ℕ
-wordsAfter last [] = 0
-wordsAfter last (id ∷ l) = added last (firstLeaf id) + wordsAfter (lastLeaf id) l
 
 -- ---- the pair of the cells so far: a last of 0, which is no leaf, stands for no cell
 

@@ -1,28 +1,19 @@
 // Lists of cells as pairs of first and last leaf, and back. A stretch of leaves [s, e) is given by leaf numbers; leaf number n has the id 2n + 1.
-// Each way takes one pass that looks and one that writes: what is refused leaves the output as it was, so nothing is written before all is seen.
+// Each way takes a pass that looks and one that writes: what is refused leaves the output as it was, so nothing is written before all is seen.
 ghost use mathlib.Core.Path.{_≡_};
 ghost use mathlib.Core.Bool.{true};
 ghost use Prim.Native.Nat.{_+_, _-_, _*_, _^_, _≤_, _<_};
 ghost use lib.ListN.{length, set};
 ghost use lib.Seq.{sets};
-ghost use Rattle.ranges.specs.Ranges.{leaves, joins, isList, isPairs, listed, follows, size, tile, pairsOf, cellsOf, pairsResult, cellsResult, Answered};
-ghost use Rattle.ranges.specs.Steps.{looked, added, held, closed, opened, aligned};
+ghost use lib.Dec.{leb};
+ghost use Rattle.cellunion.specs.CellUnion.{isList};
+ghost use Rattle.ranges.specs.Ranges.{leaves, joins, isPairs, follows, size, tile, pairsOf, cellsOf, pairsResult, cellsResult, Answered};
+ghost use Rattle.ranges.specs.Steps.{looked, held, closed, opened, aligned};
 
 // Done: how many words stand in the output's first places. Refused: paper 02's number; the output is as it was.
 pub enum Answer {
     Done(usize),
     Refused(u64),
-}
-
-// Whether an id may come next in a list, `last` the last leaf before it.
-fn listed(last: u64, id: u64) -> bool
-    ensures { λ r. ⌜ r ≡ listed last id ⌝ }
-{
-    if cellid::is_valid(id) {
-        last < cellid::range_min(id)
-    } else {
-        false
-    }
 }
 
 // Whether a pair that ends at `last` is joined with one that begins at `next`.
@@ -31,44 +22,6 @@ fn joins(last: u64, next: u64) -> bool
     ensures { λ r. ⌜ r ≡ joins last next ⌝ }
 {
     next == last + 2
-}
-
-// How many words a cell adds to the pairs of those before it, the last leaf of which is `last`; 0 where there is none before.
-fn added(last: u64, first: u64) -> usize
-    requires { ⌜ last < 2 * leaves ⌝ }
-    ensures { λ r. ⌜ r ≡ added last first ⌝ }
-{
-    if joins(last, first) { 0 } else { 2 }
-}
-
-// One look at a list: 25 where it is not valid, ascending and free of overlap, else how many words its pairs are.
-fn look_list(ids: &[u64]) -> Answer
-    ensures { λ r. ⌜ r ≡ looked (isList (now (ids .entry))) (pairsOf (now (ids .entry))) ⌝ }
-{
-    let mut last: u64 = 0;
-    let mut words: usize = 0;
-    let mut i: usize = 0;
-    while i < ids.len() {
-        let id = ids[i];
-        if !listed(last, id) {
-            return Answer::Refused(25);
-        }
-        words += added(last, cellid::range_min(id));
-        last = cellid::range_max(id);
-        i += 1;
-    }
-    Answer::Done(words)
-}
-
-// Whether a list is valid, ascending and free of overlap.
-pub fn is_list(ids: &[u64]) -> bool
-    ensures { λ r. ⌜ r ≡ isList (now (ids .entry)) ⌝ }
-{
-    let found = look_list(ids);
-    match found {
-        Answer::Done(_) => true,
-        Answer::Refused(_) => false,
-    }
 }
 
 // Whether a pair may come next, its first at `from` or after.
@@ -235,21 +188,38 @@ fn fill(ps: &[u64], out: &mut [u64]) -> usize
     at
 }
 
+// How many words a list's pairs are.
+fn words(ids: &[u64]) -> usize
+    requires { ⌜ isList (now ids) ≡ true ⌝ }
+    ensures { λ r. ⌜ r ≡ length (pairsOf (now (ids .entry))) ⌝ }
+{
+    let mut none: [u64; 1] = [0; 1];
+    join(ids, &mut none)
+}
+
+// Whether an output of so many places has room for a list's pairs: where the list's length doesn't tell, their words are counted.
+fn has_room(ids: &[u64], room: usize) -> bool
+    requires { ⌜ isList (now ids) ≡ true ⌝ }
+    ensures { λ r. ⌜ r ≡ leb (length (pairsOf (now (ids .entry)))) room ⌝ }
+{
+    if ids.len() <= room / 2 {
+        return true;
+    }
+    words(ids) <= room
+}
+
 // Turns a list into pairs of first and last leaf, neighbouring pairs joined. Refusals: 25 a list that is not valid, ascending and free of overlap; 26
 // more words than the output has places.
 pub fn pairs(ids: &[u64], out: &mut [u64]) -> Answer
     ensures { λ r. ⌜ Answered (pairsResult (now (ids .entry)) (length (now (out .entry)))) r (now (out .entry)) (now (out .exit)) ⌝ }
 {
-    let found = look_list(ids);
-    match found {
-        Answer::Done(words) => {
-            if out.len() < words {
-                return Answer::Refused(26);
-            }
-            Answer::Done(join(ids, out))
+    if cellunion::is_valid(ids) {
+        if has_room(ids, out.len()) {
+            return Answer::Done(join(ids, out));
         }
-        Answer::Refused(number) => Answer::Refused(number),
+        return Answer::Refused(26);
     }
+    Answer::Refused(25)
 }
 
 // Turns such pairs back into the normalised list. Refusals: 25 words that are not such pairs; 26 more ids than the output has places.

@@ -1,9 +1,10 @@
 -- "A region is a cap or a cell, and nothing else": its domain, its two tests and its bound. Definitions only.
 use Prim.Native.Nat.{ℕ}
-use mathlib.Core.Bool.{Bool, true, false, _&&_, _||_}
+use mathlib.Core.Bool.{Bool, _&&_, _||_}
 use mathlib.Core.List.{List}
-use lib.Ieee.{Float, nan, inf, fin, le}
+use lib.Ieee.{le}
 use Rattle.cellid.specs.CellId.{validId, holds}
+use Rattle.point.specs.Floats.{isFinite}
 use Rattle.point.specs.Vector.{isUnit}
 use Rattle.point.specs.ChordAngle.{straight}
 use Rattle.cell.specs.Cell.{cellOf, capBound}
@@ -11,11 +12,6 @@ use Rattle.cell.specs.declared.Cap.{Cap}
 use Rattle.cap.specs.Cap.{capIntersects, capContains}
 use Rattle.cap.specs.Bound.{unionBound}
 use Rattle.region.specs.declared.Region.{Region}
-
-unfoldable pub isFinite : Float → Bool
-isFinite nan = false
-isFinite (inf s) = false
-isFinite (fin s m e) = true
 
 -- "a cap's centre is finite and meets the crate's is_unit; its radius is finite and at most 4 (negative means empty, as in the crate; minus zero is zero)"
 unfoldable pub capInDomain : Cap → Bool

@@ -5,11 +5,12 @@ ghost use mathlib.Core.Bool.{true, _||_};
 ghost use mathlib.Core.List.{_++_};
 ghost use Prim.Native.Nat.{ℕ, _+_, _-_, _*_, _<_};
 ghost use lib.ListN.{length, replicate};
-ghost use Rattle.cellid.specs.CellId.{Cell, validId, levelOf, childOf, holds};
+ghost use Rattle.cellid.specs.CellId.{Cell, validId, levelOf, childOf, holds, one};
+ghost use Rattle.point.specs.Floats.{isFinite};
 ghost use Rattle.cell.specs.Cell.{cellOf, capBound};
 ghost use Rattle.cap.specs.Bound.{unionBound, inSix};
-ghost use Rattle.cap.specs.Siblings.{bitOf, looksOf};
-ghost use Rattle.region.specs.Region.{isFinite, capInDomain, inDomain, intersectsCell, containsCell, boundOf};
+ghost use Rattle.cap.specs.Siblings.{looksOf};
+ghost use Rattle.region.specs.Region.{capInDomain, inDomain, intersectsCell, containsCell, boundOf};
 use cap::Bound;
 use cap::Looks;
 use cell::Cap;
@@ -101,7 +102,7 @@ pub fn contains_cell(g: Region, id: u64) -> bool
 // What the k-th child of a valid id that is no leaf is to a cell: 1 where they share a leaf, and 16 more where it lies in the cell.
 fn cell_look(own: u64, id: u64, k: u64) -> u64
     requires { ⌜ (validId own ≡ true) × Cell id × (levelOf id < 30) × (k < 4) ⌝ }
-    ensures { λ r. ⌜ r ≡ bitOf (holds own (childOf id k) || holds (childOf id k) own) + 16 * bitOf (holds own (childOf id k)) ⌝ }
+    ensures { λ r. ⌜ r ≡ one (holds own (childOf id k) || holds (childOf id k) own) + 16 * one (holds own (childOf id k)) ⌝ }
 {
     let c = cellid::child(id, k);
     cap::mark(cell_intersects(own, c)) + 16 * cap::mark(cell_contains(own, c))

@@ -16,7 +16,7 @@ use Rattle.text.specs.declared.Field.{Field}
 use Rattle.tokens.specs.declared.Form.{Form}
 use Rattle.tokens.specs.Tokens.{nameOf}
 use Rattle.tokens.proofs.Names.{name-short}
-use Rattle.replies.specs.Write.{Wrote, Whole, spelled, decimalText, idText, idsText, faultWords, placeOf, faultText, errorText, refusedText, endText, countedText, okText, listText}
+use Rattle.replies.specs.Write.{Wrote, Whole, spelled, decimalText, idText, idsText, faultWords, faultNo, faultText, errorText, refusedText, endText, countedText, okText, listText}
 
 pub wrote-whole : {s d : List ℕ} {r : ℕ} {d' : List ℕ} → length s ≤ length d → Wrote 0 s d r d' → Whole s d r d'
 wrote-whole {s} {d} h w = record { count = omega arith; bytes = w .bytes ∙ rw zero-add at (sets-eq s d 0 (omega arith)) }
@@ -45,7 +45,7 @@ bytes-length l f = simp (length-take, length-drop) (omega arith)
 
 fault-length : (f : Fault) → length (faultText f) ≤ 200
 unfolding faultText faultWords ascii
-fault-length f = omega (arith, bytes-length faultWords (fieldNo (placeOf f) faultWords 0))
+fault-length f = omega (arith, bytes-length faultWords (fieldNo (faultNo f) faultWords 0))
 
 pub error-length : (line : ℕ) (f : Fault) → length (errorText line f) ≤ 256
 unfolding errorText ascii

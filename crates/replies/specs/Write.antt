@@ -59,23 +59,23 @@ faultWords =
     ascii "unknown-kind unknown-region missing-field extra-field repeated-option not-a-number too-few-digits too-many-digits too-large bad-byte line-too-long outside-domain read-failed"
 
 -- the place of a fault's word, counted from 0
-abbrev pub placeOf : Fault → ℕ
-placeOf Fault.UnknownKind = 0
-placeOf Fault.UnknownRegion = 1
-placeOf Fault.MissingField = 2
-placeOf Fault.ExtraField = 3
-placeOf Fault.RepeatedOption = 4
-placeOf Fault.NotANumber = 5
-placeOf Fault.TooFewDigits = 6
-placeOf Fault.TooManyDigits = 7
-placeOf Fault.TooLarge = 8
-placeOf Fault.BadByte = 9
-placeOf Fault.LineTooLong = 10
-placeOf Fault.OutsideDomain = 11
-placeOf Fault.ReadFailed = 12
+abbrev pub faultNo : Fault → ℕ
+faultNo Fault.UnknownKind = 0
+faultNo Fault.UnknownRegion = 1
+faultNo Fault.MissingField = 2
+faultNo Fault.ExtraField = 3
+faultNo Fault.RepeatedOption = 4
+faultNo Fault.NotANumber = 5
+faultNo Fault.TooFewDigits = 6
+faultNo Fault.TooManyDigits = 7
+faultNo Fault.TooLarge = 8
+faultNo Fault.BadByte = 9
+faultNo Fault.LineTooLong = 10
+faultNo Fault.OutsideDomain = 11
+faultNo Fault.ReadFailed = 12
 
 unfoldable pub faultText : Fault → List ℕ
-faultText f = bytesOf faultWords (fieldNo (placeOf f) faultWords 0)
+faultText f = bytesOf faultWords (fieldNo (faultNo f) faultWords 0)
 
 -- error LINE-NUMBER WORD
 unfoldable pub errorText : ℕ → Fault → List ℕ

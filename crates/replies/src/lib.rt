@@ -3,7 +3,7 @@ ghost use mathlib.Core.Path.{_≡_};
 ghost use mathlib.Core.List.{_++_};
 ghost use Rattle.text.specs.Text.{bytesOf, fieldNo};
 ghost use Rattle.tokens.specs.Tokens.{nameOf};
-ghost use Rattle.replies.specs.Write.{Wrote, decimalText, idText, idsText, placeOf, faultText, errorText, refusedText, endText, countedText, okText, listText};
+ghost use Rattle.replies.specs.Write.{Wrote, decimalText, idText, idsText, faultNo, faultText, errorText, refusedText, endText, countedText, okText, listText};
 use text::Fault;
 use tokens::Form;
 
@@ -91,7 +91,7 @@ fn put_word(text: &mut [u8], at: usize, words: &[u8], k: u64) -> usize
 
 // The place of a fault's word among the words for faults.
 fn fault_place(f: Fault) -> u64
-    ensures { λ r. ⌜ r ≡ placeOf f ⌝ }
+    ensures { λ r. ⌜ r ≡ faultNo f ⌝ }
 {
     match f {
         Fault::UnknownKind => 0,

@@ -1,32 +1,27 @@
 -- Laws of `specs/Requests.antt`: a request is answered within parts of the memory and of the output, the answer's text is that of its result, and a page with
 -- room for as many ids as the output has places holds it whole.
 use mathlib.Core.Path.{_≡_, refl, ap, _∙_}
-use mathlib.Core.Bool.{Bool, true, false}
+use mathlib.Core.Bool.{true, false}
 use mathlib.Core.List.{List, [], _∷_, _++_, append-assoc}
 use Prim.Native.Nat.{ℕ, zero, suc, _+_, _*_, min, _≤_}
 use native.Mathlib.Omega.{arith}
 use native.Mathlib.Nat.{zero-min, min-zero, suc-min-suc}
-use lib.Dec.{leb, eqb}
 use lib.ListN.{length, take, drop, length-append, length-take}
 use lib.Seq.{take-append-seam}
-use borrow.Author.Tests.{leb-true}
-use Rattle.region.specs.Region.{boundOf}
-use Rattle.fast.specs.declared.RegionCoverer.{RegionCoverer}
-use Rattle.fast.specs.Memory.{fastCoveringFor}
-use Rattle.run.specs.Run.{Outcome, rawIds, asideTotal}
+use borrow.Author.Tests.{eq-eqb, ne-eqb}
 use Rattle.run.specs.Run as Run
 use Rattle.covering.specs.declared.Answer.{Answer}
-use Rattle.covering.specs.declared.Ending.{Ending}
-use Rattle.covering.specs.Covering.{Result, refused, done, fitted, earlyOf, listOf, endedAs, ranOf, resultOf, fastResultOf, answerOf, valuesOf, memoryAfter, outputAfter, Answered}
+use Rattle.covering.proofs.Table.{Sound, result-sound}
+use Rattle.covering.specs.Covering.{Result, barred, refused, done, resultOf, answerOf, memoryAfter, outputAfter, Answered}
 use Rattle.text.specs.declared.Fault.{Fault}
 use Rattle.text.specs.declared.Place.{Place}
 use Rattle.text.specs.Text.{isSilent}
 use Rattle.tokens.specs.declared.Form.{Form}
-use Rattle.replies.specs.Write.{Wrote, okText, errorText}
+use Rattle.replies.specs.Write.{Wrote, okText, refusedText, errorText}
 use Rattle.replies.proofs.Lengths.{wrote-whole, error-length, refused-length, ok-length}
-use Rattle.requests.specs.declared.line.Request.{Request}
-use Rattle.requests.specs.Line.{requestOf}
-use Rattle.requests.specs.Requests.{allowanceOf, resultFor, resultIn, resultText, onFirst, textAt, memoryAt, outputAt, textOf, memoryOf, outputOf, answerText, AnsweredIn, Replied}
+use Rattle.requests.specs.declared.line.Asked.{Asked}
+use Rattle.requests.specs.Line.{askedBy}
+use Rattle.requests.specs.Requests.{allowanceOf, resultFor, resultIn, resultText, onFirst, textAt, memoryAt, outputAt, askedText, askedMemory, askedOutput, answerText, AnsweredIn, Replied}
 
 -- ---- a part no longer than the whole
 
@@ -45,17 +40,13 @@ length-min n l = ap length (take-min n l) ∙ length-take n l
 
 -- ---- what a request comes to, within its parts
 
-module _ (q : Request) (r : Answer) (mem mem' out out' : List ℕ) where
-  pub answered-fast : q .fast ≡ true → Answered (fastResultOf (q .coverer) (q .region) (length mem) (length out)) r mem mem' out out' → Answered (resultFor q (length mem) (length out)) r mem mem' out out'
-  unfolding resultFor
-  answered-fast h A = rw (resultFor, h) A
+-- what the coverer answers, with the allowance as a u32, is what the line comes to
+pub answered-for : (q : Asked) (r : Answer) (mem mem' out out' : List ℕ) (allowance : ℕ) → allowance ≡ allowanceOf (q .allowance)
+    → Answered (resultOf (q .kind) (q .coverer) (q .region) allowance (length mem) (length out)) r mem mem' out out' → Answered (resultFor q (length mem) (length out)) r mem mem' out out'
+unfolding resultFor
+answered-for q r mem mem' out out' allowance e = rw e (λ A. A)
 
-  pub answered-run : (allowance : ℕ) → q .fast ≡ false → allowance ≡ allowanceOf (q .allowance) → Answered (resultOf (q .ending) (q .inner) (q .coverer) (q .region) allowance (length mem) (length out)) r mem mem' out out'
-      → Answered (resultFor q (length mem) (length out)) r mem mem' out out'
-  unfolding resultFor
-  answered-run allowance h e = rw (e, resultFor, h) (λ A. A)
-
-module _ (q : Request) (r : Answer) (mem part out places : List ℕ) (m o : ℕ) (em : m ≡ min (q .mem) (length mem)) (eo : o ≡ min (q .out) (length out)) where
+module _ (q : Asked) (r : Answer) (mem part out places : List ℕ) (m o : ℕ) (em : m ≡ min (q .mem) (length mem)) (eo : o ≡ min (q .out) (length out)) where
   pub answered-in : Answered (resultFor q (length (take m mem)) (length (take o out))) r (take m mem) part (take o out) places
       → AnsweredIn q r mem (part ++ drop m mem) out (places ++ drop o out)
   unfolding resultIn
@@ -65,70 +56,60 @@ module _ (q : Request) (r : Answer) (mem part out places : List ℕ) (m o : ℕ)
     output = ap (λ (l : List ℕ). l ++ drop (q .out) out) (A .output);
   })
 
+in-sound : (q : Asked) (mem out : List ℕ) → Sound (min (q .out) (length out)) (resultIn q mem out)
+unfolding resultIn resultFor
+in-sound q mem out = result-sound (q .kind) (q .coverer) (q .region) (allowanceOf (q .allowance)) (min (q .mem) (length mem)) (min (q .out) (length out))
+
 -- ---- the answer to a result, with the output that it leaves
 
-count-fits : (R : Result) (out rest : List ℕ) → valuesOf (answerOf R) .count ≤ length (outputAfter R out ++ rest)
-unfolding answerOf valuesOf outputAfter
+count-fits : (R : Result) (out rest : List ℕ) → answerOf R .count ≤ length (outputAfter R out ++ rest)
+unfolding answerOf outputAfter
+count-fits (barred n) out rest = omega arith
 count-fits (refused n) out rest = omega arith
 count-fits (done l steps aside) out rest = simp length-append (omega arith)
 
-answer-text : (form : Form) (R : Result) (out rest : List ℕ) → answerText form (answerOf R) (outputAfter R out ++ rest) ≡ resultText form R
-unfolding answerOf outputAfter answerText resultText
-answer-text form (refused n) out rest = refl
-answer-text form (done l steps aside) out rest = ap (okText form steps aside) (ap (take (length l)) (append-assoc l _ rest) ∙ take-append-seam l _)
-
-pub asked-fits : (q : Request) (a : Answer) (mem mem' out out' : List ℕ) → AnsweredIn q a mem mem' out out' → valuesOf a .count ≤ length out'
+pub asked-fits : (q : Asked) (a : Answer) (mem mem' out out' : List ℕ) → AnsweredIn q a mem mem' out out' → a .count ≤ length out'
 asked-fits q a mem mem' out out' A = rw (A .answer, A .output) (count-fits (resultIn q mem out) _ _)
 
--- ---- the length of an answer: it has no more ids than the output has places
+module _ (form : Form) (a : Answer) (out : List ℕ) where
+  done-text : a .number ≡ 0 → answerText form a out ≡ okText form (a .steps) (a .aside) (take (a .count) out)
+  unfolding answerText
+  done-text h = rw (answerText, eq-eqb (a .number) 0 h)
 
--- a text of a refusal, or of at most so many ids
-abbrev Short : ℕ → Result → Type 0
-Short room R = (form : Form) → length (resultText form R) ≤ 17 * room + 256
+  refused-text : (a .number ≡ 0 → ⊥) → answerText form a out ≡ refusedText (a .number)
+  unfolding answerText
+  refused-text h = rw (answerText, ne-eqb (a .number) 0 h)
 
-refused-short : (room n : ℕ) → Short room (refused n)
-unfolding resultText
-refused-short room n form = omega (arith, refused-length n)
+  -- a text of a success or of a refusal is the answer's
+  module _ (page : List ℕ) (r : ℕ) (page' : List ℕ) where
+    pub wrote-done : a .number ≡ 0 → Wrote 0 (okText form (a .steps) (a .aside) (take (a .count) out)) page r page' → Wrote 0 (answerText form a out) page r page'
+    wrote-done h w = rw (done-text h) w
 
-fitted-short : (room : ℕ) (l : List ℕ) (steps aside : ℕ) → Short room (fitted room l steps aside)
-unfolding fitted resultText
-fitted-short room l steps aside = by (leb (length l) room) (λ h. leb-true _ _ h)
-  where
-    by : (b : Bool) → (b ≡ true → length l ≤ room) → Short room (elim b [ true ↦ done l steps aside | false ↦ refused 10 ])
-    by true h form = omega (arith, ok-length form steps aside l, h refl)
-    by false h form = refused-short room 10 form
+    pub wrote-refused : (a .number ≡ 0 → ⊥) → Wrote 0 (refusedText (a .number)) page r page' → Wrote 0 (answerText form a out) page r page'
+    wrote-refused h w = rw (refused-text h) w
 
-ended-short : (e : Ending) (c : RegionCoverer) (room : ℕ) (o : Outcome) → Short room (endedAs e c room o)
-unfolding endedAs
-ended-short e c room (Run.refused n) = refused-short room n
-ended-short e c room (Run.going s) = fitted-short room (listOf e c (rawIds s)) (s .steps) (asideTotal s)
+answer-text : (form : Form) (room : ℕ) (R : Result) (out rest : List ℕ) → Sound room R → answerText form (answerOf R) (outputAfter R out ++ rest) ≡ resultText form R
+unfolding answerOf outputAfter resultText Sound
+answer-text form room (barred n) out rest h = refused-text form _ _ (λ z. omega arith)
+answer-text form room (refused n) out rest h = refused-text form _ _ (λ z. omega arith)
+answer-text form room (done l steps aside) out rest h = done-text form _ _ refl ∙ ap (okText form steps aside) (ap (take (length l)) (append-assoc l _ rest) ∙ take-append-seam l _)
 
-checked-short : (b : Bool) (room n : ℕ) (R : Result) → Short room R → Short room (elim b [ false ↦ refused n | true ↦ R ])
-checked-short true room n R h = h
-checked-short false room n R h = refused-short room n
+-- ---- the length of an answer
 
-pick-short : (b : Bool) (room : ℕ) (R S : Result) → Short room R → Short room S → Short room (elim b [ true ↦ R | false ↦ S ])
-pick-short true room R S h g = h
-pick-short false room R S h g = g
+sound-short : (form : Form) (room : ℕ) (R : Result) → Sound room R → length (resultText form R) ≤ 17 * room + 256
+unfolding resultText Sound
+sound-short form room (barred n) h = omega (arith, refused-length n)
+sound-short form room (refused n) h = omega (arith, refused-length n)
+sound-short form room (done l steps aside) h = omega (arith, ok-length form steps aside l, h)
 
-result-short : (q : Request) (memory room : ℕ) → Short room (resultFor q memory room)
-unfolding resultFor resultOf fastResultOf
-result-short q memory room =
-    let c = q .coverer in
-    let early = earlyOf c (q .region) memory in
-    pick-short (q .fast) room _ _
-    (checked-short (eqb early 0) room early _ (fitted-short room (fastCoveringFor c (boundOf (q .region))) 0 0))
-    (checked-short (eqb early 0) room early _ (ended-short (q .ending) c room (ranOf (q .inner) c (q .region) (allowanceOf (q .allowance)))))
-
-in-short : (q : Request) (mem out : List ℕ) → length (resultText (q .form) (resultIn q mem out)) ≤ 17 * length out + 256
-unfolding resultIn
+in-short : (q : Asked) (mem out : List ℕ) → length (resultText (q .form) (resultIn q mem out)) ≤ 17 * length out + 256
 in-short q mem out =
     let room = min (q .out) (length out) in
-    omega (arith, result-short q (min (q .mem) (length mem)) room (q .form))
+    omega (arith, sound-short (q .form) room (resultIn q mem out) (in-sound q mem out))
 
 -- ---- a line
 
-module _ (q : Request) (number : ℕ) (mem out : List ℕ) (p : Place) where
+module _ (q : Asked) (number : ℕ) (mem out : List ℕ) (p : Place) where
   module _ (end : ℕ) (e : p ≡ Place.At end) where
     text-asked : textAt p number q mem out ≡ resultText (q .form) (resultIn q mem out)
     unfolding textAt
@@ -157,25 +138,25 @@ module _ (q : Request) (number : ℕ) (mem out : List ℕ) (p : Place) where
 
 module _ (number : ℕ) (line mem out page : List ℕ) where
   pub replied-nothing : isSilent line ≡ true → Replied number line mem mem out out page 0 page
-  unfolding textOf memoryOf outputOf
-  replied-nothing e = record { wrote = rw (textOf, e) (record { count = refl; bytes = refl }); memory = rw (memoryOf, e); output = rw (outputOf, e) }
+  unfolding askedText askedMemory askedOutput
+  replied-nothing e = record { wrote = rw (askedText, e) (record { count = refl; bytes = refl }); memory = rw (askedMemory, e); output = rw (askedOutput, e) }
 
-  module _ (q : Request) (r : ℕ) (page' : List ℕ) (asks : isSilent line ≡ false) (read : q ≡ requestOf line) (room : 17 * length out + 256 ≤ length page) where
+  module _ (q : Asked) (r : ℕ) (page' : List ℕ) (asks : isSilent line ≡ false) (read : q ≡ askedBy line) (room : 17 * length out + 256 ≤ length page) where
     pub replied-bad : (f : Fault) → q .after ≡ Place.Bad f → Wrote 0 (errorText number f) page r page' → Replied number line mem mem out out page r page'
-    unfolding textOf memoryOf outputOf
+    unfolding askedText askedMemory askedOutput
     replied-bad f e w = record {
-      wrote = rw (textOf, asks, ← read, text-bad q number mem out (q .after) f e) (wrote-whole (omega (arith, error-length number f)) w);
-      memory = rw (memoryOf, asks, ← read, memory-bad q number mem out (q .after) f e);
-      output = rw (outputOf, asks, ← read, output-bad q number mem out (q .after) f e);
+      wrote = rw (askedText, asks, ← read, text-bad q number mem out (q .after) f e) (wrote-whole (omega (arith, error-length number f)) w);
+      memory = rw (askedMemory, asks, ← read, memory-bad q number mem out (q .after) f e);
+      output = rw (askedOutput, asks, ← read, output-bad q number mem out (q .after) f e);
     }
 
     pub replied-asked : (end : ℕ) (a : Answer) (mem' out' : List ℕ) → q .after ≡ Place.At end → AnsweredIn q a mem mem' out out' → Wrote 0 (answerText (q .form) a out') page r page'
         → Replied number line mem mem' out out' page r page'
-    unfolding textOf memoryOf outputOf
+    unfolding askedText askedMemory askedOutput
     replied-asked end a mem' out' e A w =
-        let t : answerText (q .form) a out' ≡ resultText (q .form) (resultIn q mem out) = rw (A .answer, A .output) (answer-text (q .form) (resultIn q mem out) _ _) in
+        let t : answerText (q .form) a out' ≡ resultText (q .form) (resultIn q mem out) = rw (A .answer, A .output) (answer-text (q .form) _ (resultIn q mem out) _ _ (in-sound q mem out)) in
         record {
-          wrote = rw (textOf, asks, ← read, text-asked q number mem out (q .after) end e) (wrote-whole (omega (arith, in-short q mem out)) (rw t at w));
-          memory = rw (memoryOf, asks, ← read, memory-asked q number mem out (q .after) end e) (A .memory);
-          output = rw (outputOf, asks, ← read, output-asked q number mem out (q .after) end e) (A .output);
+          wrote = rw (askedText, asks, ← read, text-asked q number mem out (q .after) end e) (wrote-whole (omega (arith, in-short q mem out)) (rw t at w));
+          memory = rw (askedMemory, asks, ← read, memory-asked q number mem out (q .after) end e) (A .memory);
+          output = rw (askedOutput, asks, ← read, output-asked q number mem out (q .after) end e) (A .output);
         }

@@ -3,7 +3,6 @@ use mathlib.Core.Path.{_≡_}
 use mathlib.Core.List.{List, [], _∷_}
 use Prim.Native.Nat.{ℕ, _+_, _-_, _≤_, _<_}
 use native.Mathlib.Omega.{arith}
-use lib.Dec.{leb, eqb}
 use lib.ListN.{length, getD, take, drop, set, length-drop}
 use lib.Seq.{take-all}
 use borrow.Author.Tests.{lt-ltb, le-ltb, eq-eqb, ne-eqb}
@@ -15,13 +14,14 @@ use Rattle.text.specs.declared.Read.{Read}
 use Rattle.text.specs.Text.{until, fieldAt, bytesOf, placeAmong, numberIn, numberAfter, numbersAfter, choiceAfter, endAfter, startOf}
 use Rattle.cell.specs.declared.Cap.{Cap}
 use Rattle.region.specs.declared.Region.{Region}
-use Rattle.covering.specs.declared.Ending.{Ending}
+use Rattle.run.specs.Run.{memoryWords}
+use Rattle.covering.specs.declared.Kind.{Kind}
 use Rattle.tokens.specs.declared.Form.{Form}
 use Rattle.requests.specs.declared.line.Four.{Four}
 use Rattle.requests.specs.declared.line.CovererRead.{CovererRead}
 use Rattle.requests.specs.declared.line.RegionRead.{RegionRead}
 use Rattle.requests.specs.declared.line.Options.{Options}
-use Rattle.requests.specs.Line.{kinds, endingOf, fourAfter, covererAfter, capOf, capAfter, cellAfter, regions, regionAfter, keys, mostOf, none, valueOr, formOf, badOption, optionGiven, optionOf, optionFrom, nextOption, optionsAfter, requestOf}
+use Rattle.requests.specs.Line.{kinds, kindOf, fourAfter, covererAfter, capOf, capAfter, cellAfter, regions, regionAfter, keys, mostOf, none, valueOr, formOf, badOption, optionGiven, optionOf, optionFrom, nextOption, optionsAfter, askedBy}
 
 -- ---- the parts of a request
 
@@ -101,11 +101,11 @@ pub options-read : (l : List ℕ) (p : Place) (a b c d e : Options) → a ≡ ne
 unfolding optionsAfter
 options-read l p a b c d e ea eb ec ed ee = rw (ee, ed, ec, eb, ea)
 
--- ---- the request
+-- ---- all that a line asks
 
-pub request-read : (l : List ℕ) (start : Place) (kind : Read) (c : CovererRead) (g : RegionRead) (o : Options) (end : Place) (k : Ending) (allowance out mem : ℕ) (form : Form)
-    → start ≡ startOf l → kind ≡ choiceAfter kinds 7 Fault.UnknownKind l start → c ≡ covererAfter l (kind .after) → g ≡ regionAfter l (c .after) → o ≡ optionsAfter l (g .after)
-    → end ≡ endAfter l (o .after) → k ≡ endingOf (kind .value) → allowance ≡ valueOr 4294967295 (getD (o .values) 0 0) → out ≡ valueOr 65536 (getD (o .values) 1 0) → mem ≡ valueOr 4096 (getD (o .values) 2 0) → form ≡ formOf (getD (o .values) 3 0)
-    → record { ending = k; inner = leb 3 (kind .value); fast = eqb (kind .value) 6; coverer = c .coverer; region = g .region; allowance = allowance; out = out; mem = mem; form = form; after = end } ≡ requestOf l
-unfolding requestOf
-request-read l start kind c g o end k allowance out mem form es ek ec eg eo ee e1 e2 e3 e4 e5 = rw (e1, e2, e3, e4, e5, ee, eo, eg, ec, ek, es)
+pub asked-read : (l : List ℕ) (start : Place) (word : Read) (c : CovererRead) (g : RegionRead) (o : Options) (end : Place) (k : Kind) (allowance out mem : ℕ) (form : Form)
+    → start ≡ startOf l → word ≡ choiceAfter kinds 7 Fault.UnknownKind l start → c ≡ covererAfter l (word .after) → g ≡ regionAfter l (c .after) → o ≡ optionsAfter l (g .after)
+    → end ≡ endAfter l (o .after) → k ≡ kindOf (word .value) → allowance ≡ valueOr 4294967295 (getD (o .values) 0 0) → out ≡ valueOr 65536 (getD (o .values) 1 0) → mem ≡ valueOr memoryWords (getD (o .values) 2 0) → form ≡ formOf (getD (o .values) 3 0)
+    → record { kind = k; coverer = c .coverer; region = g .region; allowance = allowance; out = out; mem = mem; form = form; after = end } ≡ askedBy l
+unfolding askedBy
+asked-read l start word c g o end k allowance out mem form es ek ec eg eo ee e1 e2 e3 e4 e5 = rw (e1, e2, e3, e4, e5, ee, eo, eg, ec, ek, es)

@@ -1,8 +1,8 @@
 -- A request of `cover` as a line: `KIND MIN MAX MOD MAX_CELLS REGION [allow=N] [out=N] [mem=N] [tokens=N]`, the options in any order.
 use mathlib.Core.Bool.{true, false}
 use mathlib.Core.List.{List, [], _∷_}
-use Prim.Native.Nat.{ℕ, _+_, _%_}
-use lib.Dec.{leb, ltb, eqb}
+use Prim.Native.Nat.{ℕ, _+_}
+use lib.Dec.{ltb, eqb}
 use lib.Ieee.{Float, binary64, ofBits}
 use lib.ListN.{length, getD, take, drop, set}
 use Rattle.text.specs.Ascii.{ascii}
@@ -13,21 +13,34 @@ use Rattle.text.specs.Text.{until, fieldAt, bytesOf, isThere, placeAmong, numbe
 use Rattle.point.specs.declared.Point.{Point}
 use Rattle.cell.specs.declared.Cap.{Cap}
 use Rattle.region.specs.declared.Region.{Region}
+use Rattle.run.specs.Run.{memoryWords}
 use Rattle.covering.specs.declared.Ending.{Ending}
+use Rattle.covering.specs.declared.Kind.{Kind}
 use Rattle.tokens.specs.declared.Form.{Form}
 use Rattle.requests.specs.declared.line.CovererRead.{CovererRead}
 use Rattle.requests.specs.declared.line.Four.{Four}
 use Rattle.requests.specs.declared.line.RegionRead.{RegionRead}
 use Rattle.requests.specs.declared.line.Options.{Options}
-use Rattle.requests.specs.declared.line.Request.{Request}
+use Rattle.requests.specs.declared.line.Asked.{Asked}
 
 -- ---- KIND: a list of the outer run, the same of the inner run, or the fast covering
 
 abbrev pub kinds : List ℕ
 kinds = ascii "covering cellunion raw interior icellunion iraw fast"
 
-unfoldable pub endingOf : ℕ → Ending
-endingOf k = getD (Ending.Covering ∷ Ending.CellUnion ∷ []) (k % 3) Ending.Raw
+-- what each asks for, in their order; the last asks for the fast covering
+abbrev pub runKinds : List Kind
+runKinds =
+    Kind.Outer Ending.Covering
+    ∷ Kind.Outer Ending.CellUnion
+    ∷ Kind.Outer Ending.Raw
+    ∷ Kind.Inner Ending.Covering
+    ∷ Kind.Inner Ending.CellUnion
+    ∷ Kind.Inner Ending.Raw
+    ∷ []
+
+unfoldable pub kindOf : ℕ → Kind
+kindOf k = getD runKinds k Kind.Fast
 
 -- ---- MIN MAX MOD MAX_CELLS
 
@@ -131,23 +144,21 @@ nextOption l o = optionFrom l (o .after) o
 unfoldable pub optionsAfter : List ℕ → Place → Options
 optionsAfter l p = nextOption l (nextOption l (nextOption l (nextOption l (nextOption l (record { values = none ∷ none ∷ none ∷ none ∷ []; after = p })))))
 
--- ---- a request: one part after another; the place after it is a fault's where the line is no request
+-- ---- what a line asks: one part after another; the place after it is a fault's where the line is no request
 
-unfoldable pub requestOf : List ℕ → Request
-requestOf l =
-    let kind = choiceAfter kinds 7 Fault.UnknownKind l (startOf l) in
-    let c = covererAfter l (kind .after) in
+unfoldable pub askedBy : List ℕ → Asked
+askedBy l =
+    let word = choiceAfter kinds 7 Fault.UnknownKind l (startOf l) in
+    let c = covererAfter l (word .after) in
     let g = regionAfter l (c .after) in
     let o = optionsAfter l (g .after) in
     record {
-      ending = endingOf (kind .value);
-      inner = leb 3 (kind .value);
-      fast = eqb (kind .value) 6;
+      kind = kindOf (word .value);
       coverer = c .coverer;
       region = g .region;
       allowance = valueOr 4294967295 (getD (o .values) 0 0);
       out = valueOr 65536 (getD (o .values) 1 0);
-      mem = valueOr 4096 (getD (o .values) 2 0);
+      mem = valueOr memoryWords (getD (o .values) 2 0);
       form = formOf (getD (o .values) 3 0);
       after = endAfter l (o .after);
     }

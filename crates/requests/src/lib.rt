@@ -1,23 +1,23 @@
-// A line of `cover`, answered: what it asks is asked of the coverer, each kind of its public function, and the answer is written.
+// A line of `cover`, answered: what it asks is asked of the coverer, whatever its kind, and the answer is written.
 mod line;
 
 ghost use mathlib.Core.Path.{_≡_};
 ghost use lib.ListN.{length};
 ghost use Prim.Native.Nat.{_+_, _*_, _≤_, min};
-ghost use Rattle.covering.specs.Covering.{Answered, valuesOf};
+ghost use Rattle.covering.specs.Covering.{Answered};
 ghost use Rattle.replies.specs.Write.{Wrote};
 ghost use Rattle.requests.specs.Requests.{allowanceOf, resultFor, AnsweredIn, answerText, Replied};
 use covering::Answer;
+use line::Asked;
 pub use line::CovererRead;
 pub use line::Options;
 pub use line::RegionRead;
-use line::Request;
 pub use line::cap_of;
 pub use line::form_of;
+use line::read_asked;
 pub use line::read_coverer;
 pub use line::read_options;
 pub use line::read_region;
-use line::read_request;
 pub use line::value_or;
 use text::Place;
 use tokens::Form;
@@ -33,17 +33,13 @@ fn allowance_of(n: u64) -> u32
 }
 
 // Answers a request with the working memory and the output that are lent: their lengths are those that it is answered for.
-fn answer_run(q: Request, mem: &mut [u64], out: &mut [u64]) -> Answer
+fn answer_run(q: Asked, mem: &mut [u64], out: &mut [u64]) -> Answer
     ensures { λ r. ⌜ Answered (resultFor q (length (now (mem .entry))) (length (now (out .entry)))) r (now (mem .entry)) (now (mem .exit)) (now (out .entry)) (now (out .exit)) ⌝ }
 {
+    let kind = q.kind;
     let coverer = q.coverer;
     let region = q.region;
-    if q.fast {
-        return covering::fast_covering(coverer, region, mem, out);
-    }
-    let ending = q.ending;
-    let allowance = allowance_of(q.allowance);
-    covering::respond(ending, q.inner, coverer, region, allowance, mem, out)
+    covering::respond(kind, coverer, region, allowance_of(q.allowance), mem, out)
 }
 
 pub fn lesser(a: usize, b: usize) -> usize
@@ -53,7 +49,7 @@ pub fn lesser(a: usize, b: usize) -> usize
 }
 
 // Answers a request with as much of the memory and of the output as it asks for.
-fn answer_in(q: Request, mem: &mut [u64], out: &mut [u64]) -> Answer
+fn answer_in(q: Asked, mem: &mut [u64], out: &mut [u64]) -> Answer
     ensures { λ r. ⌜ AnsweredIn q r (now (mem .entry)) (now (mem .exit)) (now (out .entry)) (now (out .exit)) ⌝ }
 {
     let m = lesser(q.mem as usize, mem.len());
@@ -63,15 +59,13 @@ fn answer_in(q: Request, mem: &mut [u64], out: &mut [u64]) -> Answer
 
 // Writes an answer, with the ids that stand in the output's first places.
 fn put_answer(form: Form, a: Answer, out: &[u64], page: &mut [u8]) -> usize
-    requires { ⌜ valuesOf a .count ≤ length (now out) ⌝ }
+    requires { ⌜ a .count ≤ length (now out) ⌝ }
     ensures { λ r. ⌜ Wrote 0 (answerText form a (now (out .entry))) (now (page .entry)) r (now (page .exit)) ⌝ }
 {
-    match a {
-        Answer::Done(count, steps, aside) => {
-            replies::put_ok(page, form, steps as u64, aside, &out[..count])
-        }
-        Answer::Refused(refusal) => replies::put_refused(page, refusal),
+    if a.number == 0 {
+        return replies::put_ok(page, form, a.steps as u64, a.aside, &out[..a.count]);
     }
+    replies::put_refused(page, a.number)
 }
 
 // The answer to a line of that number, whole, from the first byte of the page on, and how long it is: nothing for a line that asks nothing. The page has
@@ -83,7 +77,7 @@ pub fn answer(line: &[u8], number: u64, mem: &mut [u64], out: &mut [u64], page: 
     if text::is_silent(line) {
         return 0;
     }
-    let q = read_request(line);
+    let q = read_asked(line);
     let after = q.after;
     match after {
         Place::At(_) => {

@@ -4,12 +4,14 @@ ghost use mathlib.Core.Path.{_≡_};
 ghost use Prim.Native.Nat.{_<_};
 ghost use Rattle.text.specs.Text.{choiceAfter};
 ghost use Rattle.text.specs.declared.Fault.{Fault};
-ghost use Rattle.requests.specs.Line.{kinds, regions, endingOf, fourAfter, covererAfter, pointOf, capOf, capAfter, cellAfter, regionAfter, mostOf, valueOr, formOf, badOption, optionGiven, optionOf, nextOption, optionsAfter, requestOf};
+ghost use Rattle.requests.specs.Line.{kinds, regions, kindOf, fourAfter, covererAfter, pointOf, capOf, capAfter, cellAfter, regionAfter, mostOf, valueOr, formOf, badOption, optionGiven, optionOf, nextOption, optionsAfter, askedBy};
 use cell::Cap;
 use covering::Ending;
-use fast::RegionCoverer;
+use covering::Kind;
 use point::Point;
 use region::Region;
+use run::MEMORY_WORDS;
+use run::RegionCoverer;
 use text::Base;
 use text::Fault;
 use text::Place;
@@ -40,11 +42,9 @@ pub struct Options {
     pub after: Place,
 }
 
-// A request: the list that is asked for, of the outer or of the inner run, or the fast covering; and the line's end, or what is wrong with the line.
-pub struct Request {
-    pub ending: Ending,
-    pub inner: bool,
-    pub fast: bool,
+// What a line asks: the kind of answer, of what, with how much, and how ids are to be written; and the line's end, or what is wrong with the line.
+pub struct Asked {
+    pub kind: Kind,
     pub coverer: RegionCoverer,
     pub region: Region,
     pub allowance: u64,
@@ -62,14 +62,18 @@ fn read_kind(line: &[u8], p: Place) -> Read
     text::read_choice(line, p, words, 7, Fault::UnknownKind)
 }
 
-// The list that a word asks for.
-fn ending_of(k: u64) -> Ending
-    ensures { λ r. ⌜ r ≡ endingOf k ⌝ }
+// The kind of answer that a word asks for.
+fn kind_of(k: u64) -> Kind
+    ensures { λ r. ⌜ r ≡ kindOf k ⌝ }
 {
-    match k % 3 {
-        0 => Ending::Covering,
-        1 => Ending::CellUnion,
-        _ => Ending::Raw,
+    match k {
+        0 => Kind::Outer(Ending::Covering),
+        1 => Kind::Outer(Ending::CellUnion),
+        2 => Kind::Outer(Ending::Raw),
+        3 => Kind::Inner(Ending::Covering),
+        4 => Kind::Inner(Ending::CellUnion),
+        5 => Kind::Inner(Ending::Raw),
+        _ => Kind::Fast,
     }
 }
 
@@ -267,13 +271,13 @@ pub fn form_of(v: u64) -> Form
     Form::Digits
 }
 
-// The request that a line is.
-pub fn read_request(line: &[u8]) -> Request
-    ensures { λ r. ⌜ r ≡ requestOf (now (line .entry)) ⌝ }
+// What a line asks.
+pub fn read_asked(line: &[u8]) -> Asked
+    ensures { λ r. ⌜ r ≡ askedBy (now (line .entry)) ⌝ }
 {
     let start = text::read_start(line);
-    let kind = read_kind(line, start);
-    let pk = kind.after;
+    let word = read_kind(line, start);
+    let pk = word.after;
     let c = read_coverer(line, pk);
     let pc = c.after;
     let g = read_region(line, pc);
@@ -284,15 +288,14 @@ pub fn read_request(line: &[u8]) -> Request
     let region = g.region;
     let values = o.values;
     let after = text::read_end(line, po);
-    Request {
-        ending: ending_of(kind.value),
-        inner: 3 <= kind.value,
-        fast: kind.value == 6,
+    let kind = kind_of(word.value);
+    Asked {
+        kind,
         coverer,
         region,
         allowance: value_or(4294967295, values[0]),
         out: value_or(65536, values[1]),
-        mem: value_or(4096, values[2]),
+        mem: value_or(MEMORY_WORDS as u64, values[2]),
         form: form_of(values[3]),
         after,
     }

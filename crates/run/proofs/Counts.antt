@@ -12,9 +12,9 @@ use lib.ListN.{length, length-append}
 use Rattle.cellid.specs.CellId.{childOf}
 use Rattle.cellid.proofs.Laws.{bool-iff}
 use Rattle.run.specs.declared.Found.{Found}
-use Rattle.run.specs.Run.{isEmpty, Child, Expansion, Look, Request, divide, ending, expand, fails, fourOf, join, look, none, reached, terminal}
-use Rattle.run.specs.Masks.{noneFound, found, foundAt, placeIn, upTo}
-use Rattle.run.proofs.Masks.{Small, up-small, found-small, branch, branch-small}
+use Rattle.run.specs.Run.{isEmpty, Child, Expansion, Look, divide, ending, expand, fails, fourOf, join, look, none, reached, terminal, Task, part, failing}
+use Rattle.run.specs.Masks.{noneFound, found, foundPart, foundAt, placeIn, upTo}
+use Rattle.run.proofs.Masks.{Small, up-small, part-small}
 
 ending-one : (b : Bool) (m n k : ℕ) → m ≡ n + k → elim b [ true ↦ suc m | false ↦ m ] ≡ (elim b as (λ x. ℕ) [ true ↦ suc n | false ↦ n ]) + k
 ending-one true m n k e = omega arith
@@ -37,7 +37,7 @@ at-counted id terminal = record { present = refl; terminal = refl }
 at-counted id divide = record { present = refl; terminal = refl }
 
 branch-counted : (b : Bool) (f : Found) (e : Expansion) (c : ℕ) → Counted f e
-    → Counted (elim b [ true ↦ f | false ↦ noneFound ]) (elim b [ true ↦ e | false ↦ record { children = []; failed = c ∷ [] } ])
+    → Counted (elim b [ true ↦ f | false ↦ noneFound ]) (elim b [ true ↦ e | false ↦ failing c ])
 unfolding ending ones onesIn
 branch-counted true f e c h = h
 branch-counted false f e c h = record { present = refl; terminal = refl }
@@ -85,14 +85,19 @@ module _ (f : ℕ → Found) (w id : ℕ) (s : (k : ℕ) → k < 4 → Small w (
         terminal = omega (arith, up-zero .1, u₀ .1, u₁ .1, u₂ .1, u₃ .1, four-ending e id);
       }
 
-module _ (q : Request) (hits within : ℕ → Bool) where
-  pub found-counted : (n id : ℕ) → Counted (found q hits within n id) (expand q hits within n id)
+module _ (T : Task) where
+  four-parts : (n id : ℕ) → ((c : ℕ) → Counted (foundPart T n c) (part T n c)) → Counted (upTo (foundPart T n) (2 ^ (2 * n)) id 4) (fourOf (part T n) id)
+  four-parts n id h = four-counted (foundPart T n) (2 ^ (2 * n)) id (λ k g. part-small T n (childOf id k)) (part T n) (λ k g. h (childOf id k))
+
+  part-counted : (n c : ℕ) → Counted (foundPart T n c) (part T n c)
+  unfolding foundPart part
+  part-counted zero c = at-counted c (look T c)
+  part-counted (suc n) c = branch-counted (T .hits c) (upTo (foundPart T n) (2 ^ (2 * n)) c 4) (fourOf (part T n) c) c (four-parts n c (part-counted n))
+
+  pub found-counted : (n id : ℕ) → Counted (found T n id) (expand T n id)
   unfolding found expand
-  found-counted zero id = at-counted id (look q hits within id)
-  found-counted (suc n) id = four-counted (branch q hits within n) (2 ^ (2 * n)) id
-      (λ k g. branch-small q hits within (2 ^ (2 * n)) (childOf id k) (found q hits within n (childOf id k)) (found-small q hits within n (childOf id k)))
-      (λ c. elim (hits c) [ true ↦ expand q hits within n c | false ↦ record { children = []; failed = c ∷ [] } ])
-      (λ k g. branch-counted (hits (childOf id k)) (found q hits within n (childOf id k)) (expand q hits within n (childOf id k)) (childOf id k) (found-counted n (childOf id k)))
+  found-counted zero id = part-counted zero id
+  found-counted (suc n) id = four-parts n id (part-counted n)
 
 ones-zero : (n : ℕ) → ones n ≡ 0 → n ≡ 0
 ones-zero = bin-ind (λ (n : ℕ). ones n ≡ 0 → n ≡ 0) (λ e. refl)
@@ -103,10 +108,10 @@ unfolding isEmpty
 empty-length [] = refl
 empty-length (x ∷ l) = sym (bool-iff _ _ (λ t. let z : suc (length l) ≡ 0 = eqb-true _ _ t in absurd (omega arith)) (λ t. absurd (true≢false (sym t))))
 
-pub empty-set : (q : Request) (hits within : ℕ → Bool) (n id : ℕ) → isEmpty (expand q hits within n id .children) ≡ eqb (found q hits within n id .present) 0
+pub empty-set : (T : Task) (n id : ℕ) → isEmpty (expand T n id .children) ≡ eqb (found T n id .present) 0
 unfolding ones onesIn
-empty-set q hits within n id =
-    let k : ones (found q hits within n id .present) ≡ length (expand q hits within n id .children) = found-counted q hits within n id .present in
-    empty-length (expand q hits within n id .children) ∙ bool-iff _ _
-    (λ t. let z : length (expand q hits within n id .children) ≡ 0 = eqb-true _ _ t in eq-eqb (found q hits within n id .present) 0 (ones-zero (found q hits within n id .present) (k ∙ z)))
-    (λ t. let z : found q hits within n id .present ≡ 0 = eqb-true _ _ t in eq-eqb (length (expand q hits within n id .children)) 0 (sym k ∙ ap ones z))
+empty-set T n id =
+    let k : ones (found T n id .present) ≡ length (expand T n id .children) = found-counted T n id .present in
+    empty-length (expand T n id .children) ∙ bool-iff _ _
+    (λ t. let z : length (expand T n id .children) ≡ 0 = eqb-true _ _ t in eq-eqb (found T n id .present) 0 (ones-zero (found T n id .present) (k ∙ z)))
+    (λ t. let z : found T n id .present ≡ 0 = eqb-true _ _ t in eq-eqb (length (expand T n id .children)) 0 (sym k ∙ ap ones z))

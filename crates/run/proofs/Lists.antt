@@ -7,7 +7,7 @@ use Prim.Native.Nat.{ℕ, zero, suc, _+_, _-_, _≤_, _<_}
 use native.Mathlib.Omega.{arith}
 use lib.ListN.{length, getD}
 use Rattle.order.specs.Order.{insert, All}
-use Rattle.order.proofs.OrderLaws.{which, insert-past, insert-front}
+use Rattle.order.proofs.OrderLaws.{which, insert-past, insert-front, all-weak}
 use Rattle.run.specs.Run.{Outcome, State, going, isEmpty, refused, sumOf, then}
 
 pub sum-append : {A : Type 0} (f : A → ℕ) (l r : List A) → sumOf f (l ++ r) ≡ sumOf f l + sumOf f r
@@ -68,10 +68,6 @@ unfolding isEmpty
 empty-nil [] e = refl
 empty-nil (x ∷ l) e = absurd (true≢false (sym e))
 
-pub or-false : (a b : Bool) → (a || b) ≡ false → (a ≡ false) × (b ≡ false)
-or-false true b e = absurd (true≢false e)
-or-false false b e = (refl, e)
-
 pub not-true : (a : Bool) → not a ≡ true → a ≡ false
 not-true true e = absurd (true≢false (sym e))
 not-true false e = refl
@@ -104,11 +100,6 @@ rel-less false a b c e h k = absurd (true≢false (sym e))
 pub rel-same : (i : Bool) (a b c : ℕ) → a ≡ b → Rel i b c → Rel i a c
 rel-same i a b c e h = rw e h
 
-pub all-weak : {A : Type 0} (P Q : A → Type 0) (l : List A) → ((x : A) → P x → Q x) → All P l → All Q l
-unfolding All
-all-weak P Q [] f a = tt
-all-weak P Q (x ∷ l) f a = (f x (a .0), all-weak P Q l f (a .1))
-
 pub all-drop : {A : Type 0} (P : A → Type 0) (l r : List A) → All P (l ++ r) → All P r
 unfolding All
 all-drop P [] r a = a
@@ -134,9 +125,3 @@ pub all-with : {A : Type 0} (P Q : A → Type 0) (l : List A) → All P l → Al
 unfolding All
 all-with P Q [] a b = tt
 all-with P Q (x ∷ l) a b = ((a .0, b .0), all-with P Q l (a .1) (b .1))
-
-pub all-get : {A : Type 0} (P : A → Type 0) (l : List A) (d : A) (i : ℕ) → i < length l → All P l → P (getD l i d)
-unfolding All
-all-get P [] d i h a = absurd (omega arith)
-all-get P (x ∷ l) d zero h a = a .0
-all-get P (x ∷ l) d (suc i) h a = all-get P l d i (omega arith) (a .1)

@@ -2,12 +2,12 @@
 use mathlib.Core.Path.{_≡_, refl, sym, ap, _∙_, subst}
 use mathlib.Core.Bool.{Bool, true, false, true≢false}
 use Prim.Native.Nat.{ℕ, _+_, _-_, _≤_, _<_}
-use native.Mathlib.Omega.{arith}
 use lib.Dec.{ltb}
 use Rattle.cellid.specs.CellId.{IsCell, levelOf, placeOf}
 use Rattle.cellid.proofs.Laws.{level-cell, place-id}
-use borrow.Author.Tests.{lt-ltb, le-ltb, ltb-true, ltb-false}
-use Rattle.run.specs.Run.{depth, Look, Request, divide, fails, look, none, terminal}
+use borrow.Author.Tests.{lt-ltb, le-ltb}
+use Rattle.run.specs.Run.{depth, Look, divide, fails, look, none, terminal, Task, minLevel, maxLevel, levelMod}
+use Rattle.run.specs.declared.Request.{Request}
 use Rattle.run.proofs.Lists.{if-ok}
 
 lookBy : (h lo w bot i : Bool) → Look
@@ -40,66 +40,57 @@ means-by true false false true true = refl
 means-by true false false true false = (refl, refl, λ e. e)
 means-by true false false false i = (refl, λ e. refl)
 
-module _ (q : Request) (hits within : ℕ → Bool) where
+module _ (T : Task) where
   abbrev pub Means : ℕ → Look → Type 0
-  Means id v = MeansBy (hits id) (ltb (levelOf id) (q .minLevel)) (within id) (ltb (q .maxLevel) (levelOf id + q .levelMod)) (q .inner) v
+  Means id v = MeansBy (T .hits id) (ltb (levelOf id) (minLevel (T .asked))) (T .within id) (ltb (maxLevel (T .asked)) (levelOf id + levelMod (T .asked))) (T .asked .inner) v
 
-  pub look-means : (id : ℕ) (v : Look) → look q hits within id ≡ v → Means id v
+  pub look-means : (id : ℕ) (v : Look) → look T id ≡ v → Means id v
   unfolding look lookBy
-  look-means id v e = subst (Means id) e (means-by (hits id) (ltb (levelOf id) (q .minLevel)) (within id) (ltb (q .maxLevel) (levelOf id + q .levelMod)) (q .inner))
+  look-means id v e = subst (Means id) e (means-by (T .hits id) (ltb (levelOf id) (minLevel (T .asked))) (T .within id) (ltb (maxLevel (T .asked)) (levelOf id + levelMod (T .asked))) (T .asked .inner))
 
 -- ---- the look, one law for each way that the code goes
 
-module _ (q : Request) (hits within : ℕ → Bool) (id : ℕ) where
-  pub look-fails : hits id ≡ false → look q hits within id ≡ fails
+module _ (T : Task) (id : ℕ) where
+  pub look-fails : T .hits id ≡ false → look T id ≡ fails
   unfolding look
   look-fails h = rw (h, look)
 
-  module _ (h : hits id ≡ true) where
-    pub look-below : levelOf id < q .minLevel → look q hits within id ≡ divide
+  module _ (h : T .hits id ≡ true) where
+    pub look-below : levelOf id < minLevel (T .asked) → look T id ≡ divide
     unfolding look
-    look-below l = rw (h, look, lt-ltb (levelOf id) (q .minLevel) l)
+    look-below l = rw (h, look, lt-ltb (levelOf id) (minLevel (T .asked)) l)
 
-    module _ (l : q .minLevel ≤ levelOf id) where
-      pub look-inside : within id ≡ true → look q hits within id ≡ terminal
+    module _ (l : minLevel (T .asked) ≤ levelOf id) where
+      pub look-inside : T .within id ≡ true → look T id ≡ terminal
       unfolding look
-      look-inside w = rw (h, look, le-ltb (levelOf id) (q .minLevel) l, w)
+      look-inside w = rw (h, look, le-ltb (levelOf id) (minLevel (T .asked)) l, w)
 
       -- an outer cell at the bottom is terminal, contained or not
-      pub look-bottom : q .maxLevel < levelOf id + q .levelMod → q .inner ≡ false → look q hits within id ≡ terminal
+      pub look-bottom : maxLevel (T .asked) < levelOf id + levelMod (T .asked) → T .asked .inner ≡ false → look T id ≡ terminal
       unfolding look
       look-bottom b o =
-          rw (h, look, le-ltb (levelOf id) (q .minLevel) l)
-          (if-ok (λ v. v ≡ terminal) (within id) terminal _ (λ t. refl) (λ t. rw (lt-ltb (q .maxLevel) (levelOf id + q .levelMod) b) (if-ok (λ v. v ≡ terminal) (q .inner) none terminal (λ i. absurd (true≢false (sym i ∙ o))) (λ i. refl))))
+          rw (h, look, le-ltb (levelOf id) (minLevel (T .asked)) l)
+          (if-ok (λ v. v ≡ terminal) (T .within id) terminal _ (λ t. refl) (λ t. rw (lt-ltb (maxLevel (T .asked)) (levelOf id + levelMod (T .asked)) b) (if-ok (λ v. v ≡ terminal) (T .asked .inner) none terminal (λ i. absurd (true≢false (sym i ∙ o))) (λ i. refl))))
 
-      pub look-none : q .maxLevel < levelOf id + q .levelMod → q .inner ≡ true → within id ≡ false → look q hits within id ≡ none
+      pub look-none : maxLevel (T .asked) < levelOf id + levelMod (T .asked) → T .asked .inner ≡ true → T .within id ≡ false → look T id ≡ none
       unfolding look
       look-none b i w =
-          rw (h, look, le-ltb (levelOf id) (q .minLevel) l, w, lt-ltb (q .maxLevel) (levelOf id + q .levelMod) b)
-          (if-ok (λ v. v ≡ none) (q .inner) none terminal (λ t. refl) (λ t. absurd (true≢false (sym i ∙ t))))
+          rw (h, look, le-ltb (levelOf id) (minLevel (T .asked)) l, w, lt-ltb (maxLevel (T .asked)) (levelOf id + levelMod (T .asked)) b)
+          (if-ok (λ v. v ≡ none) (T .asked .inner) none terminal (λ t. refl) (λ t. absurd (true≢false (sym i ∙ t))))
 
-      pub look-above : levelOf id + q .levelMod ≤ q .maxLevel → within id ≡ false → look q hits within id ≡ divide
+      pub look-above : levelOf id + levelMod (T .asked) ≤ maxLevel (T .asked) → T .within id ≡ false → look T id ≡ divide
       unfolding look
-      look-above b w = rw (h, look, le-ltb (levelOf id) (q .minLevel) l, w, le-ltb (q .maxLevel) (levelOf id + q .levelMod) b)
+      look-above b w = rw (h, look, le-ltb (levelOf id) (minLevel (T .asked)) l, w, le-ltb (maxLevel (T .asked)) (levelOf id + levelMod (T .asked)) b)
 
 -- ---- how deep an expansion goes
 
-pub depth-low : (q : Request) (id : ℕ) → levelOf id < q .minLevel → depth q id ≡ 1
+pub depth-low : (q : Request) (id : ℕ) → levelOf id < minLevel q → depth q id ≡ 1
 unfolding depth
-depth-low q id l = rw (lt-ltb (levelOf id) (q .minLevel) l, depth)
+depth-low q id l = rw (lt-ltb (levelOf id) (minLevel q) l, depth)
 
-pub depth-high : (q : Request) (id : ℕ) → q .minLevel ≤ levelOf id → depth q id ≡ q .levelMod
+pub depth-high : (q : Request) (id : ℕ) → minLevel q ≤ levelOf id → depth q id ≡ levelMod q
 unfolding depth
-depth-high q id l = rw (le-ltb (levelOf id) (q .minLevel) l, depth)
-
--- a cell that is to be expanded has the levels beneath it
-pub divide-room : (q : Request) (hits within : ℕ → Bool) → q .minLevel ≤ q .maxLevel → (id : ℕ) → look q hits within id ≡ divide → levelOf id + depth q id ≤ q .maxLevel
-unfolding depth MeansBy
-divide-room q hits within o id e =
-    let m : Means q hits within id divide = look-means q hits within id divide e in
-    if-ok (λ (n : ℕ). levelOf id + n ≤ q .maxLevel) (ltb (levelOf id) (q .minLevel)) 1 (q .levelMod)
-    (λ t. let l : levelOf id < q .minLevel = ltb-true _ _ t in omega arith)
-    (λ t. ltb-false _ _ (m .1 t))
+depth-high q id l = rw (le-ltb (levelOf id) (minLevel q) l, depth)
 
 -- ---- cells under cells
 

@@ -1,7 +1,7 @@
 -- The two 64-bit sets by Hilbert place and the list of children are one and the same.
 use mathlib.Core.Path.{_≡_, refl, sym, ap, ap₂, _∙_, subst}
 use mathlib.Core.Bool.{Bool, true, false}
-use mathlib.Core.List.{List, [], _∷_, _++_, append-assoc}
+use mathlib.Core.List.{List, [], _++_, append-assoc}
 use Prim.Native.Nat.{ℕ, zero, suc, _+_, _-_, _*_, _/_, _%_, _^_, _≤_, _<_}
 use native.Mathlib.Nat.{pow-suc, mul-assoc, mul-comm, mul-left-comm, add-mul, mul-div-cancel-left, mul-suc, mul-one, mul-zero, mul-add, one-mul, div-div-eq-div-mul}
 use native.Mathlib.Omega.{arith}
@@ -12,26 +12,25 @@ use Rattle.cellid.specs.CellId.{IsCell, idOf, childOf, bitAt}
 use Rattle.cellid.proofs.Laws.{low-id, bit-up, odd-mul}
 use Rattle.cellid.proofs.Leaves.{child-cell}
 use Rattle.run.specs.declared.Found.{Found}
-use Rattle.run.specs.Run.{Child, Expansion, Look, Request, divide, expand, fails, fourOf, join, look, none, reached, terminal}
-use Rattle.run.specs.Masks.{noneFound, consIf, descend, found, foundAt, listOf, placeIn, upTo}
+use Rattle.run.specs.Run.{Child, Expansion, Look, divide, expand, fails, fourOf, join, look, none, reached, terminal, Task, part, failing}
+use Rattle.run.specs.Masks.{noneFound, consIf, descend, found, foundPart, foundAt, childrenIn, placeIn, upTo}
 use Rattle.run.proofs.Lists.{if-ok}
-use Rattle.run.proofs.Looks.{look-fails}
 
 -- ---- lists of sets
 
-list-cong : (g h : ℕ → ℕ) (w p t b c : ℕ) → ((j : ℕ) → j < w → g (b + j) ≡ h (c + j)) → listOf g w p t b ≡ listOf h w p t c
-unfolding listOf
+list-cong : (g h : ℕ → ℕ) (w p t b c : ℕ) → ((j : ℕ) → j < w → g (b + j) ≡ h (c + j)) → childrenIn g w p t b ≡ childrenIn h w p t c
+unfolding childrenIn
 list-cong g h zero p t b c e = refl
 list-cong g h (suc w) p t b c e =
     let z : g b ≡ h c = ap g (omega arith) ∙ e 0 (omega arith) ∙ ap h (omega arith) in
-    let r : listOf g w (p / 2) (t / 2) (suc b) ≡ listOf h w (p / 2) (t / 2) (suc c) = list-cong g h w (p / 2) (t / 2) (suc b) (suc c) (λ j l.
+    let r : childrenIn g w (p / 2) (t / 2) (suc b) ≡ childrenIn h w (p / 2) (t / 2) (suc c) = list-cong g h w (p / 2) (t / 2) (suc b) (suc c) (λ j l.
     let u : suc b + j ≡ b + suc j = omega arith in
     let v : c + suc j ≡ suc c + j = omega arith in
     ap g u ∙ e (suc j) (omega arith) ∙ ap h v) in
     rw (z, r)
 
-list-none : (g : ℕ → ℕ) (w t b : ℕ) → listOf g w 0 t b ≡ []
-unfolding listOf consIf
+list-none : (g : ℕ → ℕ) (w t b : ℕ) → childrenIn g w 0 t b ≡ []
+unfolding childrenIn consIf
 list-none g zero t b = refl
 list-none g (suc w) t b = list-none g w (t / 2) (suc b)
 
@@ -46,8 +45,8 @@ unfolding consIf
 cons-append true x l r = refl
 cons-append false x l r = refl
 
-list-append : (g : ℕ → ℕ) (w v p t p′ t′ b : ℕ) → p < 2 ^ w → t < 2 ^ w → listOf g (w + v) (p′ * 2 ^ w + p) (t′ * 2 ^ w + t) b ≡ listOf g w p t b ++ listOf g v p′ t′ (b + w)
-unfolding listOf
+list-append : (g : ℕ → ℕ) (w v p t p′ t′ b : ℕ) → p < 2 ^ w → t < 2 ^ w → childrenIn g (w + v) (p′ * 2 ^ w + p) (t′ * 2 ^ w + t) b ≡ childrenIn g w p t b ++ childrenIn g v p′ t′ (b + w)
+unfolding childrenIn
 list-append g zero v p t p′ t′ b h k =
     let a : p′ * 2 ^ 0 + p ≡ p′ = omega (arith, mul-one p′) in
     let c : t′ * 2 ^ 0 + t ≡ t′ = omega (arith, mul-one t′) in
@@ -57,14 +56,14 @@ list-append g zero v p t p′ t′ b h k =
 list-append g (suc w) v p t p′ t′ b h k =
     let d : suc w + v ≡ suc (w + v) = omega arith in
     let e : b + suc w ≡ suc b + w = omega arith in
-    let r : listOf g (w + v) (p′ * 2 ^ w + p / 2) (t′ * 2 ^ w + t / 2) (suc b) ≡ listOf g w (p / 2) (t / 2) (suc b) ++ listOf g v p′ t′ (suc b + w) =
+    let r : childrenIn g (w + v) (p′ * 2 ^ w + p / 2) (t′ * 2 ^ w + t / 2) (suc b) ≡ childrenIn g w (p / 2) (t / 2) (suc b) ++ childrenIn g v p′ t′ (suc b + w) =
     list-append g w v (p / 2) (t / 2) p′ t′ (suc b) (omega (arith, pow-suc 2 w)) (omega (arith, pow-suc 2 w)) in
-    rw (d, e, listOf, parity p′ w p, parity t′ w t, half p′ w p, half t′ w t, r) (sym (cons-append (eqb (p % 2) 1) _ (listOf g w (p / 2) (t / 2) (suc b)) (listOf g v p′ t′ (suc b + w))))
+    rw (d, e, childrenIn, parity p′ w p, parity t′ w t, half p′ w p, half t′ w t, r) (sym (cons-append (eqb (p % 2) 1) _ (childrenIn g w (p / 2) (t / 2) (suc b)) (childrenIn g v p′ t′ (suc b + w))))
 
 -- one turn of the loop over the sets
 pub list-turn : (g : ℕ → ℕ) (W p t j : ℕ) → j < W
-    → listOf g (W - j) (p / 2 ^ j) (t / 2 ^ j) j ≡ consIf (eqb (p / 2 ^ j % 2) 1) (record { id = g j; ends = eqb (t / 2 ^ j % 2) 1 }) (listOf g (W - suc j) (p / 2 ^ suc j) (t / 2 ^ suc j) (suc j))
-unfolding listOf
+    → childrenIn g (W - j) (p / 2 ^ j) (t / 2 ^ j) j ≡ consIf (eqb (p / 2 ^ j % 2) 1) (record { id = g j; ends = eqb (t / 2 ^ j % 2) 1 }) (childrenIn g (W - suc j) (p / 2 ^ suc j) (t / 2 ^ suc j) (suc j))
+unfolding childrenIn
 list-turn g W p t j h =
     let d : W - j ≡ suc (W - suc j) = omega arith in
     let half : (x : ℕ) → x / 2 ^ suc j ≡ x / 2 ^ j / 2 = λ x. ap (λ (n : ℕ). x / n) (pow-suc 2 j) ∙ sym (div-div-eq-div-mul x (2 ^ j) 2) in
@@ -118,17 +117,17 @@ parts l zero = []
 parts l (suc k) = parts l k ++ l k
 
 up-list : (g : ℕ → ℕ) (f : ℕ → Found) (l : ℕ → List Child) (w id : ℕ) → ((k : ℕ) → k < 4 → Small w (f (childOf id k)))
-    → ((k : ℕ) → k < 4 → listOf g w (f (childOf id k) .present) (f (childOf id k) .terminal) (w * k) ≡ l k)
-    → (k : ℕ) → k ≤ 4 → listOf g (w * k) (upTo f w id k .present) (upTo f w id k .terminal) 0 ≡ parts l k
+    → ((k : ℕ) → k < 4 → childrenIn g w (f (childOf id k) .present) (f (childOf id k) .terminal) (w * k) ≡ l k)
+    → (k : ℕ) → k ≤ 4 → childrenIn g (w * k) (upTo f w id k .present) (upTo f w id k .terminal) 0 ≡ parts l k
 unfolding upTo placeIn parts
 up-list g f l w id s e zero h = rw (mul-zero w) (list-none g 0 0 0)
 up-list g f l w id s e (suc k) h =
     let r = up-small f w id s k (omega arith) in
     let z : 0 + w * k ≡ w * k = omega arith in
-    ap (λ (n : ℕ). listOf g n (upTo f w id (suc k) .present) (upTo f w id (suc k) .terminal) 0) (mul-suc w k)
+    ap (λ (n : ℕ). childrenIn g n (upTo f w id (suc k) .present) (upTo f w id (suc k) .terminal) 0) (mul-suc w k)
     ∙ list-append g (w * k) w (upTo f w id k .present) (upTo f w id k .terminal) (f (childOf id k) .present) (f (childOf id k) .terminal) 0 (r .present) (r .terminal)
     ∙ ap₂ (λ (x y : List Child). x ++ y) (up-list g f l w id s e k (omega arith))
-    (ap (λ (n : ℕ). listOf g w (f (childOf id k) .present) (f (childOf id k) .terminal) n) z ∙ e k (omega arith))
+    (ap (λ (n : ℕ). childrenIn g w (f (childOf id k) .present) (f (childOf id k) .terminal) n) z ∙ e k (omega arith))
 
 at-small : (v : Look) → Small 1 (foundAt v)
 unfolding foundAt
@@ -137,69 +136,89 @@ at-small none = record { present = omega arith; terminal = omega arith }
 at-small terminal = record { present = omega arith; terminal = omega arith }
 at-small divide = record { present = omega arith; terminal = omega arith }
 
-at-list : (g : ℕ → ℕ) (id : ℕ) (v : Look) → g 0 ≡ id → listOf g 1 (foundAt v .present) (foundAt v .terminal) 0 ≡ reached id v .children
-unfolding foundAt reached listOf consIf
+at-list : (g : ℕ → ℕ) (id : ℕ) (v : Look) → g 0 ≡ id → childrenIn g 1 (foundAt v .present) (foundAt v .terminal) 0 ≡ reached id v .children
+unfolding foundAt reached childrenIn consIf
 at-list g id fails e = refl
 at-list g id none e = refl
 at-list g id terminal e = rw e
 at-list g id divide e = rw e
 
-branch-list : (b : Bool) (f : Found) (e : Expansion) (g : ℕ → ℕ) (w c : ℕ) → listOf g w (f .present) (f .terminal) 0 ≡ e .children
-    → listOf g w ((elim b as (λ x. Found) [ true ↦ f | false ↦ noneFound ]) .present) ((elim b as (λ x. Found) [ true ↦ f | false ↦ noneFound ]) .terminal) 0
-    ≡ (elim b as (λ x. Expansion) [ true ↦ e | false ↦ record { children = []; failed = c ∷ [] } ]) .children
+-- where a cell on the way down is passed over there are no places
+branch-list : (b : Bool) (f : Found) (e : Expansion) (g : ℕ → ℕ) (w c : ℕ) → childrenIn g w (f .present) (f .terminal) 0 ≡ e .children
+    → childrenIn g w ((elim b as (λ x. Found) [ true ↦ f | false ↦ noneFound ]) .present) ((elim b as (λ x. Found) [ true ↦ f | false ↦ noneFound ]) .terminal) 0
+    ≡ (elim b as (λ x. Expansion) [ true ↦ e | false ↦ failing c ]) .children
 branch-list true f e g w c h = h
 branch-list false f e g w c h = list-none g w 0 0
 
-module _ (q : Request) (hits within : ℕ → Bool) where
-  abbrev pub branch : ℕ → ℕ → Found
-  branch n c = elim (hits c) [ true ↦ found q hits within n c | false ↦ noneFound ]
+four-w : (n : ℕ) → 2 ^ (2 * n) * 4 ≡ 2 ^ (2 * suc n)
+four-w n = sym (ap (λ (m : ℕ). 2 ^ m) (mul-suc 2 n) ∙ pow-add 2 (2 * n) 2)
 
-  -- the look at a child tests it for intersects itself
-  pub branch-last : (c : ℕ) → branch 0 c ≡ foundAt (look q hits within c)
-  unfolding found foundAt
-  branch-last c = if-ok (λ (f : Found). f ≡ foundAt (look q hits within c)) (hits c) _ _ (λ t. refl) (λ t. sym (ap foundAt (look-fails q hits within c t)))
+module _ (T : Task) where
+  pub part-last : (c : ℕ) → foundPart T 0 c ≡ foundAt (look T c)
+  unfolding foundPart
+  part-last c = refl
 
-  pub branch-more : (n c : ℕ) → hits c ≡ true → branch n c ≡ found q hits within n c
-  branch-more n c h = rw (h, branch)
+  -- a cell between that passes has its own expansion's sets
+  pub part-more : (n c : ℕ) → 0 < n → T .hits c ≡ true → foundPart T n c ≡ found T n c
+  unfolding foundPart found
+  part-more zero c s h = absurd (omega arith)
+  part-more (suc n) c s h = rw (h, foundPart)
 
-  pub branch-none : (n c : ℕ) → hits c ≡ false → branch n c ≡ noneFound
-  branch-none n c h = rw (h, branch)
+  pub part-none : (n c : ℕ) → 0 < n → T .hits c ≡ false → foundPart T n c ≡ noneFound
+  unfolding foundPart
+  part-none zero c s h = absurd (omega arith)
+  part-none (suc n) c s h = rw (h, foundPart)
 
-  pub found-four : (n id : ℕ) → found q hits within (suc n) id ≡ upTo (branch n) (2 ^ (2 * n)) id 4
+  pub found-four : (n id : ℕ) → found T (suc n) id ≡ upTo (foundPart T n) (2 ^ (2 * n)) id 4
   unfolding found
   found-four n id = refl
 
-  pub branch-small : (w c : ℕ) (f : Found) → Small w f → Small w (elim (hits c) [ true ↦ f | false ↦ noneFound ])
-  branch-small w c f s = if-ok (Small w) (hits c) _ _ (λ t. s) (λ t. record { present = pow-pos w; terminal = pow-pos w })
+  four-small : (n id : ℕ) → ((c : ℕ) → Small (2 ^ (2 * n)) (foundPart T n c)) → Small (2 ^ (2 * suc n)) (upTo (foundPart T n) (2 ^ (2 * n)) id 4)
+  four-small n id s = subst (λ (w : ℕ). Small w (upTo (foundPart T n) (2 ^ (2 * n)) id 4)) (four-w n) (up-small (foundPart T n) (2 ^ (2 * n)) id (λ k g. s (childOf id k)) 4 (omega arith))
 
-  four-w : (n : ℕ) → 2 ^ (2 * n) * 4 ≡ 2 ^ (2 * suc n)
-  four-w n = sym (ap (λ (m : ℕ). 2 ^ m) (mul-suc 2 n) ∙ pow-add 2 (2 * n) 2)
+  pub part-small : (n c : ℕ) → Small (2 ^ (2 * n)) (foundPart T n c)
+  unfolding foundPart
+  part-small zero c = at-small (look T c)
+  part-small (suc n) c =
+      if-ok (Small (2 ^ (2 * suc n))) (T .hits c) _ _ (λ t. four-small n c (part-small n)) (λ t. record { present = pow-pos (2 ^ (2 * suc n)); terminal = pow-pos (2 ^ (2 * suc n)) })
 
-  pub found-small : (n id : ℕ) → Small (2 ^ (2 * n)) (found q hits within n id)
+  pub found-small : (n id : ℕ) → Small (2 ^ (2 * n)) (found T n id)
   unfolding found
-  found-small zero id = at-small (look q hits within id)
-  found-small (suc n) id = subst (λ (w : ℕ). Small w (found q hits within (suc n) id)) (four-w n)
-      (up-small (branch n) (2 ^ (2 * n)) id (λ k g. branch-small (2 ^ (2 * n)) (childOf id k) (found q hits within n (childOf id k)) (found-small n (childOf id k))) 4 (omega arith))
+  found-small zero id = part-small zero id
+  found-small (suc n) id = four-small n id (part-small n)
 
-  -- the children are those of the sets, in ascending order, with their marks
-  pub found-list : (n id L p : ℕ) → IsCell id L p → L + n ≤ 30
-      → listOf (descend id n) (2 ^ (2 * n)) (found q hits within n id .present) (found q hits within n id .terminal) 0 ≡ expand q hits within n id .children
-  unfolding found expand fourOf join parts
-  found-list zero id L p c h =
+  -- what the four children have together
+  four-list : (n id L p : ℕ) → IsCell id L p → L + suc n ≤ 30
+      → ((k : ℕ) → k < 4 → childrenIn (descend (childOf id k) n) (2 ^ (2 * n)) (foundPart T n (childOf id k) .present) (foundPart T n (childOf id k) .terminal) 0 ≡ part T n (childOf id k) .children)
+      → childrenIn (descend id (suc n)) (2 ^ (2 * suc n)) (upTo (foundPart T n) (2 ^ (2 * n)) id 4 .present) (upTo (foundPart T n) (2 ^ (2 * n)) id 4 .terminal) 0 ≡ fourOf (part T n) id .children
+  unfolding fourOf join parts
+  four-list n id L p c h e =
+      let w = 2 ^ (2 * n) in
+      let kid : ℕ → ℕ = λ k. childOf id k in
+      let l : ℕ → List Child = λ k. part T n (kid k) .children in
+      let u = upTo (foundPart T n) w id 4 in
+      let d : (k : ℕ) → k < 4 → childrenIn (descend id (suc n)) w (foundPart T n (kid k) .present) (foundPart T n (kid k) .terminal) (w * k) ≡ l k = λ k g.
+      list-cong (descend id (suc n)) (descend (kid k) n) w (foundPart T n (kid k) .present) (foundPart T n (kid k) .terminal) (w * k) 0
+      (λ j x. let z : j ≡ 0 + j = omega arith in child-descend id L p n k j c h g ∙ ap (descend (kid k) n) z)
+      ∙ e k g in
+      ap (λ (m : ℕ). childrenIn (descend id (suc n)) m (u .present) (u .terminal) 0) (sym (four-w n))
+      ∙ up-list (descend id (suc n)) (foundPart T n) l w id (λ k g. part-small n (kid k)) d 4 (omega arith)
+      ∙ append-assoc (l 0 ++ l 1) (l 2) (l 3) ∙ append-assoc (l 0) (l 1) (l 2 ++ l 3)
+
+  part-list : (n id L p : ℕ) → IsCell id L p → L + n ≤ 30
+      → childrenIn (descend id n) (2 ^ (2 * n)) (foundPart T n id .present) (foundPart T n id .terminal) 0 ≡ part T n id .children
+  unfolding foundPart part
+  part-list zero id L p c h =
       let a : L + 0 ≡ L = omega arith in
       let b : 2 ^ (2 * 0) * p + 0 ≡ p = omega (arith, one-mul p) in
       let z : descend id 0 0 ≡ id = ap (λ (x : ℕ). descend x 0 0) (c .is) ∙ descend-id L p 0 0 (omega arith) ∙ ap₂ idOf a b ∙ sym (c .is) in
-      at-list (descend id 0) id (look q hits within id) z
-  found-list (suc n) id L p c h =
-      let w = 2 ^ (2 * n) in
-      let kid : ℕ → ℕ = λ k. childOf id k in
-      let l : ℕ → List Child = λ k. (elim (hits (kid k)) as (λ x. Expansion) [ true ↦ expand q hits within n (kid k) | false ↦ record { children = []; failed = kid k ∷ [] } ]) .children in
-      let s : (k : ℕ) → k < 4 → Small w (branch n (kid k)) = λ k g. branch-small w (kid k) (found q hits within n (kid k)) (found-small n (kid k)) in
-      let e : (k : ℕ) → k < 4 → listOf (descend id (suc n)) w (branch n (kid k) .present) (branch n (kid k) .terminal) (w * k) ≡ l k = λ k g.
-      list-cong (descend id (suc n)) (descend (kid k) n) w (branch n (kid k) .present) (branch n (kid k) .terminal) (w * k) 0
-      (λ j x. let z : j ≡ 0 + j = omega arith in child-descend id L p n k j c h g ∙ ap (descend (kid k) n) z)
-      ∙ branch-list (hits (kid k)) (found q hits within n (kid k)) (expand q hits within n (kid k)) (descend (kid k) n) w (kid k)
-      (found-list n (kid k) (L + 1) (4 * p + k) (child-cell k c (omega arith) g) (omega arith)) in
-      ap (λ (m : ℕ). listOf (descend id (suc n)) m (found q hits within (suc n) id .present) (found q hits within (suc n) id .terminal) 0) (sym (four-w n))
-      ∙ up-list (descend id (suc n)) (branch n) l w id s e 4 (omega arith)
-      ∙ append-assoc (l 0 ++ l 1) (l 2) (l 3) ∙ append-assoc (l 0) (l 1) (l 2 ++ l 3)
+      at-list (descend id 0) id (look T id) z
+  part-list (suc n) id L p c h = branch-list (T .hits id) (upTo (foundPart T n) (2 ^ (2 * n)) id 4) (fourOf (part T n) id) (descend id (suc n)) (2 ^ (2 * suc n)) id
+      (four-list n id L p c h (λ k g. part-list n (childOf id k) (L + 1) (4 * p + k) (child-cell k c (omega arith) g) (omega arith)))
+
+  -- the children are those of the sets, in ascending order, with their marks
+  pub found-list : (n id L p : ℕ) → IsCell id L p → L + n ≤ 30
+      → childrenIn (descend id n) (2 ^ (2 * n)) (found T n id .present) (found T n id .terminal) 0 ≡ expand T n id .children
+  unfolding found expand
+  found-list zero id L p c h = part-list zero id L p c h
+  found-list (suc n) id L p c h = four-list n id L p c h (λ k g. part-list n (childOf id k) (L + 1) (4 * p + k) (child-cell k c (omega arith) g) (omega arith))

@@ -8,7 +8,7 @@ use lib.Count.{trailingZeros}
 use Rattle.cellid.specs.CellId.{levelOf, childOf, leavesOf, holds, meets, lowBit, firstLeaf, lastLeaf}
 use Rattle.order.specs.Order.{insert}
 use Rattle.order.specs.Lex.{lexb, first}
-use Rattle.run.specs.Run.{Request, Outcome, refused, going, then, isEmpty, sumOf, look, join, fourOf, reached, ending, full, costOf, depth, expand, under, lifts, cost, byId, keep, enqueue, setAside, isFull, handsOn, add, addAll, stepWith, stepOn, step, startAs, startAll, placed, after, loop, run, rawIds, asideTotal}
+use Rattle.run.specs.Run.{Outcome, refused, going, then, isEmpty, sumOf, look, join, fourOf, reached, ending, full, costOf, depth, expand, expansionOf, lifts, cost, byId, keep, enqueue, setAside, isFull, isHandedOn, add, addAll, stepWith, stepOn, step, startAs, startAll, placed, after, loop, run, rawIds, asideTotal, Task, part, _by_}
 
 pub faces : List ℕ
 faces = 0x1000000000000000 ∷ 0x3000000000000000 ∷ 0x5000000000000000 ∷ 0x7000000000000000 ∷ 0x9000000000000000 ∷ 0xb000000000000000 ∷ []
@@ -27,8 +27,8 @@ rowOf (going s) = record { number = 0; raw = rawIds s; steps = s .steps; aside =
 -- max 30, mod 1
 pub asked : Bool → ℕ → ℕ → (ℕ → Bool) → (ℕ → Bool) → ℕ → Row
 asked inner min cells hits within allowance =
-    let q : Request = record { minLevel = min; maxLevel = 30; levelMod = 1; maxCells = cells; inner = inner } in
-    rowOf (run q hits within (byId q hits within) faces allowance)
+    let T : Task = record { asked = record { coverer = record { «min_level» = min; «max_level» = 30; «level_mod» = 1; «max_cells» = cells }; inner = inner }; hits = hits; within = within } in
+    rowOf (run (T by byId T) faces allowance)
 
 pub always : ℕ → Bool
 always id = true
@@ -48,5 +48,5 @@ pub rows :
     ≡ record { number = 0; raw = 0x1000000000000000 ∷ []; steps = 0; aside = 5764607523034234880 })  -- cell region face 0
     × (asked false 0 8 never never 100 .raw ≡ [])  -- empty cap: empty list,
     × (asked false 0 8 never never 100 .steps ≡ 0)  -- 0 steps
-unfolding run after loop step stepOn stepWith startAll startAs add addAll isFull handsOn lifts keep enqueue setAside byId cost costOf under expand reached look depth full fourOf join ending sumOf leavesOf isEmpty then placed rawIds asideTotal insert lexb first levelOf childOf lowBit trailingZeros meets holds firstLeaf lastLeaf faces rowOf asked always never
+unfolding run after loop step stepOn stepWith startAll startAs add addAll isFull isHandedOn lifts keep enqueue setAside byId cost costOf expansionOf expand part reached look depth full fourOf join ending sumOf leavesOf isEmpty then placed rawIds asideTotal insert lexb first levelOf childOf lowBit trailingZeros meets holds firstLeaf lastLeaf faces rowOf asked always never
 rows = (refl, refl, refl, refl, refl, refl, refl, refl, refl, refl)

@@ -8,11 +8,11 @@ use native.Mathlib.Omega.{arith}
 use lib.Dec.{leb, eqb}
 use lib.ListN.{length, getD}
 use borrow.Author.Tests.{lt-leb, eq-eqb, ne-eqb}
-use Rattle.cellid.specs.CellId.{IsCell, childOf, under}
+use Rattle.cellid.specs.CellId.{IsCell, childOf, hasLeaf, one}
 use Rattle.order.specs.Order.{All}
 use Rattle.order.proofs.OrderLaws.{which}
 use Rattle.run.specs.Run.{Grown, placed, sumOf}
-use Rattle.run.specs.Ground.{grownFrom, holding, one}
+use Rattle.run.specs.Ground.{grownFrom, timesCovered}
 use Rattle.run.proofs.Lists.{if-ok}
 use Rattle.run.proofs.Ground.{Additive}
 
@@ -88,10 +88,10 @@ sum-placed f k [] = refl
 sum-placed f k (x ∷ l) = ap (λ (n : ℕ). f x + n) (sum-placed f (suc k) l)
 
 -- of one start cell's cells no more hold the leaf n than of all
-pub held-le : (n i : ℕ) (l : List Grown) → sumOf (λ (c : Grown). at-start i (λ id. one (under id n)) (c .from) (c .id)) l ≤ holding (map (λ (c : Grown). c .id) l) n
-unfolding holding sumOf
+pub held-le : (n i : ℕ) (l : List Grown) → sumOf (λ (c : Grown). at-start i (λ id. one (hasLeaf id n)) (c .from) (c .id)) l ≤ timesCovered (map (λ (c : Grown). c .id) l) n
+unfolding timesCovered sumOf
 held-le n i [] = omega arith
-held-le n i (c ∷ l) = omega (arith, sel-le (eqb (c .from) i) (one (under (c .id) n)), held-le n i l)
+held-le n i (c ∷ l) = omega (arith, sel-le (eqb (c .from) i) (one (hasLeaf (c .id) n)), held-le n i l)
 
 pub all-from : (P : ℕ → Type 0) (i : ℕ) (l : List Grown) → All (λ (c : Grown). P (c .id)) l → All P (grownFrom i l)
 unfolding All grownFrom

@@ -1,6 +1,6 @@
 -- The set-aside total: how it grows, what one expansion adds to it, and that it fits 64 bits.
 use mathlib.Core.Path.{_≡_, ap, _∙_, subst}
-use mathlib.Core.Bool.{Bool, true, false}
+use mathlib.Core.Bool.{Bool, false}
 use mathlib.Core.List.{List, [], _∷_, map}
 use Prim.Native.Nat.{ℕ, zero, suc, _+_, _-_, _*_, _%_, _^_, _≤_, _<_}
 use native.Mathlib.Nat.{suc-mul}
@@ -11,7 +11,8 @@ use Rattle.cellid.specs.CellId.{IsCell, childOf, levelOf}
 use Rattle.cellid.proofs.Laws.{level-cell}
 use Rattle.cellid.proofs.Leaves.{child-cell}
 use Rattle.order.specs.Order.{All}
-use Rattle.run.specs.Run.{Request, Grown, Child, State, Expansion, Look, fails, none, terminal, divide, going, join, fourOf, reached, look, expand, setAside, after, asideTotal, sumOf, leavesOf}
+use Rattle.run.specs.Run.{Grown, Child, State, Expansion, Look, fails, none, terminal, divide, going, join, fourOf, reached, look, expand, setAside, after, asideTotal, sumOf, leavesOf, Task, minLevel, maxLevel, levelMod, part, _by_, failing}
+use Rattle.run.specs.declared.Request.{Request}
 use Rattle.run.specs.Ground.{Domain, Fit}
 use Rattle.order.proofs.OrderLaws.{all-append}
 use Rattle.run.proofs.Lists.{sum-append, sum-map, if-ok, rel-le, rel-eq}
@@ -38,15 +39,15 @@ sum-le [] = omega arith
 sum-le (x ∷ l) = omega (arith, leaves-le x, sum-le l)
 
 -- six start cells: the total fits 64 bits
-pub aside-fits : (q : Request) (D : Domain q) (hits within : ℕ → Bool) (lt : Grown → Grown → Bool) (starts : List ℕ) (ok : All (Fit q) starts) → length starts ≤ 6
-    → (n : ℕ) (s : State) → after q hits within lt starts n ≡ going s → asideTotal s < 2 ^ 64
+pub aside-fits : (T : Task) (D : Domain (T .asked)) (lt : Grown → Grown → Bool) (starts : List ℕ) (ok : All (Fit (T .asked)) starts) → length starts ≤ 6
+    → (n : ℕ) (s : State) → after (T by lt) starts n ≡ going s → asideTotal s < 2 ^ 64
 unfolding asideTotal
-aside-fits q D hits within lt starts ok six n s e =
-    let I = sums q D hits within lt starts ok n s e (λ i id. leavesOf id) (λ i id L p c l. leaves-add id L p c l) in
-    let r = rel-le (q .inner) _ _ (I .sum) in
+aside-fits T D lt starts ok six n s e =
+    let I = sums T D lt starts ok n s e (λ i id. leavesOf id) (λ i id L p c l. leaves-add id L p c l) in
+    let r = rel-le (T .asked .inner) _ _ (I .sum) in
     omega (arith, sum-placed leavesOf 0 starts, sum-le starts)
 
-module _ (q : Request) (hits within : ℕ → Bool) where
+module _ (T : Task) where
   -- all children stand at the level asked for
   reached-level : (id : ℕ) (v : Look) (L : ℕ) → levelOf id ≡ L → All (λ (k : Child). levelOf (k .id) ≡ L) (reached id v .children)
   unfolding reached All
@@ -62,20 +63,28 @@ module _ (q : Request) (hits within : ℕ → Bool) where
   unfolding join
   join-level M a b x y = record { all = all-append _ (a .children) (b .children) (x .all) (y .all) }
 
-  none-level : (M c : ℕ) → AtLevel M (record { children = []; failed = c ∷ [] })
+  none-level : (M c : ℕ) → AtLevel M (failing c)
   unfolding All
   none-level M c = record { all = tt }
 
-  pub expand-level : (n id L p : ℕ) → IsCell id L p → L + n ≤ 30 → AtLevel (L + n) (expand q hits within n id)
-  unfolding expand fourOf
-  expand-level zero id L p c h = record { all = reached-level id (look q hits within id) (L + 0) (level-cell id L p c ∙ omega arith) }
-  expand-level (suc n) id L p c h =
+  four-level : (n id L p : ℕ) → IsCell id L p → L + suc n ≤ 30 → ((k : ℕ) → k < 4 → AtLevel ((L + 1) + n) (part T n (childOf id k))) → AtLevel (L + suc n) (fourOf (part T n) id)
+  unfolding fourOf
+  four-level n id L p c h a =
       let e : (L + 1) + n ≡ L + suc n = omega arith in
-      let part : (k : ℕ) → k < 4 → AtLevel (L + suc n) (elim (hits (childOf id k)) [ true ↦ expand q hits within n (childOf id k) | false ↦ record { children = []; failed = childOf id k ∷ [] } ]) =
-      λ k g. if-ok (AtLevel (L + suc n)) (hits (childOf id k)) _ _
-      (λ t. subst (λ (m : ℕ). AtLevel m (expand q hits within n (childOf id k))) e (expand-level n (childOf id k) (L + 1) (4 * p + k) (child-cell k c (omega arith) g) (omega arith)))
-      (λ t. none-level (L + suc n) (childOf id k)) in
-      join-level _ _ _ (part 0 (omega arith)) (join-level _ _ _ (part 1 (omega arith)) (join-level _ _ _ (part 2 (omega arith)) (part 3 (omega arith))))
+      let b : (k : ℕ) → k < 4 → AtLevel (L + suc n) (part T n (childOf id k)) = λ k g. subst (λ (m : ℕ). AtLevel m (part T n (childOf id k))) e (a k g) in
+      join-level _ _ _ (b 0 (omega arith)) (join-level _ _ _ (b 1 (omega arith)) (join-level _ _ _ (b 2 (omega arith)) (b 3 (omega arith))))
+
+  part-level : (n id L p : ℕ) → IsCell id L p → L + n ≤ 30 → AtLevel (L + n) (part T n id)
+  unfolding part
+  part-level zero id L p c h = record { all = reached-level id (look T id) (L + 0) (level-cell id L p c ∙ omega arith) }
+  part-level (suc n) id L p c h = if-ok (AtLevel (L + suc n)) (T .hits id) _ _
+      (λ t. four-level n id L p c h (λ k g. part-level n (childOf id k) (L + 1) (4 * p + k) (child-cell k c (omega arith) g) (omega arith)))
+      (λ t. none-level (L + suc n) id)
+
+  pub expand-level : (n id L p : ℕ) → IsCell id L p → L + n ≤ 30 → AtLevel (L + n) (expand T n id)
+  unfolding expand
+  expand-level zero id L p c h = part-level zero id L p c h
+  expand-level (suc n) id L p c h = four-level n id L p c h (λ k g. part-level n (childOf id k) (L + 1) (4 * p + k) (child-cell k c (omega arith) g) (omega arith))
 
   sum-level : (M : ℕ) (l : List Child) → All (λ (k : Child). levelOf (k .id) ≡ M) l → sumOf (λ (k : Child). leavesOf (k .id)) l ≡ length l * 2 ^ (2 * (30 - M))
   unfolding sumOf All leavesOf
@@ -83,9 +92,9 @@ module _ (q : Request) (hits within : ℕ → Bool) where
   sum-level M (k ∷ l) a = rw (a .0) (omega (arith, sum-level M l (a .1), suc-mul (length l) (2 ^ (2 * (30 - M)))))
 
   -- outer: the leaves that failed, without looking at the cells that failed
-  pub failed-total : Domain q → q .inner ≡ false → (n id L p : ℕ) → IsCell id L p → L + n ≤ q .maxLevel → ((L + n) - q .minLevel) % q .levelMod ≡ 0
-      → sumOf leavesOf (expand q hits within n id .failed) ≡ leavesOf id - length (expand q hits within n id .children) * 2 ^ (2 * (30 - (L + n)))
+  pub failed-total : Domain (T .asked) → T .asked .inner ≡ false → (n id L p : ℕ) → IsCell id L p → L + n ≤ maxLevel (T .asked) → ((L + n) - minLevel (T .asked)) % levelMod (T .asked) ≡ 0
+      → sumOf leavesOf (expand T n id .failed) ≡ leavesOf id - length (expand T n id .children) * 2 ^ (2 * (30 - (L + n)))
   failed-total D o n id L p c h m =
-      let e = expand q hits within n id in
-      let x : sumOf (λ (k : Child). leavesOf (k .id)) (e .children) + sumOf leavesOf (e .failed) ≡ leavesOf id = rel-eq (q .inner) _ _ o (expand-ok q hits within leavesOf D leaves-add n id L p c h m .sum) in
+      let e = expand T n id in
+      let x : sumOf (λ (k : Child). leavesOf (k .id)) (e .children) + sumOf leavesOf (e .failed) ≡ leavesOf id = rel-eq (T .asked .inner) _ _ o (expand-ok T leavesOf D leaves-add n id L p c h m .sum) in
       omega (arith, sum-level (L + n) (e .children) (expand-level n id L p c (omega (arith, D .deep)) .all))

@@ -6,7 +6,7 @@ use Prim.Native.Nat.{ℕ, zero, suc, _+_, _-_, _*_, _/_, _%_, _^_}
 use lib.Dec.{eqb}
 use Rattle.cellid.specs.CellId.{childOf, lowBit}
 use Rattle.run.specs.declared.Found.{Found}
-use Rattle.run.specs.Run.{Request, Child, Look, fails, none, terminal, divide, look}
+use Rattle.run.specs.Run.{Task, Child, Look, fails, none, terminal, divide, look}
 
 -- the j-th cell n levels under id
 unfoldable pub descend : ℕ → ℕ → ℕ → ℕ
@@ -17,9 +17,9 @@ consIf true x l = x ∷ l
 consIf false x l = l
 
 -- the places from b on whose bit is set in p, w of them looked at, g telling the cell; t has the terminal marks
-unfoldable pub listOf : (ℕ → ℕ) → ℕ → ℕ → ℕ → ℕ → List Child
-listOf g zero p t b = []
-listOf g (suc w) p t b = consIf (eqb (p % 2) 1) (record { id = g b; ends = eqb (t % 2) 1 }) (listOf g w (p / 2) (t / 2) (suc b))
+unfoldable pub childrenIn : (ℕ → ℕ) → ℕ → ℕ → ℕ → ℕ → List Child
+childrenIn g zero p t b = []
+childrenIn g (suc w) p t b = consIf (eqb (p % 2) 1) (record { id = g b; ends = eqb (t % 2) 1 }) (childrenIn g w (p / 2) (t / 2) (suc b))
 
 abbrev pub noneFound : Found
 noneFound = record { present = 0; terminal = 0 }
@@ -40,7 +40,13 @@ unfoldable pub upTo : (ℕ → Found) → ℕ → ℕ → ℕ → Found
 upTo f w id zero = noneFound
 upTo f w id (suc k) = placeIn (upTo f w id k) (f (childOf id k)) w k
 
--- the sets of the expansion n levels down
-unfoldable pub found : Request → (ℕ → Bool) → (ℕ → Bool) → ℕ → ℕ → Found
-found q hits within zero id = foundAt (look q hits within id)
-found q hits within (suc n) id = upTo (λ c. elim (hits c) [ true ↦ found q hits within n c | false ↦ noneFound ]) (2 ^ (2 * n)) id 4
+module _ (T : Task) where
+  -- the sets of a cell on the way down, n levels above the level asked for
+  unfoldable pub foundPart : ℕ → ℕ → Found
+  foundPart zero c = foundAt (look T c)
+  foundPart (suc n) c = elim (T .hits c) [ true ↦ upTo (foundPart n) (2 ^ (2 * n)) c 4 | false ↦ noneFound ]
+
+  -- the sets of the expansion n levels down
+  unfoldable pub found : ℕ → ℕ → Found
+  found zero id = foundPart zero id
+  found (suc n) id = upTo (foundPart n) (2 ^ (2 * n)) id 4

@@ -14,7 +14,7 @@ use Rattle.cellunion.specs.CellUnion.{covers, pass, rev, normalise}
 use Rattle.cellunion.proofs.Norm.{normalise-same, normalise-again}
 use Rattle.ranges.specs.Ranges.{leaves}
 use Rattle.ranges.proofs.Inputs.{covers-end}
-use Rattle.ranges.proofs.Stretches.{covers-nil}
+use Rattle.cellunion.proofs.Lists.{covers-nil}
 use Rattle.ranges.proofs.Examples.{faces-cells, faces-leaves, faces-normal}
 use Rattle.sets.specs.Sets.{wants}
 use Rattle.sets.specs.Algebra.{Made, first, second, third, none, whole, by, listOf, test, agree, alike, laws, allAlike}

@@ -13,13 +13,13 @@ use Rattle.cellid.specs.CellId.{Cell}
 use Rattle.cellid.proofs.Laws.{and-true}
 use Rattle.order.specs.Order.{All}
 use Rattle.order.proofs.OrderLaws.{which}
-use Rattle.cellunion.specs.CellUnion.{Apart}
+use Rattle.cellunion.specs.CellUnion.{Apart, isList}
 use Rattle.ranges.specs.declared.Answer.{Answer}
-use Rattle.ranges.specs.Ranges.{isList, Result, refused, done, fitted, Answered}
-use Rattle.ranges.proofs.Inputs.{is-list→, is-list←}
+use Rattle.ranges.specs.Ranges.{Result, refused, done, fitted, Answered}
+use Rattle.cellunion.proofs.Lists.{is-list}
 use Rattle.ranges.proofs.Answers.{answered-refused, answered-full, answered-done, Fitted, fitted→, fitted←, fitted-list, written}
 use Rattle.sets.specs.declared.Op.{Op}
-use Rattle.sets.specs.Sets.{setOf, isPickList, setResult}
+use Rattle.sets.specs.Sets.{combined, isPickList, setResult}
 use Rattle.sets.specs.Steps.{isShort}
 use Rattle.sets.proofs.Lengths.{short-is}
 
@@ -41,14 +41,14 @@ pick-list l t = and-true (leb (length l) 4096) (isList l) t .1
 pub pick-is : (l : List ℕ) → (isPickList l ≡ true) ↔ ((length l ≤ 4096) × All Cell l × Apart l)
 unfolding isPickList
 pick-is l = (
-  λ t. (let r = and-true (leb (length l) 4096) (isList l) t in let T = is-list→ l (r .1) in (leb-true (length l) 4096 (r .0), T .0, T .1)),
-  λ T. rw (le-leb (length l) 4096 (T .0), is-list← l (T .1) (T .2)),
+  λ t. (let r = and-true (leb (length l) 4096) (isList l) t in let T = is-list l .0 (r .1) in (leb-true (length l) 4096 (r .0), T .0, T .1)),
+  λ T. rw (le-leb (length l) 4096 (T .0), is-list l .1 (T .1, T .2)),
 )
 
 -- ---- room for the answer
 
-pub room-sure : (op : Op) (a b : List ℕ) (room : ℕ) (s : Bool) → isPickList a ≡ true → isPickList b ≡ true → s ≡ isShort op → s ≡ true → length a + length b ≤ room → true ≡ leb (length (setOf op a b)) room
-room-sure op a b room s t u e h g = sym (le-leb (length (setOf op a b)) room (omega (arith, short-is op a b (is-list→ a (pick-list a t) .0) (is-list→ b (pick-list b u) .0) (sym e ∙ h))))
+pub room-sure : (op : Op) (a b : List ℕ) (room : ℕ) (s : Bool) → isPickList a ≡ true → isPickList b ≡ true → s ≡ isShort op → s ≡ true → length a + length b ≤ room → true ≡ leb (length (combined op a b)) room
+room-sure op a b room s t u e h g = sym (le-leb (length (combined op a b)) room (omega (arith, short-is op a b (is-list a .0 (pick-list a t) .0) (is-list b .0 (pick-list b u) .0) (sym e ∙ h))))
 
 -- ---- the four answers
 
@@ -61,7 +61,7 @@ module _ (op : Op) (a b : List ℕ) (room : ℕ) where
   unfolding setResult
   result-second t u = rw (setResult, t, u)
 
-  result-both : isPickList a ≡ true → isPickList b ≡ true → setResult op a b room ≡ fitted 17 (setOf op a b) room
+  result-both : isPickList a ≡ true → isPickList b ≡ true → setResult op a b room ≡ fitted 17 (combined op a b) room
   unfolding setResult
   result-both t u = rw (setResult, t, u)
 
@@ -73,25 +73,25 @@ module _ (op : Op) (a b out : List ℕ) (x : Bool) (ex : x ≡ isPickList a) whe
     pub answer-second : y ≡ false → Answered (setResult op a b (length out)) (Answer.Refused 16) out out
     answer-second u = rw (result-second op a b (length out) (sym ex ∙ t) (sym ey ∙ u)) (answered-refused 16 out)
 
-    module _ (u : y ≡ true) (v : Bool) (e : v ≡ leb (length (setOf op a b)) (length out)) where
+    module _ (u : y ≡ true) (v : Bool) (e : v ≡ leb (length (combined op a b)) (length out)) where
       pub answer-full : v ≡ false → Answered (setResult op a b (length out)) (Answer.Refused 17) out out
-      answer-full h = rw (result-both op a b (length out) (sym ex ∙ t) (sym ey ∙ u)) (answered-full 17 (setOf op a b) out (length (setOf op a b)) refl (leb-false (length (setOf op a b)) (length out) (sym e ∙ h)))
+      answer-full h = rw (result-both op a b (length out) (sym ex ∙ t) (sym ey ∙ u)) (answered-full 17 (combined op a b) out (length (combined op a b)) refl (leb-false (length (combined op a b)) (length out) (sym e ∙ h)))
 
-      pub answer-done : (r : ℕ) (out' : List ℕ) → v ≡ true → (r ≡ length (setOf op a b)) × (out' ≡ sets out 0 (setOf op a b)) → Answered (setResult op a b (length out)) (Answer.Done r) out out'
-      answer-done r out' h w = rw (result-both op a b (length out) (sym ex ∙ t) (sym ey ∙ u)) (answered-done 17 (setOf op a b) out (length (setOf op a b)) r out' refl (leb-true (length (setOf op a b)) (length out) (sym e ∙ h)) w)
+      pub answer-done : (r : ℕ) (out' : List ℕ) → v ≡ true → (r ≡ length (combined op a b)) × (out' ≡ sets out 0 (combined op a b)) → Answered (setResult op a b (length out)) (Answer.Done r) out out'
+      answer-done r out' h w = rw (result-both op a b (length out) (sym ex ∙ t) (sym ey ∙ u)) (answered-done 17 (combined op a b) out (length (combined op a b)) r out' refl (leb-true (length (combined op a b)) (length out) (sym e ∙ h)) w)
 
 -- ---- each answer exactly when paper 02 says so
 
 pub data Told (op : Op) (a b : List ℕ) (room : ℕ) : Result → Type 0 where
   first : isPickList a ≡ false → Told op a b room (refused 15)
   second : isPickList a ≡ true → isPickList b ≡ false → Told op a b room (refused 16)
-  both : {R : Result} → isPickList a ≡ true → isPickList b ≡ true → Fitted 17 (setOf op a b) room R → Told op a b room R
+  both : {R : Result} → isPickList a ≡ true → isPickList b ≡ true → Fitted 17 (combined op a b) room R → Told op a b room R
 
 module _ (op : Op) (a b : List ℕ) (room : ℕ) where
   told : Told op a b room (setResult op a b room)
   told = ⊎-elim
       (λ (t : isPickList a ≡ true). ⊎-elim
-      (λ (u : isPickList b ≡ true). rw (result-both op a b room t u) (both t u (fitted→ 17 (setOf op a b) room)))
+      (λ (u : isPickList b ≡ true). rw (result-both op a b room t u) (both t u (fitted→ 17 (combined op a b) room)))
       (λ (u : isPickList b ≡ false). rw (result-second op a b room t u) (second t u))
       (which (isPickList b)))
       (λ (t : isPickList a ≡ false). rw (result-first op a b room t) (first t))
@@ -100,7 +100,7 @@ module _ (op : Op) (a b : List ℕ) (room : ℕ) where
   given : (R : Result) → Told op a b room R → setResult op a b room ≡ R
   given _ (first t) = result-first op a b room t
   given _ (second t u) = result-second op a b room t u
-  given R (both t u F) = result-both op a b room t u ∙ fitted← 17 (setOf op a b) room R F
+  given R (both t u F) = result-both op a b room t u ∙ fitted← 17 (combined op a b) room R F
 
   pub exactly-when : (R : Result) → (setResult op a b room ≡ R) ↔ Told op a b room R
   exactly-when R = (λ e. subst (Told op a b room) e told, given R)
@@ -110,13 +110,13 @@ module _ (op : Op) (a b : List ℕ) (room : ℕ) where
 pub record Given (op : Op) (a b : List ℕ) (k : ℕ) (out' : List ℕ) : Type 0 where
   pub first : isPickList a ≡ true
   pub second : isPickList b ≡ true
-  pub count : k ≡ length (setOf op a b)
-  pub is : take k out' ≡ setOf op a b
+  pub count : k ≡ length (combined op a b)
+  pub is : take k out' ≡ combined op a b
 
-told-list : (op : Op) (a b l : List ℕ) (room : ℕ) (R : Result) → Told op a b room R → R ≡ done l → (isPickList a ≡ true) × (isPickList b ≡ true) × (l ≡ setOf op a b)
+told-list : (op : Op) (a b l : List ℕ) (room : ℕ) (R : Result) → Told op a b room R → R ≡ done l → (isPickList a ≡ true) × (isPickList b ≡ true) × (l ≡ combined op a b)
 told-list op a b l room _ (first t) e = let z : _≡_ {A = ℕ} 0 1 = cc in absurd (omega arith)
 told-list op a b l room _ (second t u) e = let z : _≡_ {A = ℕ} 0 1 = cc in absurd (omega arith)
-told-list op a b l room R (both t u F) e = (t, u, fitted-list 17 (setOf op a b) l room (fitted← 17 (setOf op a b) room R F ∙ e))
+told-list op a b l room R (both t u F) e = (t, u, fitted-list 17 (combined op a b) l room (fitted← 17 (combined op a b) room R F ∙ e))
 
 pub set-written : (op : Op) (a b : List ℕ) (k : ℕ) (out out' : List ℕ) → Answered (setResult op a b (length out)) (Answer.Done k) out out' → Given op a b k out'
 set-written op a b k out out' A =

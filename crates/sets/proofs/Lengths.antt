@@ -15,23 +15,23 @@ use Rattle.cellunion.proofs.Spans.{span, In, Nest, left, right, inside, around,
 use Rattle.cellunion.proofs.Unique.{all-at, covers→, covers←, full, apart-one}
 use Rattle.cellunion.proofs.Denorm.{member-append←}
 use Rattle.cellunion.proofs.Short.{held-short}
-use Rattle.ranges.proofs.Stretches.{covers-append}
+use Rattle.cellunion.proofs.Lists.{covers-append}
 use Rattle.ranges.proofs.Tiles.{and-both}
-use Rattle.sets.specs.Sets.{wants, setOf}
+use Rattle.sets.specs.Sets.{wants, combined}
 use Rattle.sets.specs.Steps.{isShort}
 use Rattle.sets.specs.declared.Op.{Op}
 use Rattle.sets.proofs.Laws.{set-normal, set-shortest, common-leaves}
 
 module _ (a b : List ℕ) (A : All Cell a) (B : All Cell b) where
   -- an output with room for both lists has room for their union ..
-  pub union-short : length (setOf Op.Union a b) ≤ length a + length b
+  pub union-short : length (combined Op.Union a b) ≤ length a + length b
   unfolding wants
   union-short = omega (arith, set-shortest Op.Union a b A B (a ++ b) (all-append Cell a b A B) (covers-append a b), length-append a b)
 
   -- a cell of both lists' ground around a cell y of their common part is y
-  is-whole : (y x : ℕ) → Member y (setOf Op.Common a b) → Cell x → In y x → ((n : ℕ) → lo x ≤ n → n < hi x → (covers a n ≡ true) × (covers b n ≡ true)) → In x y
+  is-whole : (y x : ℕ) → Member y (combined Op.Common a b) → Cell x → In y x → ((n : ℕ) → lo x ≤ n → n < hi x → (covers a n ≡ true) × (covers b n ≡ true)) → In x y
   is-whole y x m X i f =
-      let S = setOf Op.Common a b in
+      let S = combined Op.Common a b in
       let N = set-normal Op.Common a b A B in
       let h = full S N x X (λ n p q. let w = f n p q in common-leaves a b A B n ∙ and-both (covers a n) (covers b n) (w .0) (w .1)) in
       let s = span (all-at Cell S (N .cells) y m) in
@@ -39,7 +39,7 @@ module _ (a b : List ℕ) (A : All Cell a) (B : All Cell b) where
       (omega (arith, h .2 .0, ap lo e), omega (arith, h .2 .1, ap hi e))
 
   -- one of two cells that share the leaf lo y, of one list each, lies in y
-  module _ (y x z : ℕ) (m : Member y (setOf Op.Common a b)) (mx : Member x a) (mz : Member z b) (X : Cell x) (Z : Cell z) (Y : Cell y) (p : (lo x ≤ lo y) × (lo y < hi x)) (q : (lo z ≤ lo y) × (lo y < hi z)) where
+  module _ (y x z : ℕ) (m : Member y (combined Op.Common a b)) (mx : Member x a) (mz : Member z b) (X : Cell x) (Z : Cell z) (Y : Cell y) (p : (lo x ≤ lo y) × (lo y < hi x)) (q : (lo z ≤ lo y) × (lo y < hi z)) where
     abbrev Found : Type 0
     Found = (r : ℕ) × Member r (a ++ b) × Cell r × In r y
 
@@ -62,9 +62,9 @@ module _ (a b : List ℕ) (A : All Cell a) (B : All Cell b) where
     in-cell (around i) = first-around i (nest Z Y)
 
   -- .. and for their common part: each of its cells has a cell of one of the lists inside it
-  pub common-short : length (setOf Op.Common a b) ≤ length a + length b
+  pub common-short : length (combined Op.Common a b) ≤ length a + length b
   common-short =
-      let S = setOf Op.Common a b in
+      let S = combined Op.Common a b in
       let N = set-normal Op.Common a b A B in
       omega (
         arith,
@@ -80,7 +80,7 @@ module _ (a b : List ℕ) (A : All Cell a) (B : All Cell b) where
       )
 
 -- so where an answer is said to be short, it is
-pub short-is : (op : Op) (a b : List ℕ) → All Cell a → All Cell b → isShort op ≡ true → length (setOf op a b) ≤ length a + length b
+pub short-is : (op : Op) (a b : List ℕ) → All Cell a → All Cell b → isShort op ≡ true → length (combined op a b) ≤ length a + length b
 unfolding isShort
 short-is Op.Union a b A B t = union-short a b A B
 short-is Op.Common a b A B t = common-short a b A B

@@ -12,19 +12,19 @@ use borrow.Author.Tests.{leb-true, leb-false, le-leb, lt-leb, ltb-true, ltb-fals
 use Rattle.cellid.specs.CellId.{Cell}
 use Rattle.order.specs.Order.{All}
 use Rattle.order.proofs.OrderLaws.{which}
-use Rattle.cellunion.specs.CellUnion.{lo, hi, covers, Apart}
+use Rattle.cellunion.specs.CellUnion.{lo, hi, covers, Apart, isList}
 use Rattle.cellunion.proofs.Spans.{span}
 use Rattle.cellunion.proofs.Counts.{hi-le}
 use Rattle.cellunion.proofs.Unique.{all-at, at-all}
-use Rattle.ranges.specs.Ranges.{leaves, isList, tile}
+use Rattle.ranges.specs.Ranges.{leaves, tile}
 use Rattle.ranges.specs.Stretches.{stretches}
 use Rattle.ranges.proofs.Tiles.{clash, tile-nil, tiled}
-use Rattle.ranges.proofs.Stretches.{covers-nil, rest, skip-yes, skip-no, rest-end, rest-same}
-use Rattle.ranges.proofs.Inputs.{is-list→, head-in, head-out, apart-from, before-first}
+use Rattle.ranges.proofs.Stretches.{rest, skip-yes, skip-no, rest-end, rest-same}
+use Rattle.cellunion.proofs.Lists.{is-list, covers-nil, head-in, head-out, apart-from, before-first}
 use Rattle.cellid.proofs.Puts.{next-of, none-left, Put, put-part, put-last}
 use Rattle.sets.specs.declared.Cursor.{Cursor}
 use Rattle.sets.specs.declared.Op.{Op}
-use Rattle.sets.specs.Sets.{wants, wanted, setOf}
+use Rattle.sets.specs.Sets.{wants, wanted, combined}
 use Rattle.sets.specs.Steps.{begun, edge, cursorAt, nextPlace, movedTo, doneWith, openFrom}
 
 -- ---- one list: the cells to come, which all end after p
@@ -36,7 +36,7 @@ pub record Ahead (l : List ℕ) (p : ℕ) : Type 0 where
 
 pub ahead-start : (l : List ℕ) → isList l ≡ true → Ahead l 0
 ahead-start l t =
-    let T = is-list→ l t in
+    let T = is-list l .0 t in
     record { cells = T .0; apart = T .1; after = at-all (λ y. 0 < hi y) l (λ y m. let s = span (all-at Cell l (T .0) y m) in omega arith) }
 
 -- the list has the leaf p if its next cell has begun
@@ -255,10 +255,10 @@ pub record Sweeping (op : Op) (a b out₀ out : List ℕ) (x y : Cursor) (s p at
   pub world : p ≤ leaves
   pub low : at ≤ s
   pub len : length out ≡ length out₀
-  pub put : Put at 0 (rest tile (wanted op (drop (x .at) a) (drop (y .at) b)) leaves s p) (setOf op a b) out out₀
+  pub put : Put at 0 (rest tile (wanted op (drop (x .at) a) (drop (y .at) b)) leaves s p) (combined op a b) out out₀
 
 pub sweep-start : (op : Op) (a b out : List ℕ) (x y : Cursor) → isList a ≡ true → isList b ≡ true → x ≡ cursorAt a 0 0 → y ≡ cursorAt b 0 0 → Sweeping op a b out out x y 0 0 0
-unfolding setOf stretches cursorAt
+unfolding combined stretches cursorAt
 sweep-start op a b out x y t u ex ey = rw (ex, ey) (record {
   first = stands-start a (cursorAt a 0 0) t refl;
   second = stands-start b (cursorAt b 0 0) u refl;
@@ -307,13 +307,13 @@ sweep-turn op a b out₀ out x y s p at want q at' out' s' x' y' G h ew eq w es 
       world = o .1;
       low = omega (arith, l .0);
       len = ap length (w .1) ∙ length-sets out at (doneWith want s p) ∙ G .len;
-      put = put-part at 0 (doneWith want s p) (rest tile g leaves s' q) (rest tile f leaves s p) (setOf op a b) out out₀ at' out' (G .put) step (w .0) (w .1);
+      put = put-part at 0 (doneWith want s p) (rest tile g leaves s' q) (rest tile f leaves s p) (combined op a b) out out₀ at' out' (G .put) step (w .0) (w .1);
     }
 
-pub sweep-done : (op : Op) (a b out₀ out : List ℕ) (x y : Cursor) (s p at r : ℕ) (out' : List ℕ) → Sweeping op a b out₀ out x y s p at → leaves ≤ p → (r ≡ at + length (tile s p)) × (out' ≡ sets out at (tile s p)) → (r ≡ length (setOf op a b)) × (out' ≡ sets out₀ 0 (setOf op a b))
+pub sweep-done : (op : Op) (a b out₀ out : List ℕ) (x y : Cursor) (s p at r : ℕ) (out' : List ℕ) → Sweeping op a b out₀ out x y s p at → leaves ≤ p → (r ≡ at + length (tile s p)) × (out' ≡ sets out at (tile s p)) → (r ≡ length (combined op a b)) × (out' ≡ sets out₀ 0 (combined op a b))
 sweep-done op a b out₀ out x y s p at r out' G h w =
     let f = wanted op (drop (x .at) a) (drop (y .at) b) in
     let e : p ≡ leaves = omega (arith, G .world) in
     let z : rest tile f leaves s p ≡ tile s p = ap (rest tile f leaves s) e ∙ rest-end tile f leaves s ∙ ap (tile s) (sym e) in
-    let q = put-last at 0 (rest tile f leaves s p) (setOf op a b) out out₀ r out' (G .put) (w .0 ∙ ap (λ (l : List ℕ). at + length l) (sym z)) (w .1 ∙ ap (sets out at) (sym z)) in
+    let q = put-last at 0 (rest tile f leaves s p) (combined op a b) out out₀ r out' (G .put) (w .0 ∙ ap (λ (l : List ℕ). at + length l) (sym z)) (w .1 ∙ ap (sets out at) (sym z)) in
     (omega (arith, q .0), q .1)

@@ -4,7 +4,7 @@ use mathlib.Core.Bool.{Bool, true, false, _&&_, Bool·beq}
 use mathlib.Core.List.{List, [], _∷_}
 use Prim.Native.Nat.{ℕ}
 use Rattle.ranges.specs.Ranges.{faces}
-use Rattle.sets.specs.Sets.{wants, setOf}
+use Rattle.sets.specs.Sets.{wants, combined}
 use Rattle.sets.specs.declared.Op.{Op}
 use Rattle.sets.specs.declared.Op.the-variants.{Union, Common, Difference}
 
@@ -24,7 +24,7 @@ listOf a b c second = b
 listOf a b c third = c
 listOf a b c none = []
 listOf a b c whole = faces
-listOf a b c (by op s t) = setOf op (listOf a b c s) (listOf a b c t)
+listOf a b c (by op s t) = combined op (listOf a b c s) (listOf a b c t)
 
 -- whether it has a leaf, by whether the three have it
 unfoldable pub test : Made → Bool → Bool → Bool → Bool

@@ -4,8 +4,8 @@ use mathlib.Core.List.{List}
 use Prim.Native.Nat.{ℕ}
 use lib.ListN.{length}
 use lib.Dec.{leb}
-use Rattle.cellunion.specs.CellUnion.{covers}
-use Rattle.ranges.specs.Ranges.{isList, tile, Result, refused, fitted}
+use Rattle.cellunion.specs.CellUnion.{covers, isList}
+use Rattle.ranges.specs.Ranges.{tile, Result, refused, fitted}
 use Rattle.ranges.specs.Stretches.{stretches}
 use Rattle.sets.specs.declared.Op.{Op}
 use Rattle.sets.specs.declared.Op.the-variants.{Union, Common, Difference}
@@ -22,8 +22,8 @@ wanted op a b n = wants op (covers a n) (covers b n)
 
 -- all leaves are gone through in order, and each stretch of those that are wanted becomes its largest cells. "The answer is normalised, and its leaves are
 -- exactly those" (proofs/Laws: it is normal, has these leaves, and no other list does)
-unfoldable pub setOf : Op → List ℕ → List ℕ → List ℕ
-setOf op a b = stretches tile (wanted op a b)
+unfoldable pub combined : Op → List ℕ → List ℕ → List ℕ
+combined op a b = stretches tile (wanted op a b)
 
 -- "valid, ascending and free of overlap, up to 4,096 ids"
 unfoldable pub isPickList : List ℕ → Bool
@@ -35,6 +35,6 @@ setResult op a b room = elim (isPickList a) [
   | false ↦ refused 15
   | true ↦ elim (isPickList b) [
     | false ↦ refused 16
-    | true ↦ fitted 17 (setOf op a b) room
+    | true ↦ fitted 17 (combined op a b) room
   ]
 ]

@@ -9,9 +9,9 @@ ghost use lib.Seq.{sets};
 ghost use lib.Dec.{leb};
 ghost use Rattle.cellid.specs.CellId.{Cell};
 ghost use Rattle.order.specs.Order.{All};
-ghost use Rattle.cellunion.specs.CellUnion.{lo, hi};
-ghost use Rattle.ranges.specs.Ranges.{leaves, isList, Answered};
-ghost use Rattle.sets.specs.Sets.{wants, setOf, isPickList, setResult};
+ghost use Rattle.cellunion.specs.CellUnion.{lo, hi, isList};
+ghost use Rattle.ranges.specs.Ranges.{leaves, Answered};
+ghost use Rattle.sets.specs.Sets.{wants, combined, isPickList, setResult};
 ghost use Rattle.sets.specs.Steps.{cursorAt, movedTo, doneWith, openFrom, isShort};
 use ranges::Answer;
 
@@ -126,7 +126,7 @@ fn open_from(want: bool, s: u64, q: u64) -> u64
 // Writes the answer, as far as there are places; gives its length.
 fn sweep(op: Op, a: &[u64], b: &[u64], out: &mut [u64]) -> usize
     requires { ⌜ (isList (now a) ≡ true) × (isList (now b) ≡ true) ⌝ }
-    ensures { λ r. ⌜ (r ≡ length (setOf op (now (a .entry)) (now (b .entry)))) × (now (out .exit) ≡ sets (now (out .entry)) 0 (setOf op (now (a .entry)) (now (b .entry)))) ⌝ }
+    ensures { λ r. ⌜ (r ≡ length (combined op (now (a .entry)) (now (b .entry)))) × (now (out .exit) ≡ sets (now (out .entry)) 0 (combined op (now (a .entry)) (now (b .entry)))) ⌝ }
 {
     let mut first = cursor_at(a, 0, 0);
     let mut second = cursor_at(b, 0, 0);
@@ -148,7 +148,7 @@ fn sweep(op: Op, a: &[u64], b: &[u64], out: &mut [u64]) -> usize
 // How long the answer is.
 fn count(op: Op, a: &[u64], b: &[u64]) -> usize
     requires { ⌜ (isList (now a) ≡ true) × (isList (now b) ≡ true) ⌝ }
-    ensures { λ r. ⌜ r ≡ length (setOf op (now (a .entry)) (now (b .entry))) ⌝ }
+    ensures { λ r. ⌜ r ≡ length (combined op (now (a .entry)) (now (b .entry))) ⌝ }
 {
     let mut none: [u64; 1] = [0; 1];
     sweep(op, a, b, &mut none)
@@ -168,7 +168,7 @@ fn is_short(op: Op) -> bool
 // Whether an output of so many places has room for the answer: where the lists' lengths don't tell, its cells are counted.
 fn has_room(op: Op, a: &[u64], b: &[u64], room: usize) -> bool
     requires { ⌜ (isPickList (now a) ≡ true) × (isPickList (now b) ≡ true) ⌝ }
-    ensures { λ r. ⌜ r ≡ leb (length (setOf op (now (a .entry)) (now (b .entry)))) room ⌝ }
+    ensures { λ r. ⌜ r ≡ leb (length (combined op (now (a .entry)) (now (b .entry)))) room ⌝ }
 {
     if is_short(op) {
         if a.len() + b.len() <= room {
@@ -183,7 +183,7 @@ fn is_pick_list(l: &[u64]) -> bool
     ensures { λ r. ⌜ r ≡ isPickList (now (l .entry)) ⌝ }
 {
     if l.len() <= 4096 {
-        ranges::is_list(l)
+        cellunion::is_valid(l)
     } else {
         false
     }

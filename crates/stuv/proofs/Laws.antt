@@ -7,7 +7,7 @@ use lib.Dec.{lit<}
 use lib.Ieee.{lt}
 use Rattle.point.specs.Floats.{zeroF, absOf}
 use Rattle.point.specs.declared.Point.{Point}
-use Rattle.stuv.specs.Projection.{axisOf, alongAxis, faceOf}
+use Rattle.stuv.specs.Projection.{axisOf, alongAxis, faceToward}
 
 larger : (a b c : Bool) → cond a (cond b 2 1) (cond c 2 0) < 3
 larger true true c = lit< tt
@@ -24,8 +24,8 @@ sided true n h = omega arith
 sided false n h = omega arith
 
 -- of every vector, NaNs and infinities among its components or not
-pub face-lt : (r : Point) → faceOf r < 6
-unfolding faceOf
+pub face-lt : (r : Point) → faceToward r < 6
+unfolding faceToward
 face-lt r = sided (lt (alongAxis (axisOf r) r) zeroF) (axisOf r) (axis-lt r)
 
 -- what is left of a match on a face

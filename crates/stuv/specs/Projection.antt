@@ -35,8 +35,8 @@ alongAxis (suc zero) r = r .y
 alongAxis (suc (suc n)) r = r .z
 
 -- the face that a vector points to: 3 more than the axis where the component is negative
-unfoldable pub faceOf : Point → ℕ
-faceOf r = cond (lt (alongAxis (axisOf r) r) zeroF) (axisOf r + 3) (axisOf r)
+unfoldable pub faceToward : Point → ℕ
+faceToward r = cond (lt (alongAxis (axisOf r) r) zeroF) (axisOf r + 3) (axisOf r)
 
 -- the entry of a face in a row of six
 abbrev pub atFace : {A : Type 0} → ℕ → A → A → A → A → A → A → A
@@ -65,7 +65,7 @@ uvAt face r =
     (uv (neg (r .y) ⊘ r .z) (neg (r .x) ⊘ r .z))
 
 unfoldable pub xyzToFaceUv : Point → FaceUv
-xyzToFaceUv r = record { face = faceOf r; u = uvAt (faceOf r) r .u; v = uvAt (faceOf r) r .v }
+xyzToFaceUv r = record { face = faceToward r; u = uvAt (faceToward r) r .u; v = uvAt (faceToward r) r .v }
 
 unfoldable pub faceUvToXyz : ℕ → Float → Float → Point
 faceUvToXyz face u v =

@@ -6,7 +6,7 @@ ghost use mathlib.Core.Bool.{cond};
 ghost use Prim.Native.Nat.{_+_, _<_};
 ghost use lib.Ieee.{lt};
 ghost use Rattle.point.specs.Floats.{zeroF};
-ghost use Rattle.stuv.specs.Projection.{stToUv, uvToSt, faceOf, uvAt, xyzToFaceUv, faceUvToXyz, behind, faceXyzToUv, uNorm, vNorm};
+ghost use Rattle.stuv.specs.Projection.{stToUv, uvToSt, faceToward, uvAt, xyzToFaceUv, faceUvToXyz, behind, faceXyzToUv, uNorm, vNorm};
 use point::Point;
 
 // A place on a face.
@@ -50,7 +50,7 @@ pub fn uv_to_st(u: f64) -> f64
 // The face that a vector points to, 0 to 5; of components of one size the first decides, and a NaN is
 // larger than none and smaller than none.
 fn face(r: Point) -> u64
-    ensures { λ f. ⌜ f ≡ faceOf r ⌝ }
+    ensures { λ f. ⌜ f ≡ faceToward r ⌝ }
 {
     let x = point::abs(r.x);
     let y = point::abs(r.y);

@@ -1,6 +1,6 @@
 -- Laws of `specs/Text.antt`: loops over bytes, words and numbers, one after another, and what a field comes to, there or not.
 use mathlib.Core.Path.{_≡_, refl, sym, ap, _∙_}
-use mathlib.Core.Bool.{Bool, true, false, not, cond, _&&_, and-assoc}
+use mathlib.Core.Bool.{Bool, true, false, not, cond, _&&_, and-assoc, true≢false}
 use mathlib.Core.List.{List, [], _∷_, _++_, append-assoc, append-nil}
 use Prim.Native.Nat.{ℕ, zero, suc, _+_, _-_, _*_, _^_, _≤_, _<_}
 use native.Mathlib.Omega.{arith}
@@ -11,13 +11,13 @@ use native.Mathlib.Nat.{add-zero, zero-add, sub-zero, suc-mul, mul-le-mul, pow-s
 use lib.Dec.{leb, ltb, eqb}
 use lib.ListN.{length, getD, take, drop, set, drop-of-length-le, length-set, length-drop}
 use lib.Seq.{drop-cons, getD-drop, take-suc, take-suc-set, take-all, length-take-le}
-use borrow.Author.Tests.{lt-ltb, le-ltb, le-leb, lt-leb, eq-eqb, ne-eqb}
+use borrow.Author.Tests.{ltb-true, lt-ltb, le-ltb, le-leb, lt-leb, eq-eqb, ne-eqb}
 use Rattle.text.specs.declared.Base.{Base}
 use Rattle.text.specs.declared.Fault.{Fault}
 use Rattle.text.specs.declared.Field.{Field}
 use Rattle.text.specs.declared.Place.{Place}
 use Rattle.text.specs.declared.Read.{Read}
-use Rattle.text.specs.Text.{digitOf, allDigits, valueFrom, isBlank, leading, Spells, fieldAs, isThere, until, startAt, fieldAt, fieldNo, bytesOf, same, placeAmong, faulty, limited, numberOf, numberIn, numberAfter, numbersAfter, listAfter, ReadList, chosen, choiceAfter, endAfter, isPlain, allPlain, isSilent}
+use Rattle.text.specs.Text.{digitOf, allDigits, valueFrom, isBlank, leading, Spells, Stopped, fieldAs, isThere, until, startAt, fieldAt, fieldNo, bytesOf, same, placeAmong, faulty, limited, numberOf, numberIn, numberAfter, numbersAfter, listAfter, ReadList, chosen, choiceAfter, endAfter, isPlain, allPlain, isSilent}
 use Rattle.text.proofs.Laws.{leading-end, leading-go, limited-over, limited-in}
 
 -- ---- bytes
@@ -187,6 +187,36 @@ module _ (base : ℕ) (l : List ℕ) (from to n d : ℕ) (small : base ≤ 16) (
         value = rw (k, t, value-then base 0 (take (to - from) (drop from l)) _, S .value, e);
         parted = S .parted ∙ rw (leading-go false l to h (rw (digit-whole (getD l to 0) (omega arith)) refl)) (omega arith);
       }
+
+-- ---- digits that are read to their end: there is one such end
+
+both : (a b : Bool) → (a && b) ≡ true → (a ≡ true) × (b ≡ true)
+both true b e = (refl, e)
+both false b e = absurd (true≢false (sym e))
+
+digit-at : (base : ℕ) (l : List ℕ) (m k : ℕ) → k < m → k < length l → allDigits base (take m l) ≡ true → digitOf (getD l k 0) < base
+unfolding allDigits
+digit-at base [] m k h g t = absurd (omega arith)
+digit-at base (b ∷ l) zero k h g t = absurd (omega arith)
+digit-at base (b ∷ l) (suc m) zero h g t = ltb-true _ _ (both (ltb (digitOf b) base) (allDigits base (take m l)) t .0)
+digit-at base (b ∷ l) (suc m) (suc k) h g t = digit-at base l m k (omega arith) (omega arith) (both (ltb (digitOf b) base) (allDigits base (take m l)) t .1)
+
+module _ (base : ℕ) (l : List ℕ) (from : ℕ) where
+  not-before : (to n to′ n′ : ℕ) → Spells base l from to n → Stopped base l from to → Spells base l from to′ n′ → to < to′ → ⊥
+  not-before to n to′ n′ S E S′ h =
+      let q : from + (to - from) ≡ to = omega (arith, S .order) in
+      let d : digitOf (getD (drop from l) (to - from) 0) < base = digit-at base (drop from l) (to′ - from) (to - from) (omega (arith, S .order)) (simp length-drop (omega (arith, S .order, S′ .within))) (S′ .digits) in
+      let e : getD (drop from l) (to - from) 0 ≡ getD l to 0 = rw q at (getD-drop from l (to - from) 0) in
+      let o : base ≤ digitOf (getD l to 0) = E (omega (arith, S′ .within)) (omega (arith, S′ .few)) in
+      omega (arith, ap digitOf e)
+
+  -- any two results that the contract of `read_digits` allows are one
+  pub spells-once : (to n to′ n′ : ℕ) → Spells base l from to n → Stopped base l from to → Spells base l from to′ n′ → Stopped base l from to′ → (to ≡ to′) × (n ≡ n′)
+  spells-once to n to′ n′ S E S′ E′ =
+      let a : to < to′ → ⊥ = not-before to n to′ n′ S E S′ in
+      let b : to′ < to → ⊥ = not-before to′ n′ to n S′ E′ S in
+      let e : to ≡ to′ = omega arith in
+      (e, sym (S .value) ∙ ap (λ (x : ℕ). valueFrom base 0 (take (x - from) (drop from l))) e ∙ S′ .value)
 
 -- ---- the next field, there or not
 

@@ -12,10 +12,10 @@ use borrow.Author.Tests.{leb-true, leb-false, le-leb, lt-leb}
 use Rattle.cellid.specs.CellId.{validId}
 use Rattle.tokens.specs.declared.Form.{Form}
 use Rattle.tokens.specs.declared.Answer.{Answer}
-use Rattle.tokens.specs.Tokens.{linesOf, idsOf, Seen, sound, bad, seen, Result, malformed, noRoom, done, resultOf, writeResult, readResult, answerOf, outputAfter, Answered}
+use Rattle.tokens.specs.Tokens.{linesOf, idsOf, Seen, sound, bad, seen, Result, malformed, noRoom, done, resultOf, writeResult, readResult, tokenAnswer, outputAfter, Answered}
 use Rattle.tokens.specs.Texts.{AllValid, none, more, FirstBad, here, next, Readable, BadLine}
 use Rattle.tokens.proofs.Turns.{seen-go, seen-bad}
-use Rattle.tokens.proofs.Laws.{never, read-written, written-read, readable, bad-line}
+use Rattle.tokens.proofs.Laws.{read-written, written-read, readable, bad-line}
 
 -- ---- what was seen
 
@@ -92,8 +92,8 @@ malformed-line form text room n = (
   where
     first : (R : Result) (n : ℕ) → R ≡ malformed n → Told (idsOf form text) (idsOf form text) room R → BadLine form text n
     first _ n e (is-11 m f) = let g : m ≡ n = cc in rw g at (bad-line form text m .0 f)
-    first _ n e (is-12 a h) = let z : _≡_ {A = ℕ} 0 1 = cc in never z
-    first _ n e (is-0 a h) = let z : _≡_ {A = ℕ} 0 1 = cc in never z
+    first _ n e (is-12 a h) = let z : _≡_ {A = ℕ} 0 1 = cc in absurd (omega arith)
+    first _ n e (is-0 a h) = let z : _≡_ {A = ℕ} 0 1 = cc in absurd (omega arith)
 
 -- .. and a list exactly if every line is a name of a valid id, ended by a newline, and there is room
 pub readable-when : (form : Form) (text : List ℕ) (room : ℕ) → (readResult form text room ≡ done (idsOf form text)) ↔ (Readable form text × (length (idsOf form text) ≤ room))
@@ -103,15 +103,15 @@ readable-when form text room = (
 )
   where
     whole : (R : Result) → R ≡ done (idsOf form text) → Told (idsOf form text) (idsOf form text) room R → Readable form text × (length (idsOf form text) ≤ room)
-    whole _ e (is-11 m f) = let z : _≡_ {A = ℕ} 0 1 = cc in never z
-    whole _ e (is-12 a h) = let z : _≡_ {A = ℕ} 0 1 = cc in never z
+    whole _ e (is-11 m f) = let z : _≡_ {A = ℕ} 0 1 = cc in absurd (omega arith)
+    whole _ e (is-12 a h) = let z : _≡_ {A = ℕ} 0 1 = cc in absurd (omega arith)
     whole _ e (is-0 a h) = (readable form text .0 a, h)
 
 -- ---- what a caller may read
 
 -- "the output unchanged in both"
 pub unchanged : (R : Result) (a : Answer) (out out' : List ℕ) → ((n : ℕ) → a ≡ Answer.Done n → ⊥) → Answered R a out out' → out' ≡ out
-unfolding answerOf outputAfter
+unfolding tokenAnswer outputAfter
 unchanged (malformed k) a out out' h A = A .output
 unchanged noRoom a out out' h A = A .output
 unchanged (done l) a out out' h A = absurd (h (length l) (A .answer))
@@ -125,9 +125,9 @@ pub record Written (R : Result) (n : ℕ) (out' : List ℕ) : Type 0 where
   pub within : n ≤ length out'
 
 pub written : (R : Result) (n : ℕ) (out out' : List ℕ) → Answered R (Answer.Done n) out out' → Written R n out'
-unfolding answerOf outputAfter
-written (malformed k) n out out' A = let e = A .answer in let z : _≡_ {A = ℕ} 0 1 = cc in never z
-written noRoom n out out' A = let e = A .answer in let z : _≡_ {A = ℕ} 0 1 = cc in never z
+unfolding tokenAnswer outputAfter
+written (malformed k) n out out' A = let e = A .answer in let z : _≡_ {A = ℕ} 0 1 = cc in absurd (omega arith)
+written noRoom n out out' A = let e = A .answer in let z : _≡_ {A = ℕ} 0 1 = cc in absurd (omega arith)
 written (done l) n out out' A =
     let e = A .answer in
     let k : n ≡ length l = cc in
@@ -135,8 +135,8 @@ written (done l) n out out' A =
 
 -- what is done tells that all ids are valid, and what was given
 is-done : (room : ℕ) (R : Result) {ids l list : List ℕ} → R ≡ done list → Told ids l room R → AllValid ids × (list ≡ l)
-is-done room _ e (is-11 n f) = let z : _≡_ {A = ℕ} 0 1 = cc in never z
-is-done room _ e (is-12 a h) = let z : _≡_ {A = ℕ} 0 1 = cc in never z
+is-done room _ e (is-11 n f) = let z : _≡_ {A = ℕ} 0 1 = cc in absurd (omega arith)
+is-done room _ e (is-12 a h) = let z : _≡_ {A = ℕ} 0 1 = cc in absurd (omega arith)
 is-done room _ e (is-0 a h) = (a, cc)
 
 -- the bytes that were written are read as the list ..

@@ -7,7 +7,7 @@ use Rattle.text.specs.Ascii.{ascii}
 use Rattle.text.specs.Text.{digitOf, allDigits, valueFrom}
 use Rattle.cellid.specs.CellId.{validId}
 use Rattle.tokens.specs.declared.Form.{Form}
-use Rattle.tokens.specs.Tokens.{hexText, before, trim, tokenOf, nameOf, isName, valueOf, named, nameLine, linesOf, unended, idsFrom, seen, done, resultOf, writeResult, readResult, answerOf, numberOf, writtenOf, firstOf}
+use Rattle.tokens.specs.Tokens.{hexText, before, trim, tokenOf, nameOf, isName, valueOf, named, nameLine, linesOf, unended, idsFrom, seen, done, resultOf, writeResult, readResult, tokenAnswer, numberOf, writtenOf, firstOf}
 
 -- "The list 0x04.., 0x0c.., 0x14.. is the nine bytes `04`, newline, `0c`, newline, `14`, newline"
 abbrev three : List ℕ
@@ -55,15 +55,15 @@ cases =
     ∷ (ended (ascii "d") [], 1)  -- no cell: face 6
     ∷ []
 
-pub cases-refused : map (λ (c : List ℕ × ℕ). firstOf (answerOf (readResult Form.Token (c .0) 9))) cases ≡ map (λ (c : List ℕ × ℕ). c .1) cases
-unfolding ascii readResult resultOf seen validId trailingZeros idsFrom unended named isName valueOf digitOf allDigits valueFrom answerOf firstOf
+pub cases-refused : map (λ (c : List ℕ × ℕ). firstOf (tokenAnswer (readResult Form.Token (c .0) 9))) cases ≡ map (λ (c : List ℕ × ℕ). c .1) cases
+unfolding ascii readResult resultOf seen validId trailingZeros idsFrom unended named isName valueOf digitOf allDigits valueFrom tokenAnswer firstOf
 cases-refused = refl
 
 -- ---- an answer's number, what was written, and the number of the first that is bad: done, no room, and an invalid id before no room
 
 abbrev values : List ℕ → ℕ → List ℕ
-values ids room = let a = answerOf (writeResult Form.Token ids room) in numberOf a ∷ writtenOf a ∷ firstOf a ∷ []
+values ids room = let a = tokenAnswer (writeResult Form.Token ids room) in numberOf a ∷ writtenOf a ∷ firstOf a ∷ []
 
 pub values-given : (values three 9 ≡ 0 ∷ 9 ∷ 0 ∷ []) × (values three 8 ≡ 12 ∷ 0 ∷ 0 ∷ []) × (values (0x0400000000000000 ∷ 0 ∷ []) 0 ≡ 11 ∷ 0 ∷ 2 ∷ [])
-unfolding writeResult resultOf seen validId trailingZeros linesOf nameLine nameOf tokenOf hexText trim before answerOf numberOf writtenOf firstOf
+unfolding writeResult resultOf seen validId trailingZeros linesOf nameLine nameOf tokenOf hexText trim before tokenAnswer numberOf writtenOf firstOf
 values-given = (refl, refl, refl)

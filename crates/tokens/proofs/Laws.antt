@@ -9,16 +9,13 @@ use lib.Dec.{eqb}
 use lib.ListN.{length, length-append}
 use borrow.Author.Tests.{eqb-true}
 use Rattle.cellid.specs.CellId.{validId}
-use Rattle.cellid.proofs.Laws.{no-true}
+use Rattle.cellid.proofs.Laws.{no-true, valid-fits}
 use Rattle.tokens.specs.declared.Form.{Form}
 use Rattle.tokens.specs.Tokens.{nameOf, isName, valueOf, named, nameLine, linesOf, unended, idsFrom, idsOf, bad}
 use Rattle.tokens.specs.Texts.{AllValid, none, more, FirstBad, here, next, Readable, empty, line, BadLine}
-use Rattle.tokens.proofs.Names.{valid-fits, name-short, name-is-digits, name-back, name-named, is-name}
+use Rattle.tokens.proofs.Names.{name-short, name-is-digits, name-back, name-named, is-name}
 use Rattle.tokens.proofs.Lines.{first-line}
 use Rattle.tokens.proofs.Turns.{line-length}
-
-pub never : {A : Type 0} → _≡_ {A = ℕ} 0 1 → A
-never z = absurd (omega arith)
 
 module _ (form : Form) where
   -- ---- names of valid ids
@@ -58,7 +55,7 @@ module _ (form : Form) where
 
   open-none : (s : List ℕ) (id : ℕ) (l : List ℕ) → unended s ≡ id ∷ l → 0 < id → ⊥
   unfolding unended
-  open-none [] id l e p = let z : _≡_ {A = ℕ} 0 1 = ap length e ∙ never (omega (arith, ap length e)) in never z
+  open-none [] id l e p = omega (arith, ap length e)
   open-none (b ∷ s) id l e p = let z : id ≡ 0 = cc in omega arith
 
   split-by : (u : Bool) (s : List ℕ) (b : ℕ) (text : List ℕ) (id : ℕ) (l : List ℕ) → eqb b 10 ≡ u → idsFrom form s (b ∷ text) ≡ id ∷ l → validId id ≡ true
@@ -176,7 +173,7 @@ module _ (form : Form) where
       let n = valid-name id v in
       let b : validId (valueOf (nameOf form id)) ≡ false = h (nameOf form id) (s .0) (s .1 ∙ append-assoc (nameOf form id) (10 ∷ []) (s .0)) (n .0) in
       let z : true ≡ false = sym v ∙ ap validId (sym (n .1)) ∙ b in
-      let y : _≡_ {A = ℕ} 0 1 = cc in never y))
+      let y : _≡_ {A = ℕ} 0 1 = cc in absurd (omega arith)))
 
   bad-to : (good rest : List ℕ) → AllValid good → 0 < length rest → ((t r : List ℕ) → rest ≡ t ++ (10 ∷ r) → isName form t ≡ true → validId (valueOf t) ≡ false)
       → FirstBad (idsOf form (linesOf form good ++ rest)) (suc (length good))
@@ -204,8 +201,8 @@ module _ (form : Form) where
       by [] h = empty-none form h
         where
           empty-none : (form : Form) → isName form [] ≡ true → 0 < length {A = ℕ} []
-          empty-none Form.Digits h = unfold isName in let z : _≡_ {A = ℕ} 0 1 = cc in never z
-          empty-none Form.Token h = unfold isName in let z : _≡_ {A = ℕ} 0 1 = cc in never z
+          empty-none Form.Digits h = unfold isName in let z : _≡_ {A = ℕ} 0 1 = cc in absurd (omega arith)
+          empty-none Form.Token h = unfold isName in let z : _≡_ {A = ℕ} 0 1 = cc in absurd (omega arith)
       by (b ∷ t) h = omega arith
 
   lines-long : (ids : List ℕ) → AllValid ids → 2 * length ids ≤ length (linesOf form ids)

@@ -17,7 +17,7 @@ use Rattle.io.specs.Digits.{digits, glyph}
 use Rattle.text.specs.Text.{digitOf, allDigits, valueFrom}
 use Rattle.text.proofs.Fields.{digits-then, value-then}
 use Rattle.cellid.specs.CellId.{validId}
-use Rattle.cellid.proofs.Laws.{and-true, odd-part, zeros-of, valid-is, cell-pos, cell-lt}
+use Rattle.cellid.proofs.Laws.{and-true, odd-part, zeros-of, valid-fits}
 use Rattle.tokens.specs.declared.Form.{Form}
 use Rattle.tokens.specs.Tokens.{hexText, before, trim, tokenOf, nameOf, isName, valueOf, named}
 use Rattle.tokens.specs.Steps.{ofDigits}
@@ -159,10 +159,6 @@ module _ (t : List ℕ) (few : length t ≤ 16) (h : allDigits 16 t ≡ true) wh
   named-digits Form.Token = token-named
 
 -- ---- an id from its name
-
--- a cell is a number of 64 bits, and not 0
-pub valid-fits : (id : ℕ) → validId id ≡ true → (0 < id) × (id < 2 ^ 64)
-valid-fits id v = let c = valid-is id v in (cell-pos id (c .0) (c .1) (c .2), omega (arith, cell-lt id (c .0) (c .1) (c .2)))
 
 pub name-is-digits : (form : Form) (id : ℕ) → id < 2 ^ 64 → allDigits 16 (nameOf form id) ≡ true
 name-is-digits form id h = ap (allDigits 16) (sym (name-digits form id (length (nameOf form id)) h refl)) ∙ digits-all (length (nameOf form id)) _

@@ -15,9 +15,9 @@ use Rattle.cellid.proofs.Puts.{next-of, none-left, Put, put-part, put-done}
 use Rattle.tokens.specs.declared.Form.{Form}
 use Rattle.tokens.specs.declared.Answer.{Answer}
 use Rattle.tokens.specs.declared.Line.{Line}
-use Rattle.tokens.specs.Tokens.{nameOf, nameLine, linesOf, unended, idsFrom, idsOf, Seen, sound, bad, seen, Result, malformed, noRoom, done, resultOf, writeResult, readResult, answerOf, outputAfter, Answered}
+use Rattle.tokens.specs.Tokens.{nameOf, nameLine, linesOf, unended, idsFrom, idsOf, Seen, sound, bad, seen, Result, malformed, noRoom, done, resultOf, writeResult, readResult, tokenAnswer, outputAfter, Answered}
 use Rattle.tokens.specs.Steps.{FirstLine}
-use Rattle.tokens.proofs.Names.{valid-fits}
+use Rattle.cellid.proofs.Laws.{valid-fits}
 
 -- ---- one number more
 
@@ -43,16 +43,16 @@ sound-first k id l r e h = sound-by (validId id) k id r refl (ap (seen k) (sym e
 
 -- ---- answers
 
-pub answer-bad : (l : List ℕ) (room : ℕ) (s : Seen) (k : ℕ) → s ≡ bad k → Answer.Malformed k ≡ answerOf (resultOf s l room)
-unfolding answerOf resultOf
+pub answer-bad : (l : List ℕ) (room : ℕ) (s : Seen) (k : ℕ) → s ≡ bad k → Answer.Malformed k ≡ tokenAnswer (resultOf s l room)
+unfolding tokenAnswer resultOf
 answer-bad l room s k e = rw e
 
-pub answer-done : (l : List ℕ) (room : ℕ) (s : Seen) (n : ℕ) → s ≡ sound → n ≡ length l → n ≤ room → Answer.Done n ≡ answerOf (resultOf s l room)
-unfolding answerOf resultOf
+pub answer-done : (l : List ℕ) (room : ℕ) (s : Seen) (n : ℕ) → s ≡ sound → n ≡ length l → n ≤ room → Answer.Done n ≡ tokenAnswer (resultOf s l room)
+unfolding tokenAnswer resultOf
 answer-done l room s n e f h = rw (e, resultOf, le-leb (length l) room (omega arith), f)
 
-pub answer-full : (l : List ℕ) (room : ℕ) (s : Seen) → s ≡ sound → room < length l → Answer.NoRoom ≡ answerOf (resultOf s l room)
-unfolding answerOf resultOf
+pub answer-full : (l : List ℕ) (room : ℕ) (s : Seen) → s ≡ sound → room < length l → Answer.NoRoom ≡ tokenAnswer (resultOf s l room)
+unfolding tokenAnswer resultOf
 answer-full l room s e h = rw (e, resultOf, lt-leb (length l) room h)
 
 -- what an answer tells of what was seen
@@ -61,30 +61,30 @@ pub record Fits (s : Seen) (l : List ℕ) (room n : ℕ) : Type 0 where
   pub count : n ≡ length l
   pub within : length l ≤ room
 
-fits-by : (t : Bool) (l : List ℕ) (room n : ℕ) → leb (length l) room ≡ t → Answer.Done n ≡ answerOf (elim t [ true ↦ done l | false ↦ noRoom ]) → Fits sound l room n
-unfolding answerOf
+fits-by : (t : Bool) (l : List ℕ) (room n : ℕ) → leb (length l) room ≡ t → Answer.Done n ≡ tokenAnswer (elim t [ true ↦ done l | false ↦ noRoom ]) → Fits sound l room n
+unfolding tokenAnswer
 fits-by true l room n e h = record { all = refl; count = cc; within = leb-true _ _ e }
 fits-by false l room n e h = let z : _≡_ {A = ℕ} 0 1 = cc in absurd (omega arith)
 
-pub fits : (s : Seen) (l : List ℕ) (room n : ℕ) → Answer.Done n ≡ answerOf (resultOf s l room) → Fits s l room n
-unfolding answerOf resultOf
+pub fits : (s : Seen) (l : List ℕ) (room n : ℕ) → Answer.Done n ≡ tokenAnswer (resultOf s l room) → Fits s l room n
+unfolding tokenAnswer resultOf
 fits sound l room n h = fits-by (leb (length l) room) l room n refl h
 fits (bad k) l room n h = let z : _≡_ {A = ℕ} 0 1 = cc in absurd (omega arith)
 
 pub answered-done : (s : Seen) (l d : List ℕ) (n r : ℕ) (d' : List ℕ) → Fits s l (length d) n → (r ≡ length l) × (d' ≡ sets d 0 l) → Answered (resultOf s l (length d)) (Answer.Done r) d d'
-unfolding answerOf resultOf outputAfter
+unfolding tokenAnswer resultOf outputAfter
 answered-done s l d n r d' F w =
     rw (F .all, resultOf, le-leb (length l) (length d) (F .within)) (record { answer = ap Answer.Done (w .0); output = w .1 ∙ rw zero-add at (sets-eq l d 0 (omega (arith, F .within))) })
 
 -- what is refused leaves the output
-pub answered-bad : (R : Result) (k : ℕ) (d : List ℕ) → Answer.Malformed k ≡ answerOf R → Answered R (Answer.Malformed k) d d
-unfolding answerOf outputAfter
+pub answered-bad : (R : Result) (k : ℕ) (d : List ℕ) → Answer.Malformed k ≡ tokenAnswer R → Answered R (Answer.Malformed k) d d
+unfolding tokenAnswer outputAfter
 answered-bad (malformed n) k d h = record { answer = h; output = refl }
 answered-bad noRoom k d h = record { answer = h; output = refl }
 answered-bad (done l) k d h = let z : _≡_ {A = ℕ} 0 1 = cc in absurd (omega arith)
 
-pub answered-full : (R : Result) (d : List ℕ) → Answer.NoRoom ≡ answerOf R → Answered R Answer.NoRoom d d
-unfolding answerOf outputAfter
+pub answered-full : (R : Result) (d : List ℕ) → Answer.NoRoom ≡ tokenAnswer R → Answered R Answer.NoRoom d d
+unfolding tokenAnswer outputAfter
 answered-full (malformed n) d h = record { answer = h; output = refl }
 answered-full noRoom d h = record { answer = h; output = refl }
 answered-full (done l) d h = let z : _≡_ {A = ℕ} 0 1 = cc in absurd (omega arith)
@@ -124,7 +124,7 @@ module _ (form : Form) (ids : List ℕ) where
         let u = line-length form (getD ids i 0) in
         record { few = omega arith; most = omega arith; same = sym (seen-go i _ (drop i ids) _ (next-of ids i h) v) ∙ G .same; sum = omega (arith, G .sum, G .most) }
 
-    pub look-bad : i < length ids → validId (getD ids i 0) ≡ false → Answer.Malformed (i + 1) ≡ answerOf (writeResult form ids room)
+    pub look-bad : i < length ids → validId (getD ids i 0) ≡ false → Answer.Malformed (i + 1) ≡ tokenAnswer (writeResult form ids room)
     unfolding writeResult
     look-bad h v = answer-bad (linesOf form ids) room _ (i + 1) (sym (G .same) ∙ seen-bad i _ (drop i ids) _ (next-of ids i h) v)
 
@@ -135,11 +135,11 @@ module _ (form : Form) (ids : List ℕ) where
       total : min size (room + 1) ≡ min (length (linesOf form ids)) (room + 1)
       total = let z : length (linesOf form (drop i ids)) ≡ 0 = ap length (lines-end i h) in omega (arith, G .sum)
 
-      pub look-done : size ≤ room → Answer.Done size ≡ answerOf (writeResult form ids room)
+      pub look-done : size ≤ room → Answer.Done size ≡ tokenAnswer (writeResult form ids room)
       unfolding writeResult
       look-done r = answer-done (linesOf form ids) room _ size all-sound (omega (arith, total)) r
 
-      pub look-full : room < size → Answer.NoRoom ≡ answerOf (writeResult form ids room)
+      pub look-full : room < size → Answer.NoRoom ≡ tokenAnswer (writeResult form ids room)
       unfolding writeResult
       look-full r = answer-full (linesOf form ids) room _ all-sound (omega (arith, total))
 
@@ -185,7 +185,7 @@ module _ (form : Form) (text : List ℕ) where
           count = omega (arith, G .count);
         }
 
-    pub read-bad : (room : ℕ) (r : Line) → FirstLine form text at r → validId (r .id) ≡ false → Answer.Malformed (k + 1) ≡ answerOf (readResult form text room)
+    pub read-bad : (room : ℕ) (r : Line) → FirstLine form text at r → validId (r .id) ≡ false → Answer.Malformed (k + 1) ≡ tokenAnswer (readResult form text room)
     unfolding readResult
     read-bad room r F v = answer-bad (idsOf form text) room _ (k + 1) (sym (G .same) ∙ seen-bad k (r .id) _ _ (F .first) v)
 
@@ -193,11 +193,11 @@ module _ (form : Form) (text : List ℕ) where
       read-all : (seen 0 (idsOf form text) ≡ sound) × (k ≡ length (idsOf form text))
       read-all = (sym (G .same) ∙ seen-end k _ (ids-end at h), omega (arith, G .count, ap length (ids-end at h)))
 
-      pub read-done : (room : ℕ) → k ≤ room → Answer.Done k ≡ answerOf (readResult form text room)
+      pub read-done : (room : ℕ) → k ≤ room → Answer.Done k ≡ tokenAnswer (readResult form text room)
       unfolding readResult
       read-done room r = answer-done (idsOf form text) room _ k (read-all .0) (read-all .1) r
 
-      pub read-full : (room : ℕ) → room < k → Answer.NoRoom ≡ answerOf (readResult form text room)
+      pub read-full : (room : ℕ) → room < k → Answer.NoRoom ≡ tokenAnswer (readResult form text room)
       unfolding readResult
       read-full room r = answer-full (idsOf form text) room _ (read-all .0) (omega (arith, read-all .1))
 

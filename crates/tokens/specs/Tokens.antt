@@ -105,10 +105,10 @@ writeResult form ids room = resultOf (seen 0 ids) (linesOf form ids) room
 unfoldable pub readResult : Form → List ℕ → ℕ → Result
 readResult form text room = resultOf (seen 0 (idsOf form text)) (idsOf form text) room
 
-unfoldable pub answerOf : Result → Answer
-answerOf (malformed k) = Answer.Malformed k
-answerOf noRoom = Answer.NoRoom
-answerOf (done l) = Answer.Done (length l)
+unfoldable pub tokenAnswer : Result → Answer
+tokenAnswer (malformed k) = Answer.Malformed k
+tokenAnswer noRoom = Answer.NoRoom
+tokenAnswer (done l) = Answer.Done (length l)
 
 -- "the output unchanged in both"; else the list or text stands in the first places, and the others stay
 unfoldable pub outputAfter : Result → List ℕ → List ℕ
@@ -118,7 +118,7 @@ outputAfter (done l) out = l ++ drop (length l) out
 
 -- what a public function ensures of its answer and the output
 pub record Answered (R : Result) (r : Answer) (out out' : List ℕ) : Type 0 where
-  pub answer : r ≡ answerOf R
+  pub answer : r ≡ tokenAnswer R
   pub output : out' ≡ outputAfter R out
 
 -- the paper's number of an answer, 0 for success; how many bytes or ids were written; "the number from 1 of the first such", 0 where there is none

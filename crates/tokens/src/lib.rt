@@ -6,7 +6,7 @@ ghost use lib.ListN.{length};
 ghost use lib.Seq.{sets};
 ghost use Rattle.io.specs.Digits.{digits};
 ghost use Rattle.io.specs.Digits.{glyph as Digits·glyph};
-ghost use Rattle.tokens.specs.Tokens.{nameOf, nameLine, linesOf, idsOf, writeResult, readResult, answerOf, Answered, seen, sound};
+ghost use Rattle.tokens.specs.Tokens.{nameOf, nameLine, linesOf, idsOf, writeResult, readResult, tokenAnswer, Answered, seen, sound};
 ghost use Rattle.tokens.specs.Steps.{ofDigits, FirstLine};
 
 // What names an id: its sixteen digits, or its token, which leaves out the zeros at their end.
@@ -110,7 +110,7 @@ fn add(size: usize, n: usize, most: usize) -> usize
 // One look at the ids, at all of them, with what their lines need: a total over the room may not fit, so it is let grow to one more than the room.
 fn look_ids(form: Form, ids: &[u64], room: usize) -> Answer
     requires { ⌜ room + 1 < 2 ^ 64 ⌝ }
-    ensures { λ r. ⌜ r ≡ answerOf (writeResult form (now (ids .entry)) room) ⌝ }
+    ensures { λ r. ⌜ r ≡ tokenAnswer (writeResult form (now (ids .entry)) room) ⌝ }
 {
     let most = room + 1;
     let mut size = 0;
@@ -199,7 +199,7 @@ fn read_line(form: Form, text: &[u8], at: usize) -> Line
 
 // One look at the lines, at all of them: how many there are.
 fn look_lines(form: Form, text: &[u8], room: usize) -> Answer
-    ensures { λ r. ⌜ r ≡ answerOf (readResult form (now (text .entry)) room) ⌝ }
+    ensures { λ r. ⌜ r ≡ tokenAnswer (readResult form (now (text .entry)) room) ⌝ }
 {
     let mut k = 0;
     let mut at = 0;

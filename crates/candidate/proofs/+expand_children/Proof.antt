@@ -7,10 +7,10 @@ use Rattle.cellid.specs.CellId.{childOf}
 use Rattle.region.specs.Region.{intersectsCell, containsCell}
 use Rattle.region.specs.declared.Region.{Region}
 use Rattle.run.specs.declared.Found.{Found}
-use Rattle.run.specs.Masks.{upTo, found}
-use Rattle.run.proofs.Masks.{branch, branch-more, branch-none, found-four}
-use Rattle.candidate.specs.declared.Asked.{Asked}
-use Rattle.candidate.specs.Candidate.{requestOf}
+use Rattle.run.specs.Masks.{upTo, found, foundPart}
+use Rattle.run.proofs.Masks.{part-more, part-none, found-four}
+use Rattle.run.specs.declared.Request.{Request}
+use Rattle.candidate.specs.Candidate.{taskOf}
 use Rattle.candidate.proofs.Laws.{positive, child-of, width-is, roomy}
 use Rattle.candidate.proofs.Siblings.{bit-test, bit-yes, bit-no}
 use Prim.Native.Nat.{ℕ, suc, _-_, _*_, _^_, _≤_, _<_}
@@ -49,8 +49,8 @@ abbrev expand-children-claims : ℕ → expand-children-lts.Claims
 expand-children-claims t = (children-reads.Asked, children-reads.Learnt, look-children-reads.Asked, look-children-reads.Learnt, child-reads.Asked, child-reads.Learnt, expand-children-below t, expand-children.Post, placed-reads.Asked, placed-reads.Learnt)
 
 -- a child's sets, with n levels left beneath it
-abbrev part : Asked → Region → ℕ → ℕ → Found
-part q g = branch (requestOf q) (intersectsCell g) (containsCell g)
+abbrev part : Request → Region → ℕ → ℕ → Found
+part q g = foundPart (taskOf q g)
 
 abbrev expand-children-Inv-loop : expand-children-lts.InvT-loop
 expand-children-Inv-loop q g id left less width meets acc₀ k₀ acc k = (k ≤ 4) × (acc ≡ upTo (part q g less) (2 ^ (2 * less)) id k)
@@ -105,15 +105,16 @@ part-is : (t : ℕ) (c : expand-children-lts.Joined2 (expand-children-claims t) 
     → let z = c .before .before .before .before .before in c .if2 .f ≡ part (z .args .q) (z .args .g) (z .args .left - 1) (childOf (z .args .id) (c .before .before .loop .k))
 part-is t c =
     let z = c .before .before .before .before .before in
-    let r = requestOf (z .args .q) in
+    let T = taskOf (z .args .q) (z .args .g) in
     let hits = intersectsCell (z .args .g) in
     let within = containsCell (z .args .g) in
+    let some : 0 < z .args .left - 1 = omega (arith, z .pre .1 .1 .0 .0, c .before .before .before .before .if1 .left) in
     let k = c .before .before .loop .k in
     let n = z .args .left - 1 in
     let b = bit-test hits within (z .args .id) k (c .before .before .before .look-children .result) (c .before .loop-test .taken) (c .before .before .before .look-children .ensures) in
     ⊎-elim
-    (λ w. w .3 ∙ rw (w .1 .ensures) at (w .2 .ensures) ∙ sym (branch-more r hits within n (childOf (z .args .id) k) (bit-yes (hits (childOf (z .args .id) k)) (sym b ∙ w .0 .taken))))
-    (λ w. w .1 ∙ sym (branch-none r hits within n (childOf (z .args .id) k) (bit-no (hits (childOf (z .args .id) k)) (λ e. w .0 .left (b ∙ e)))))
+    (λ w. w .3 ∙ rw (w .1 .ensures) at (w .2 .ensures) ∙ sym (part-more T n (childOf (z .args .id) k) some (bit-yes (hits (childOf (z .args .id) k)) (sym b ∙ w .0 .taken))))
+    (λ w. w .1 ∙ sym (part-none T n (childOf (z .args .id) k) some (bit-no (hits (childOf (z .args .id) k)) (λ e. w .0 .left (b ∙ e)))))
     (c .if2 .came)
 
 expand-children-placed-requires : (t : ℕ) → expand-children-lts.Need-placed-requires (expand-children-claims t) (expand-children-at t) expand-children.Post expand-children-Inv-loop expand-children-μ-loop
@@ -122,7 +123,7 @@ expand-children-placed-requires t c κs =
     let n = z .args .left - 1 in
     let l : n ≤ 2 = omega (arith, z .pre .1 .1 .0 .1) in
     rw (part-is t c, c .before .before .loop .inv .1, width-is n l)
-    (roomy (requestOf (z .args .q)) (intersectsCell (z .args .g)) (containsCell (z .args .g)) n (z .args .id) (c .before .before .loop .k) l (c .before .loop-test .taken))
+    (roomy (taskOf (z .args .q) (z .args .g)) n (z .args .id) (c .before .before .loop .k) l (c .before .loop-test .taken))
 
 expand-children-add-k : (t : ℕ) → expand-children-lts.Need-add-k (expand-children-claims t) (expand-children-at t) expand-children.Post expand-children-Inv-loop expand-children-μ-loop
 expand-children-add-k t c = omega arith
@@ -143,8 +144,8 @@ expand-children-returns-2 t c =
     let four : c .before .loop .k ≡ 4 = omega arith in
     let more : z .args .left ≡ suc (z .args .left - 1) = omega (arith, z .pre .1 .1 .0 .0) in
     c .before .loop .inv .1 ∙ ap (upTo (part (z .args .q) (z .args .g) (z .args .left - 1)) (2 ^ (2 * (z .args .left - 1))) (z .args .id)) four
-    ∙ sym (found-four (requestOf (z .args .q)) (intersectsCell (z .args .g)) (containsCell (z .args .g)) (z .args .left - 1) (z .args .id))
-    ∙ ap (λ (n : ℕ). found (requestOf (z .args .q)) (intersectsCell (z .args .g)) (containsCell (z .args .g)) n (z .args .id)) (sym more)
+    ∙ sym (found-four (taskOf (z .args .q) (z .args .g)) (z .args .left - 1) (z .args .id))
+    ∙ ap (λ (n : ℕ). found (taskOf (z .args .q) (z .args .g)) n (z .args .id)) (sym more)
 
 pub +expand-children-spec : {M : Type 1} → statement M
 +expand-children-spec = close μ-expand-children λ t. expand-children-lts.spec (expand-children-claims t)

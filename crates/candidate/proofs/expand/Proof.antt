@@ -5,19 +5,16 @@ use native.Mathlib.Omega.{arith}
 use Rattle.cellid.specs.CellId.{levelOf}
 use Rattle.run.specs.Run.{depth}
 use Rattle.run.proofs.Looks.{depth-low, depth-high}
-use Rattle.candidate.specs.Candidate.{requestOf}
 use borrow.Author.Needs.{needs}
 use Rattle.candidate.proofs.expand.Statement.{statement}
 use Rattle.candidate.proofs.expand.Tie as tie
 
 -- the depth in the two arms
-below : (c : tie.Then1) → let a = c .before .before .before .args in depth (requestOf (a .q)) (a .id) ≡ 1
-unfolding requestOf
-below c = let a = c .before .before .before .args in depth-low (requestOf (a .q)) (a .id) (omega (arith, c .before .before .level .ensures))
+below : (c : tie.Then1) → let a = c .before .before .before .args in depth ((a .q)) (a .id) ≡ 1
+below c = let a = c .before .before .before .args in depth-low ((a .q)) (a .id) (omega (arith, c .before .before .level .ensures))
 
-deeper : (c : tie.Else1) → let a = c .before .before .before .args in depth (requestOf (a .q)) (a .id) ≡ a .q .«level_mod»
-unfolding requestOf
-deeper c = let a = c .before .before .before .args in depth-high (requestOf (a .q)) (a .id) (omega (arith, c .before .before .level .ensures))
+deeper : (c : tie.Else1) → let a = c .before .before .before .args in depth ((a .q)) (a .id) ≡ a .q .coverer .«level_mod»
+deeper c = let a = c .before .before .before .args in depth-high ((a .q)) (a .id) (omega (arith, c .before .before .level .ensures))
 
 children-requires-2 : tie.Need-children-requires-2
 children-requires-2 c κs =

@@ -2,8 +2,9 @@
 use Rattle.cap.specs.Cap.{holdsCell, capContains}
 use mathlib.Core.Path.{_∙_}
 use native.Mathlib.Omega.{arith}
+use borrow.Author.Tests.{not-true, not-false}
 use Rattle.cell.specs.Cell.{verticesOf}
-use Rattle.cap.proofs.Laws.{corner-held, face-of, denied, granted}
+use Rattle.cap.proofs.Laws.{corner-held, face-of}
 use borrow.Author.Needs.{needs}
 use Rattle.cap.proofs.contains_cell.Statement.{statement}
 use Rattle.cap.proofs.contains_cell.Tie as tie
@@ -19,7 +20,7 @@ contains-point-requires c κs = search needs
 
 returns : tie.Need-returns
 unfolding capContains holdsCell
-returns c = rw (corner-held _ _ _ _ _ _ (c .before .before .before .from-id .ensures) (c .before .before .vertex .ensures) (c .before .contains-point .ensures) ∙ denied _ (c .if1 .taken))
+returns c = rw (corner-held _ _ _ _ _ _ (c .before .before .before .from-id .ensures) (c .before .before .vertex .ensures) (c .before .contains-point .ensures) ∙ not-true _ (c .if1 .taken))
 
 vertex-requires-2 : tie.Need-vertex-requires-2
 vertex-requires-2 c κs = (face-of _ _ (c .before .before .before .before .pre) (c .before .before .before .from-id .ensures), omega arith)
@@ -31,8 +32,8 @@ returns-2 : tie.Need-returns-2
 unfolding capContains holdsCell
 returns-2 c =
     rw (
-      corner-held _ _ _ _ _ _ (c .before .before .before .before .before .before .from-id .ensures) (c .before .before .before .before .before .vertex .ensures) (c .before .before .before .before .contains-point .ensures) ∙ granted _ (c .before .before .before .if1 .left),
-      corner-held _ _ _ _ _ _ (c .before .before .before .before .before .before .from-id .ensures) (c .before .before .vertex2 .ensures) (c .before .contains-point2 .ensures) ∙ denied _ (c .if2 .taken),
+      corner-held _ _ _ _ _ _ (c .before .before .before .before .before .before .from-id .ensures) (c .before .before .before .before .before .vertex .ensures) (c .before .before .before .before .contains-point .ensures) ∙ not-false _ (c .before .before .before .if1 .left),
+      corner-held _ _ _ _ _ _ (c .before .before .before .before .before .before .from-id .ensures) (c .before .before .vertex2 .ensures) (c .before .contains-point2 .ensures) ∙ not-true _ (c .if2 .taken),
     )
 
 vertex-requires-3 : tie.Need-vertex-requires-3
@@ -45,9 +46,9 @@ returns-3 : tie.Need-returns-3
 unfolding capContains holdsCell
 returns-3 c =
     rw (
-      corner-held _ _ _ _ _ _ (c .before .before .before .before .before .before .before .before .before .from-id .ensures) (c .before .before .before .before .before .before .before .before .vertex .ensures) (c .before .before .before .before .before .before .before .contains-point .ensures) ∙ granted _ (c .before .before .before .before .before .before .if1 .left),
-      corner-held _ _ _ _ _ _ (c .before .before .before .before .before .before .before .before .before .from-id .ensures) (c .before .before .before .before .before .vertex2 .ensures) (c .before .before .before .before .contains-point2 .ensures) ∙ granted _ (c .before .before .before .if2 .left),
-      corner-held _ _ _ _ _ _ (c .before .before .before .before .before .before .before .before .before .from-id .ensures) (c .before .before .vertex3 .ensures) (c .before .contains-point3 .ensures) ∙ denied _ (c .if3 .taken),
+      corner-held _ _ _ _ _ _ (c .before .before .before .before .before .before .before .before .before .from-id .ensures) (c .before .before .before .before .before .before .before .before .vertex .ensures) (c .before .before .before .before .before .before .before .contains-point .ensures) ∙ not-false _ (c .before .before .before .before .before .before .if1 .left),
+      corner-held _ _ _ _ _ _ (c .before .before .before .before .before .before .before .before .before .from-id .ensures) (c .before .before .before .before .before .vertex2 .ensures) (c .before .before .before .before .contains-point2 .ensures) ∙ not-false _ (c .before .before .before .if2 .left),
+      corner-held _ _ _ _ _ _ (c .before .before .before .before .before .before .before .before .before .from-id .ensures) (c .before .before .vertex3 .ensures) (c .before .contains-point3 .ensures) ∙ not-true _ (c .if3 .taken),
     )
 
 vertex-requires-4 : tie.Need-vertex-requires-4
@@ -60,10 +61,10 @@ returns-4 : tie.Need-returns-4
 unfolding capContains holdsCell
 returns-4 c =
     rw (
-      corner-held _ _ _ _ _ _ (c .before .before .before .before .before .before .before .before .before .before .before .before .from-id .ensures) (c .before .before .before .before .before .before .before .before .before .before .before .vertex .ensures) (c .before .before .before .before .before .before .before .before .before .before .contains-point .ensures) ∙ granted _ (c .before .before .before .before .before .before .before .before .before .if1 .left),
-      corner-held _ _ _ _ _ _ (c .before .before .before .before .before .before .before .before .before .before .before .before .from-id .ensures) (c .before .before .before .before .before .before .before .before .vertex2 .ensures) (c .before .before .before .before .before .before .before .contains-point2 .ensures) ∙ granted _ (c .before .before .before .before .before .before .if2 .left),
-      corner-held _ _ _ _ _ _ (c .before .before .before .before .before .before .before .before .before .before .before .before .from-id .ensures) (c .before .before .before .before .before .vertex3 .ensures) (c .before .before .before .before .contains-point3 .ensures) ∙ granted _ (c .before .before .before .if3 .left),
-      corner-held _ _ _ _ _ _ (c .before .before .before .before .before .before .before .before .before .before .before .before .from-id .ensures) (c .before .before .vertex4 .ensures) (c .before .contains-point4 .ensures) ∙ denied _ (c .if4 .taken),
+      corner-held _ _ _ _ _ _ (c .before .before .before .before .before .before .before .before .before .before .before .before .from-id .ensures) (c .before .before .before .before .before .before .before .before .before .before .before .vertex .ensures) (c .before .before .before .before .before .before .before .before .before .before .contains-point .ensures) ∙ not-false _ (c .before .before .before .before .before .before .before .before .before .if1 .left),
+      corner-held _ _ _ _ _ _ (c .before .before .before .before .before .before .before .before .before .before .before .before .from-id .ensures) (c .before .before .before .before .before .before .before .before .vertex2 .ensures) (c .before .before .before .before .before .before .before .contains-point2 .ensures) ∙ not-false _ (c .before .before .before .before .before .before .if2 .left),
+      corner-held _ _ _ _ _ _ (c .before .before .before .before .before .before .before .before .before .before .before .before .from-id .ensures) (c .before .before .before .before .before .vertex3 .ensures) (c .before .before .before .before .contains-point3 .ensures) ∙ not-false _ (c .before .before .before .if3 .left),
+      corner-held _ _ _ _ _ _ (c .before .before .before .before .before .before .before .before .before .before .before .before .from-id .ensures) (c .before .before .vertex4 .ensures) (c .before .contains-point4 .ensures) ∙ not-true _ (c .if4 .taken),
     )
 
 complement-requires : tie.Need-complement-requires
@@ -78,10 +79,10 @@ returns-5 : tie.Need-returns-5
 unfolding capContains holdsCell
 returns-5 c =
     rw (
-      corner-held _ _ _ _ _ _ (c .before .before .before .before .before .before .before .before .before .before .before .before .before .before .from-id .ensures) (c .before .before .before .before .before .before .before .before .before .before .before .before .before .vertex .ensures) (c .before .before .before .before .before .before .before .before .before .before .before .before .contains-point .ensures) ∙ granted _ (c .before .before .before .before .before .before .before .before .before .before .before .if1 .left),
-      corner-held _ _ _ _ _ _ (c .before .before .before .before .before .before .before .before .before .before .before .before .before .before .from-id .ensures) (c .before .before .before .before .before .before .before .before .before .before .vertex2 .ensures) (c .before .before .before .before .before .before .before .before .before .contains-point2 .ensures) ∙ granted _ (c .before .before .before .before .before .before .before .before .if2 .left),
-      corner-held _ _ _ _ _ _ (c .before .before .before .before .before .before .before .before .before .before .before .before .before .before .from-id .ensures) (c .before .before .before .before .before .before .before .vertex3 .ensures) (c .before .before .before .before .before .before .contains-point3 .ensures) ∙ granted _ (c .before .before .before .before .before .if3 .left),
-      corner-held _ _ _ _ _ _ (c .before .before .before .before .before .before .before .before .before .before .before .before .before .before .from-id .ensures) (c .before .before .before .before .vertex4 .ensures) (c .before .before .before .contains-point4 .ensures) ∙ granted _ (c .before .before .if4 .left),
+      corner-held _ _ _ _ _ _ (c .before .before .before .before .before .before .before .before .before .before .before .before .before .before .from-id .ensures) (c .before .before .before .before .before .before .before .before .before .before .before .before .before .vertex .ensures) (c .before .before .before .before .before .before .before .before .before .before .before .before .contains-point .ensures) ∙ not-false _ (c .before .before .before .before .before .before .before .before .before .before .before .if1 .left),
+      corner-held _ _ _ _ _ _ (c .before .before .before .before .before .before .before .before .before .before .before .before .before .before .from-id .ensures) (c .before .before .before .before .before .before .before .before .before .before .vertex2 .ensures) (c .before .before .before .before .before .before .before .before .before .contains-point2 .ensures) ∙ not-false _ (c .before .before .before .before .before .before .before .before .if2 .left),
+      corner-held _ _ _ _ _ _ (c .before .before .before .before .before .before .before .before .before .before .before .before .before .before .from-id .ensures) (c .before .before .before .before .before .before .before .vertex3 .ensures) (c .before .before .before .before .before .before .contains-point3 .ensures) ∙ not-false _ (c .before .before .before .before .before .if3 .left),
+      corner-held _ _ _ _ _ _ (c .before .before .before .before .before .before .before .before .before .before .before .before .before .before .from-id .ensures) (c .before .before .before .before .vertex4 .ensures) (c .before .before .before .contains-point4 .ensures) ∙ not-false _ (c .before .before .if4 .left),
       ← c .before .complement .ensures,
       ← c .before .before .before .before .before .before .before .before .before .before .before .before .before .before .from-id .ensures,
       ← c .intersects-cell-vertices .ensures,

@@ -1,7 +1,7 @@
 -- `cell::from_id` meets its contract.
 use Rattle.cell.specs.Cell.{cellOf}
 use Rattle.hilbert.proofs.Laws.{face-ij-in}
-use Rattle.cell.proofs.Laws.{level-le}
+use Rattle.cellid.proofs.Laws.{level-le}
 use borrow.Author.Needs.{needs}
 use Rattle.cell.proofs.from_id.Statement.{statement}
 use Rattle.cell.proofs.from_id.Tie as tie

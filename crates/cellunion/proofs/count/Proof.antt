@@ -1,6 +1,7 @@
 use Prim.Native.Nat.{_-_}
 use native.Mathlib.Omega.{arith}
-use Rattle.cellunion.proofs.Writes.{Counting, word-cell, level-le, turn-laws, count-turn, count-over, count-done}
+use Rattle.cellid.proofs.Laws.{level-le}
+use Rattle.cellunion.proofs.Writes.{Counting, turn-laws, count-turn, count-over, count-done}
 use Rattle.cellunion.proofs.count.Statement.{statement}
 use Rattle.cellunion.proofs.count.Tie as tie
 
@@ -25,26 +26,26 @@ level-requires c κs = tt
 goal-level-requires : tie.Need-goal-level-requires Inv-loop μ-loop
 goal-level-requires c κs =
     let G = c .before .before .before .loop .inv in
-    (level-le _ (word-cell _ _ _ _ _ (G .asks) (c .before .before .loop-test .taken)) (c .level .ensures), G .asks .2, G .asks .3)
+    (rw (c .level .ensures) (level-le _), G .asks .2, G .asks .3)
 
 sub-total : tie.Need-sub-total Inv-loop μ-loop
 sub-total c =
-    let T = turn-laws _ _ _ _ _ (word-cell _ _ _ _ _ (c .before .before .before .before .loop .inv .asks) (c .before .before .before .loop-test .taken)) (c .before .level .ensures) (c .goal-level .ensures) in
+    let T = turn-laws _ _ _ _ _ (c .before .level .ensures) (c .goal-level .ensures) in
     omega (arith, T .up, T .top, T .val, T .few, c .before .before .before .before .loop .inv .small, c .before .before .before .before .loop .inv .lim)
 
 mul-total : tie.Need-mul-total Inv-loop μ-loop
 mul-total c =
-    let T = turn-laws _ _ _ _ _ (word-cell _ _ _ _ _ (c .before .before .before .before .loop .inv .asks) (c .before .before .before .loop-test .taken)) (c .before .level .ensures) (c .goal-level .ensures) in
+    let T = turn-laws _ _ _ _ _ (c .before .level .ensures) (c .goal-level .ensures) in
     omega (arith, T .up, T .top, T .val, T .few, c .before .before .before .before .loop .inv .small, c .before .before .before .before .loop .inv .lim)
 
 shl-total : tie.Need-shl-total Inv-loop μ-loop
 shl-total c =
-    let T = turn-laws _ _ _ _ _ (word-cell _ _ _ _ _ (c .before .before .before .before .loop .inv .asks) (c .before .before .before .loop-test .taken)) (c .before .level .ensures) (c .goal-level .ensures) in
+    let T = turn-laws _ _ _ _ _ (c .before .level .ensures) (c .goal-level .ensures) in
     omega (arith, T .up, T .top, T .val, T .few, c .before .before .before .before .loop .inv .small, c .before .before .before .before .loop .inv .lim)
 
 add-total : tie.Need-add-total Inv-loop μ-loop
 add-total c =
-    let T = turn-laws _ _ _ _ _ (word-cell _ _ _ _ _ (c .before .before .before .before .loop .inv .asks) (c .before .before .before .loop-test .taken)) (c .before .level .ensures) (c .goal-level .ensures) in
+    let T = turn-laws _ _ _ _ _ (c .before .level .ensures) (c .goal-level .ensures) in
     omega (arith, T .up, T .top, T .val, T .few, c .before .before .before .before .loop .inv .small, c .before .before .before .before .loop .inv .lim)
 
 add-result : tie.Need-add-result Inv-loop μ-loop
@@ -54,7 +55,7 @@ returns : tie.Need-returns Inv-loop μ-loop
 returns c =
     let G = c .before .before .before .before .before .loop .inv in
     let h = c .before .before .before .before .loop-test .taken in
-    count-over _ _ _ _ _ _ _ _ G h (turn-laws _ _ _ _ _ (word-cell _ _ _ _ _ (G .asks) h) (c .before .before .level .ensures) (c .before .goal-level .ensures) .val) (c .if1 .taken)
+    count-over _ _ _ _ _ _ _ _ G h (turn-laws _ _ _ _ _ (c .before .before .level .ensures) (c .before .goal-level .ensures) .val) (c .if1 .taken)
 
 add-i : tie.Need-add-i Inv-loop μ-loop
 add-i c = omega arith
@@ -66,7 +67,7 @@ loop-again : tie.Need-loop-again Inv-loop μ-loop
 loop-again c =
     let G = c .before .before .before .before .before .loop .inv in
     let h = c .before .before .before .before .loop-test .taken in
-    count-turn _ _ _ _ _ _ _ _ G h (turn-laws _ _ _ _ _ (word-cell _ _ _ _ _ (G .asks) h) (c .before .before .level .ensures) (c .before .goal-level .ensures) .val) (c .if1 .left)
+    count-turn _ _ _ _ _ _ _ _ G h (turn-laws _ _ _ _ _ (c .before .before .level .ensures) (c .before .goal-level .ensures) .val) (c .if1 .left)
 
 returns-2 : tie.Need-returns-2 Inv-loop μ-loop
 returns-2 c = count-done _ _ _ _ _ _ _ (c .before .loop .inv) (c .loop-test .left)

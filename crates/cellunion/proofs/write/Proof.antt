@@ -1,7 +1,8 @@
 use mathlib.Core.Path.{refl}
 use Prim.Native.Nat.{_-_}
 use native.Mathlib.Omega.{arith}
-use Rattle.cellunion.proofs.Writes.{Writing, word-cell, level-le, write-asks, write-turn, write-done}
+use Rattle.cellid.proofs.Laws.{level-le}
+use Rattle.cellunion.proofs.Writes.{Writing, write-asks, write-turn, write-done}
 use Rattle.cellunion.proofs.write.Statement.{statement}
 use Rattle.cellunion.proofs.write.Tie as tie
 
@@ -26,7 +27,7 @@ level-requires c κs = tt
 goal-level-requires : tie.Need-goal-level-requires Inv-loop μ-loop
 goal-level-requires c κs =
     let G = c .before .before .before .loop .inv in
-    (level-le _ (word-cell _ _ _ _ _ (G .asks) (c .before .before .loop-test .taken)) (c .level .ensures), G .asks .2, G .asks .3)
+    (rw (c .level .ensures) (level-le _), G .asks .2, G .asks .3)
 
 spread-requires : tie.Need-spread-requires Inv-loop μ-loop
 spread-requires c κs = write-asks _ _ _ _ _ _ _ _ _ _ (c .before .before .before .before .before .loop .inv) (c .before .before .before .before .loop-test .taken) (c .before .before .level .ensures) (c .before .goal-level .ensures)

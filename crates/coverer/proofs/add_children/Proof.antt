@@ -1,14 +1,16 @@
 -- `coverer::add_children` meets its contract. The invariant: the children from j on are what is left of the definition's additions.
+use Rattle.coverer.specs.Coverer.{courseOf}
+use Rattle.run.specs.Run.{addAll}
+use Rattle.run.specs.Ground.{ChildOk}
+use Rattle.run.specs.declared.Request.{Request}
 use Prim.Native.Nat.{ℕ, _+_, _-_, _≤_, _<_}
-use Rattle.candidate.specs.Candidate.{requestOf, Asks}
-use Rattle.candidate.specs.declared.Asked.{Asked}
+use Rattle.candidate.specs.Candidate.{taskOf, Asks}
 use Rattle.coverer.proofs.Adds.{domain, Waiting, waiting-one, waiting-next, children-then, children-over}
 use Rattle.coverer.proofs.Stands.{Goes, goes-start, goes-turn, goes-stop, goes-end}
-use Rattle.coverer.specs.Engine.{AsideUpTo, childIf, childrenFrom, leavesIn, addAllFor, ChildFor, DoesFor}
+use Rattle.coverer.specs.Engine.{AsideUpTo, childIf, childrenFrom, leavesIn, Does}
 use Rattle.coverer.specs.declared.Brood.{Brood}
 use Rattle.coverer.specs.declared.Counts.{Counts}
 use Rattle.coverer.specs.declared.Turn.{Turn}
-use Rattle.region.specs.Region.{intersectsCell, containsCell}
 use Rattle.region.specs.declared.Region.{Region}
 use borrow.Author.Needs.{needs}
 use lib.ListN.{length}
@@ -18,15 +20,15 @@ use native.Mathlib.Omega.{arith}
 use Rattle.coverer.proofs.add_children.Statement.{statement}
 use Rattle.coverer.proofs.add_children.Tie as tie
 
-record Inv (q : Asked) (g : Region) (b : Brood) (places : ℕ) (m₀ : List ℕ) (t₀ : Counts) (m : List ℕ) (t : Counts) (j : ℕ) : Type 0 where
+record Inv (q : Request) (g : Region) (b : Brood) (places : ℕ) (m₀ : List ℕ) (t₀ : Counts) (m : List ℕ) (t : Counts) (j : ℕ) : Type 0 where
   all : places ≡ b .places
   within : j ≤ places
   long : length m ≡ length m₀
-  waits : Waiting (ChildFor q g) t (childrenFrom b j)
-  goes : Goes (requestOf q) (intersectsCell g) (containsCell g) (λ i. addAllFor q g i (childrenFrom b 0)) (λ i. addAllFor q g i (childrenFrom b j)) m₀ t₀ m t
+  waits : Waiting (ChildOk (taskOf q g)) t (childrenFrom b j)
+  goes : Goes (taskOf q g) (λ i. addAll (courseOf q g) i (childrenFrom b 0)) (λ i. addAll (courseOf q g) i (childrenFrom b j)) m₀ t₀ m t
 
-turn : (q : Asked) (g : Region) (b : Brood) (places : ℕ) (m₀ : List ℕ) (t₀ : Counts) (m : List ℕ) (t : Counts) (j : ℕ) (m′ : List ℕ) (r : Turn) (u : Counts) → Asks q g → j < places → r ≡ Turn.Going u
-    → DoesFor q g (λ i. addAllFor q g i (childIf b j)) m t m′ r → AsideUpTo (t .aside + leavesIn (childIf b j)) r → length m′ ≡ length m → Inv q g b places m₀ t₀ m t j → Inv q g b places m₀ t₀ m′ u (j + 1)
+turn : (q : Request) (g : Region) (b : Brood) (places : ℕ) (m₀ : List ℕ) (t₀ : Counts) (m : List ℕ) (t : Counts) (j : ℕ) (m′ : List ℕ) (r : Turn) (u : Counts) → Asks q g → j < places → r ≡ Turn.Going u
+    → Does (taskOf q g) (λ i. addAll (courseOf q g) i (childIf b j)) m t m′ r → AsideUpTo (t .aside + leavesIn (childIf b j)) r → length m′ ≡ length m → Inv q g b places m₀ t₀ m t j → Inv q g b places m₀ t₀ m′ u (j + 1)
 unfolding AsideUpTo
 turn q g b places m₀ t₀ m t j m′ r u A h e d a l I =
     let j-in : j < b .places = omega (arith, I .all) in
@@ -35,15 +37,15 @@ turn q g b places m₀ t₀ m t j m′ r u A h e d a l I =
       all = I .all;
       within = omega arith;
       long = l ∙ I .long;
-      waits = waiting-next (ChildFor q g) t u b j j-in aside (I .waits);
-      goes = goes-turn _ _ _ _ _ _ _ m₀ t₀ m t m′ u (λ i s S. children-then _ _ _ (domain q g A) b j j-in i s) (subst (DoesFor q g _ m t m′) e d) (I .goes);
+      waits = waiting-next (ChildOk (taskOf q g)) t u b j j-in aside (I .waits);
+      goes = goes-turn _ _ _ _ _ m₀ t₀ m t m′ u (λ i s S. children-then _ (domain q g A) b j j-in i s) (subst (Does (taskOf q g) _ m t m′) e d) (I .goes);
     }
 
-stop : (q : Asked) (g : Region) (b : Brood) (places : ℕ) (m₀ : List ℕ) (t₀ : Counts) (m : List ℕ) (t : Counts) (j : ℕ) (m′ : List ℕ) (r : Turn) (n : ℕ) → Asks q g → j < places → r ≡ Turn.Refused n
-    → DoesFor q g (λ i. addAllFor q g i (childIf b j)) m t m′ r → Inv q g b places m₀ t₀ m t j → DoesFor q g (λ i. addAllFor q g i (childrenFrom b 0)) m₀ t₀ m′ (Turn.Refused n)
+stop : (q : Request) (g : Region) (b : Brood) (places : ℕ) (m₀ : List ℕ) (t₀ : Counts) (m : List ℕ) (t : Counts) (j : ℕ) (m′ : List ℕ) (r : Turn) (n : ℕ) → Asks q g → j < places → r ≡ Turn.Refused n
+    → Does (taskOf q g) (λ i. addAll (courseOf q g) i (childIf b j)) m t m′ r → Inv q g b places m₀ t₀ m t j → Does (taskOf q g) (λ i. addAll (courseOf q g) i (childrenFrom b 0)) m₀ t₀ m′ (Turn.Refused n)
 stop q g b places m₀ t₀ m t j m′ r n A h e d I =
     let j-in : j < b .places = omega (arith, I .all) in
-    goes-stop _ _ _ _ _ _ _ m₀ t₀ m t m′ n (λ i s S. children-then _ _ _ (domain q g A) b j j-in i s) (subst (DoesFor q g _ m t m′) e d) (I .goes)
+    goes-stop _ _ _ _ _ m₀ t₀ m t m′ n (λ i s S. children-then _ (domain q g A) b j j-in i s) (subst (Does (taskOf q g) _ m t m′) e d) (I .goes)
 
 abbrev Inv-loop : tie.InvT-loop
 Inv-loop m₀ q g w b places t₀ j₀ m t j = Inv q g b places m₀ t₀ m t j
@@ -54,13 +56,13 @@ abbrev μ-loop : tie.MeasureT-loop
 loop-holds : tie.Need-loop-holds Inv-loop μ-loop
 loop-holds c =
     let z = c .before in
-    record { all = refl; within = omega arith; long = refl; waits = record { all = z .pre .1 .1 .1 .0; room = z .pre .1 .1 .1 .1 }; goes = goes-start _ _ _ _ _ _ }
+    record { all = refl; within = omega arith; long = refl; waits = record { all = z .pre .1 .1 .1 .0; room = z .pre .1 .1 .1 .1 }; goes = goes-start _ _ _ _ }
 
 add-child-requires : tie.Need-add-child-requires Inv-loop μ-loop
 add-child-requires c κs =
     let z = c .before .before .before .before in
     let I = c .before .before .loop .inv in
-    let W = waiting-one (ChildFor _ _) _ _ _ (omega (arith, I .all, c .before .loop-test .taken)) (I .waits) in
+    let W = waiting-one (ChildOk _) _ _ _ (omega (arith, I .all, c .before .loop-test .taken)) (I .waits) in
     (omega (arith, z .pre .0, I .long), (z .pre .1 .0, (omega (arith, z .pre .1 .1 .0, I .all), (W .all, W .room))))
 
 enum-known-r : tie.Need-enum-known-r Inv-loop μ-loop
@@ -95,7 +97,7 @@ returns-2 : tie.Need-returns-2 Inv-loop μ-loop
 returns-2 c =
     let z = c .before .before .before in
     let I = c .before .loop .inv in
-    goes-end _ _ _ _ _ _ _ _ _ (λ i s S. children-over _ _ _ (domain _ _ (z .pre .1 .0 .asks)) _ _ (omega (arith, I .all, c .loop-test .left)) i s) (I .goes)
+    goes-end _ _ _ _ _ _ _ (λ i s S. children-over _ (domain _ _ (z .pre .1 .0 .asks)) _ _ (omega (arith, I .all, c .loop-test .left)) i s) (I .goes)
 
 pub add-children-spec : {M : Type 1} → statement M
 add-children-spec =

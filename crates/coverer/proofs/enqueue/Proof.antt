@@ -17,11 +17,11 @@ same-length c = search needs
 
 returns : tie.Need-returns
 unfolding AsideUpTo
-returns c = (λ q hits within ew er. queues-by q hits within _ _ _ _ _ (c .before .before .before .before .before .before .before .pre .0) (omega (arith, c .before .before .before .before .if1 .taken)) ew er (c .before .before .push .ensures), omega arith)
+returns c = (λ T ew er. queues-by T _ _ _ _ _ (c .before .before .before .before .before .before .before .pre .0) (omega (arith, c .before .before .before .before .if1 .taken)) ew er (c .before .before .push .ensures), omega arith)
 
 returns-2 : tie.Need-returns-2
 unfolding AsideUpTo
-returns-2 c = (λ q hits within ew er. queues-not q hits within _ _ _ (omega (arith, c .if1 .left)), tt)
+returns-2 c = (λ T ew er. queues-not T _ _ _ (omega (arith, c .if1 .left)), tt)
 
 pub enqueue-spec : {M : Type 1} → statement M
 enqueue-spec = tie.close (tie.spec push-requires add-t11 same-length returns returns-2)

@@ -1,11 +1,11 @@
 -- `coverer::initial_candidates` meets its contract. The invariant: the start cells from i on are what is left of the definition's start.
+use Rattle.run.specs.declared.Request.{Request}
 use Prim.Native.Nat.{ℕ, _-_, _≤_, _<_}
-use Rattle.candidate.specs.Candidate.{requestOf}
-use Rattle.candidate.specs.declared.Asked.{Asked}
-use Rattle.coverer.proofs.Runs.{all-get, Starting, starting, starting-turn, starting-stop, starting-end}
+use Rattle.candidate.specs.Candidate.{taskOf}
+use Rattle.coverer.proofs.Runs.{Starting, starting, starting-turn, starting-stop, starting-end}
 use Rattle.coverer.specs.declared.Counts.{Counts}
 use Rattle.order.specs.Order.{All}
-use Rattle.region.specs.Region.{intersectsCell, containsCell}
+use Rattle.order.proofs.OrderLaws.{all-get}
 use Rattle.region.specs.declared.Region.{Region}
 use Rattle.run.proofs.Totals.{leaves-le}
 use Rattle.run.specs.Ground.{Fit}
@@ -18,19 +18,19 @@ use native.Mathlib.Omega.{arith}
 use Rattle.coverer.proofs.initial_candidates.Statement.{statement}
 use Rattle.coverer.proofs.initial_candidates.Tie as tie
 
-record Inv (q : Asked) (g : Region) (count : ℕ) (ids m₀ m : List ℕ) (t : Counts) (i : ℕ) : Type 0 where
+record Inv (q : Request) (g : Region) (count : ℕ) (ids m₀ m : List ℕ) (t : Counts) (i : ℕ) : Type 0 where
   within : i ≤ count
   six : count ≤ 6
   wide : length ids ≡ 6
   long : length m ≡ length m₀
-  starting : Starting (requestOf q) (intersectsCell g) (containsCell g) (take count ids) m₀ m t i
+  starting : Starting (taskOf q g) (take count ids) m₀ m t i
 
 -- the i-th of the start cells
 inside : (count i : ℕ) (ids : List ℕ) → i < count → count ≤ 6 → length ids ≡ 6 → i < length (take count ids)
 inside count i ids h six wide = rw (length-take-le count ids (omega arith)) h
 
-cell : (q : Asked) (count i : ℕ) (ids : List ℕ) → i < count → count ≤ 6 → length ids ≡ 6 → All (Fit (requestOf q)) (take count ids) → Fit (requestOf q) (getD ids i 0)
-cell q count i ids h six wide a = subst (Fit (requestOf q)) (getD-take count ids i 0 h) (all-get (Fit (requestOf q)) (take count ids) i (inside count i ids h six wide) a)
+cell : (q : Request) (count i : ℕ) (ids : List ℕ) → i < count → count ≤ 6 → length ids ≡ 6 → All (Fit q) (take count ids) → Fit q (getD ids i 0)
+cell q count i ids h six wide a = subst (Fit q) (getD-take count ids i 0 h) (all-get (Fit q) (take count ids) 0 i (inside count i ids h six wide) a)
 
 abbrev Inv-loop : tie.InvT-loop
 Inv-loop m₀ q g w count ids t₀ i₀ m t i = Inv q g count ids m₀ m t i
@@ -39,7 +39,7 @@ abbrev μ-loop : tie.MeasureT-loop
 μ-loop m₀ q g w count ids t₀ i₀ m t i = count - i
 
 loop-holds : tie.Need-loop-holds Inv-loop μ-loop
-loop-holds c = record { within = omega arith; six = c .before .pre .1 .1 .0; wide = omega arith; long = refl; starting = starting _ _ _ _ _ }
+loop-holds c = record { within = omega arith; six = c .before .pre .1 .1 .0; wide = omega arith; long = refl; starting = starting _ _ _ }
 
 mul-start : tie.Need-mul-start Inv-loop μ-loop
 mul-start c = omega arith
@@ -65,7 +65,7 @@ returns : tie.Need-returns Inv-loop μ-loop
 returns c =
     let I = c .before .before .before .before .before .before .before .before .loop .inv in
     let h = c .before .before .before .before .before .before .before .loop-test .taken in
-    starting-stop _ _ _ _ _ _ _ _ _ _ _ _ (inside _ _ _ h (I .six) (I .wide)) (sym (getD-take _ _ _ 0 h)) (c .before .r .given .1) (c .before .before .before .before .before .start .ensures .0) (I .starting)
+    starting-stop _ _ _ _ _ _ _ _ _ _ (inside _ _ _ h (I .six) (I .wide)) (sym (getD-take _ _ _ 0 h)) (c .before .r .given .1) (c .before .before .before .before .before .start .ensures .0) (I .starting)
 
 enum-known-r-2 : tie.Need-enum-known-r-2 Inv-loop μ-loop
 enum-known-r-2 c = search needs
@@ -86,7 +86,7 @@ loop-again c =
       six = I .six;
       wide = I .wide;
       long = d .kept .0 ∙ I .long;
-      starting = starting-turn _ _ _ _ _ _ _ _ _ _ _ _ (inside _ _ _ h (I .six) (I .wide)) (sym (getD-take _ _ _ 0 h)) (c .before .r2 .given .1) (leaves-le _) (d .ensures .0) (d .ensures .1) (I .starting);
+      starting = starting-turn _ _ _ _ _ _ _ _ _ _ (inside _ _ _ h (I .six) (I .wide)) (sym (getD-take _ _ _ 0 h)) (c .before .r2 .given .1) (leaves-le _) (d .ensures .0) (d .ensures .1) (I .starting);
     }
 
 same-length-2 : tie.Need-same-length-2 Inv-loop μ-loop
@@ -96,7 +96,7 @@ returns-2 : tie.Need-returns-2 Inv-loop μ-loop
 returns-2 c =
     let I = c .before .loop .inv in
     let n : c .before .loop .i ≡ c .before .before .before .args .count = omega (arith, I .within, c .loop-test .left) in
-    starting-end _ _ _ _ _ _ _ _ (n ∙ sym (length-take-le _ _ (omega (arith, I .six, I .wide)))) (I .starting)
+    starting-end _ _ _ _ _ _ (n ∙ sym (length-take-le _ _ (omega (arith, I .six, I .wide)))) (I .starting)
 
 pub initial-candidates-spec : {M : Type 1} → statement M
 initial-candidates-spec =

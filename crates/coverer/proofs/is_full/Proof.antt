@@ -1,14 +1,11 @@
 -- `coverer::is_full` meets its contract.
-use Rattle.candidate.specs.Candidate.{requestOf}
 use Rattle.coverer.proofs.is_full.Statement.{statement}
 use Rattle.coverer.proofs.is_full.Tie as tie
 
 returns : tie.Need-returns
-unfolding requestOf
 returns c = rw (c .before .if1 .taken)
 
 returns-2 : tie.Need-returns-2
-unfolding requestOf
 returns-2 c = rw (c .if1 .left)
 
 pub is-full-spec : {M : Type 1} → statement M

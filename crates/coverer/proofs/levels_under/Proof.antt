@@ -1,6 +1,5 @@
 -- `coverer::levels_under` meets its contract.
 use Prim.Native.Nat.{_≤_, _<_}
-use Rattle.candidate.specs.Candidate.{requestOf}
 use Rattle.cellid.specs.CellId.{levelOf}
 use Rattle.run.specs.Run.{depth}
 use borrow.Author.Needs.{needs}
@@ -14,18 +13,18 @@ level-requires : tie.Need-level-requires
 level-requires c κs = search needs
 
 returns : tie.Need-returns
-unfolding depth requestOf
+unfolding depth
 returns c =
     let at = c .before .before .before in
-    let h : levelOf (at .args .id) < at .args .q .«min_level» = omega (arith, c .before .before .level .ensures, c .if1 .taken) in
-    rw (lt-ltb (levelOf (at .args .id)) (at .args .q .«min_level») h, depth)
+    let h : levelOf (at .args .id) < at .args .q .coverer .«min_level» = omega (arith, c .before .before .level .ensures, c .if1 .taken) in
+    rw (lt-ltb (levelOf (at .args .id)) (at .args .q .coverer .«min_level») h, depth)
 
 returns-2 : tie.Need-returns-2
-unfolding depth requestOf
+unfolding depth
 returns-2 c =
     let at = c .before .before .before in
-    let h : at .args .q .«min_level» ≤ levelOf (at .args .id) = omega (arith, c .before .before .level .ensures, c .if1 .left) in
-    rw (le-ltb (levelOf (at .args .id)) (at .args .q .«min_level») h, depth)
+    let h : at .args .q .coverer .«min_level» ≤ levelOf (at .args .id) = omega (arith, c .before .before .level .ensures, c .if1 .left) in
+    rw (le-ltb (levelOf (at .args .id)) (at .args .q .coverer .«min_level») h, depth)
 
 pub levels-under-spec : {M : Type 1} → statement M
 levels-under-spec = tie.close (tie.spec level-requires returns returns-2)

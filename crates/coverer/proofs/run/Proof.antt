@@ -1,6 +1,5 @@
 -- `coverer::run` meets its contract.
 use Prim.Native.Nat.{_*_, _≤_}
-use Rattle.candidate.specs.Candidate.{requestOf}
 use Rattle.cellid.proofs.Laws.{one-shl}
 use Rattle.coverer.proofs.Answers.{answer-room, answer-refused, answer-done}
 use Rattle.run.specs.Run.{full}
@@ -16,12 +15,12 @@ shl-t13 : tie.Need-shl-t13
 shl-t13 c = search needs
 
 covering-internal-requires : tie.Need-covering-internal-requires
-unfolding requestOf full
+unfolding full
 covering-internal-requires c κs =
     let z = c .before .before .before in
     let A = z .pre .1 .0 in
-    let few : z .args .q .«level_mod» ≤ 3 = A .few in
-    (z .pre .0, (record { asks = A; rule = rw (one-shl (2 * z .args .q .«level_mod») (omega arith)) }, (z .pre .1 .1 .0, z .pre .1 .1 .1)))
+    let few : z .args .q .coverer .«level_mod» ≤ 3 = A .few in
+    (z .pre .0, (record { asks = A; rule = rw (one-shl (2 * z .args .q .coverer .«level_mod») (omega arith)) }, (z .pre .1 .1 .0, z .pre .1 .1 .1)))
 
 enum-known-r : tie.Need-enum-known-r
 enum-known-r c = search needs
@@ -33,7 +32,7 @@ enum-known-r-2 : tie.Need-enum-known-r-2
 enum-known-r-2 c = search needs
 
 add-end : tie.Need-add-end
-add-end c = let room = answer-room _ _ _ _ _ _ _ (c .before .before .before .before .before .before .covering-internal .ensures) _ (c .before .before .r2 .given .1) in
+add-end c = let room = answer-room _ _ _ _ _ (c .before .before .before .before .before .before .covering-internal .ensures) _ (c .before .before .r2 .given .1) in
     omega arith
 
 clear-requires-2 : tie.Need-clear-requires-2
@@ -42,14 +41,14 @@ clear-requires-2 c κs = search needs
 clear-requires-3 : tie.Need-clear-requires-3
 clear-requires-3 c κs =
     let z = c .before .before .before .before .before .before .before .before .before .before .before .before .before .before .before in
-    let room = answer-room _ _ _ _ _ _ _ (c .before .before .before .before .before .before .before .before .before .before .before .covering-internal .ensures) _ (c .before .before .before .before .before .before .before .r2 .given .1) in
+    let room = answer-room _ _ _ _ _ (c .before .before .before .before .before .before .before .before .before .before .before .covering-internal .ensures) _ (c .before .before .before .before .before .before .before .r2 .given .1) in
     (omega arith, omega (arith, c .before .before .before .clear2 .kept .0, c .before .before .before .before .before .before .before .before .before .before .before .covering-internal .kept .0, z .pre .0))
 
 same-length : tie.Need-same-length
 same-length c = search needs
 
 returns : tie.Need-returns
-returns c = answer-refused _ _ _ _ _ _ _ (c .before .before .before .before .before .before .before .before .before .covering-internal .ensures) _ _ (c .before .before .before .before .before .r .given .1) (c .before .before .clear .ensures)
+returns c = answer-refused _ _ _ _ _ (c .before .before .before .before .before .before .before .before .before .covering-internal .ensures) _ _ (c .before .before .before .before .before .r .given .1) (c .before .before .clear .ensures)
 
 same-length-2 : tie.Need-same-length-2
 same-length-2 c = search needs
@@ -58,7 +57,7 @@ returns-2 : tie.Need-returns-2
 returns-2 c =
     let z = c .before .before .before .before .before .before .before .before .before .before .before .before .before .before .before .before .before .before in
     let d = c .before .before .before .before .before .before .before .before .before .before .before .before .before .before .covering-internal in
-    answer-done _ _ _ _ _ _ _ (d .ensures) _ (c .before .before .before .before .before .before .before .before .before .before .r2 .given .1) _ _ (omega (arith, d .kept .0, z .pre .0)) (c .before .before .before .before .before .before .clear2 .ensures) (c .before .before .clear3 .ensures)
+    answer-done _ _ _ _ _ (d .ensures) _ (c .before .before .before .before .before .before .before .before .before .before .r2 .given .1) _ _ (omega (arith, d .kept .0, z .pre .0)) (c .before .before .before .before .before .before .clear2 .ensures) (c .before .before .clear3 .ensures)
 
 pub run-spec : {M : Type 1} → statement M
 run-spec =

@@ -1,5 +1,4 @@
 -- `coverer::set_aside` meets its contract.
-use Rattle.candidate.specs.Candidate.{requestOf}
 use Rattle.coverer.proofs.Stands.{aside-in, aside-out}
 use borrow.Author.Needs.{needs}
 use mathlib.Core.Path.{sym}
@@ -7,14 +6,12 @@ use Rattle.coverer.proofs.set_aside.Statement.{statement}
 use Rattle.coverer.proofs.set_aside.Tie as tie
 
 returns : tie.Need-returns
-unfolding requestOf
 returns c = sym (aside-in _ _ _ (c .if1 .taken))
 
 add-t5 : tie.Need-add-t5
 add-t5 c = search needs
 
 returns-2 : tie.Need-returns-2
-unfolding requestOf
 returns-2 c = sym (aside-out _ _ _ (c .before .if1 .left))
 
 pub set-aside-spec : {M : Type 1} → statement M

@@ -1,4 +1,5 @@
 -- `coverer::step` meets its contract.
+use Rattle.run.specs.Run.{queueMost}
 use Prim.Native.Nat.{_≤_}
 use Rattle.coverer.proofs.Adds.{domain, narrow}
 use Rattle.coverer.proofs.Steps.{takes, steps}
@@ -13,7 +14,7 @@ sub-n c = search needs
 pop-requires : tie.Need-pop-requires
 pop-requires c κs =
     let z = c .before .before .before in
-    let few : z .args .t .queued ≤ 1024 = z .pre .1 .1 .0 .2 .few in
+    let few : z .args .t .queued ≤ queueMost = z .pre .1 .1 .0 .2 .few in
     (omega (arith, z .pre .0, z .pre .1 .1 .1 .0), narrow _ _ _ (z .pre .1 .0))
 
 add-t12 : tie.Need-add-t12
@@ -24,7 +25,7 @@ use-taken-requires c κs =
     let z = c .before .before .before .before .before .before .before .before in
     let p = c .before .before .before .before .pop in
     let L = z .pre .1 .1 .0 in
-    let T = takes _ _ _ (domain _ _ (z .pre .1 .0 .asks)) _ _ _ _ (z .pre .0) (z .pre .1 .1 .1 .0) (p .ensures .0) (L .1) (L .2) in
+    let T = takes _ (domain _ _ (z .pre .1 .0 .asks)) _ _ _ _ (z .pre .0) (z .pre .1 .1 .1 .0) (p .ensures .0) (L .1) (L .2) in
     (omega (arith, p .kept .0, z .pre .0), (z .pre .1 .0, ((T .kept, omega (arith, T .queued)), ((T .cell, T .sets), T .room))))
 
 same-length : tie.Need-same-length
@@ -34,7 +35,7 @@ returns : tie.Need-returns
 returns c =
     let z = c .before .before .before .before .before .before .before .before .before .before .before in
     let p = c .before .before .before .before .before .before .before .pop in
-    steps _ _ _ (domain _ _ (z .pre .1 .0 .asks)) _ _ _ _ _ _ _ (z .pre .0) (z .pre .1 .1 .1 .0) (z .pre .1 .1 .0 .2 .few) (z .pre .1 .0 .rule) (p .ensures .0) (p .ensures .1) (c .before .before .use-taken .ensures)
+    steps _ (domain _ _ (z .pre .1 .0 .asks)) _ _ _ _ _ _ _ (z .pre .0) (z .pre .1 .1 .1 .0) (z .pre .1 .1 .0 .2 .few) (z .pre .1 .0 .rule) (p .ensures .0) (p .ensures .1) (c .before .before .use-taken .ensures)
 
 pub step-spec : {M : Type 1} → statement M
 step-spec = tie.close (tie.spec sub-n pop-requires add-t12 use-taken-requires same-length returns)

@@ -1,6 +1,6 @@
 -- `covering::run_from_starts` meets its contract: the start cells are as the run asks. Assumes nothing.
-use Rattle.covering.proofs.Early.{early-none, valid-domain}
-use Rattle.covering.proofs.Starts.{run-asks, run-gives}
+use Rattle.bars.proofs.Early.{early-none}
+use Rattle.covering.proofs.Starts.{valid-domain, run-asks, run-gives}
 use borrow.Author.Needs.{needs}
 use Rattle.covering.proofs.run_from_starts.Statement.{statement}
 use Rattle.covering.proofs.run_from_starts.Tie as tie

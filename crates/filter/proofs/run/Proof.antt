@@ -2,14 +2,14 @@
 use mathlib.Core.Path.{sym}
 use native.Mathlib.Omega.{arith}
 use lib.Seq.{length-take-le}
-use Rattle.input.specs.Feed.{heldOf}
+use Rattle.input.specs.Feed.{heldBytes}
 use Rattle.filter.proofs.Laws.{reply-within}
 use borrow.Author.Needs.{needs}
 use Rattle.filter.proofs.run.Statement.{statement}
 use Rattle.filter.proofs.run.Tie as tie
 
 slice-reshare-prefix-answer : tie.Need-slice-reshare-prefix-answer
-unfolding heldOf
+unfolding heldBytes
 slice-reshare-prefix-answer c = omega (arith, rw (c .before .all .given .1) at (c .before .before .before .before .before .read-all .ensures))
 
 tell-requires-2 : tie.Need-tell-requires-2

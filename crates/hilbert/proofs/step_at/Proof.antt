@@ -1,15 +1,15 @@
 use native.Mathlib.Omega.{arith}
 use Rattle.cellid.proofs.Laws.{last-arm}
-use Rattle.hilbert.specs.Curve.{stepOf, posOf, placeIn, rowAt}
+use Rattle.hilbert.specs.Curve.{stepOf, posOf, indexIn, rowAt}
 use Rattle.hilbert.proofs.step_at.Statement.{statement}
 use Rattle.hilbert.proofs.step_at.Tie as tie
 
 returns-16 : tie.Need-returns-16
-unfolding stepOf posOf placeIn rowAt
+unfolding stepOf posOf indexIn rowAt
 returns-16 c = rw (last-arm _ 15 (omega (arith, c .before .pre)) (c .match .rest))
 
 pub step-at-spec : {M : Type 1} → statement M
-unfolding stepOf posOf placeIn rowAt
+unfolding stepOf posOf indexIn rowAt
 step-at-spec =
     tie.close
     (tie.spec

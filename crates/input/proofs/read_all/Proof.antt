@@ -4,7 +4,7 @@ use Prim.Native.Nat.{_-_, _≤_}
 use native.Mathlib.Omega.{arith}
 use lib.ListN.{length}
 use borrow.Author.Needs.{needs}
-use Rattle.input.specs.Feed.{heldOf}
+use Rattle.input.specs.Feed.{heldBytes}
 use Rattle.input.proofs.read_all.Statement.{statement}
 use Rattle.input.proofs.read_all.Tie as tie
 
@@ -15,15 +15,15 @@ abbrev μ-loop : tie.MeasureT-loop
 μ-loop fd buf₀ filled₀ buf filled = length buf₀ - filled
 
 returns : tie.Need-returns Inv-loop μ-loop
-unfolding heldOf
+unfolding heldBytes
 returns c = omega arith
 
 returns-2 : tie.Need-returns-2 Inv-loop μ-loop
-unfolding heldOf
+unfolding heldBytes
 returns-2 c = omega arith
 
 returns-3 : tie.Need-returns-3 Inv-loop μ-loop
-unfolding heldOf
+unfolding heldBytes
 returns-3 c = omega arith
 
 pub read-all-spec : {M : Type 1} → statement M

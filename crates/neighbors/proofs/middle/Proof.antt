@@ -1,6 +1,6 @@
 -- `neighbors::middle` meets its contract.
 use borrow.Author.Needs.{needs}
-use Rattle.neighbors.specs.Neighbors.{middleOf}
+use Rattle.neighbors.specs.Neighbors.{middleAt}
 use Rattle.neighbors.proofs.middle.Statement.{statement}
 use Rattle.neighbors.proofs.middle.Tie as tie
 
@@ -11,7 +11,7 @@ clamp-requires : tie.Need-clamp-requires
 clamp-requires c κs = search needs
 
 returns : tie.Need-returns
-unfolding middleOf
+unfolding middleAt
 returns c = rw (c .clamp .ensures, c .before .coordinate .ensures)
 
 pub middle-spec : {M : Type 1} → statement M

@@ -9,7 +9,7 @@ use lib.ListN.{length}
 use Rattle.order.proofs.HeapRun.{Down, Down-start, Down-turn, Down-leaf, Down-stop}
 use Rattle.queue.specs.declared.Rec.{Rec}
 use Rattle.queue.specs.declared.Rule.{Rule}
-use Rattle.queue.specs.Queue.{getR, putR, capR, before, popR, lesserR}
+use Rattle.queue.specs.Queue.{getR, putR, capR, before, popR, lesserR, nextR}
 use Rattle.queue.proofs.Mem.{length-putR, priced}
 use Rattle.queue.proofs.pop.Statement.{statement}
 use Rattle.queue.proofs.pop.Tie as tie
@@ -79,6 +79,7 @@ same-length c =
     ap length (after-put .put2 .ensures) ∙ length-putR _ _ _ ∙ after-put .before .before .before .loop .inv .len
 
 returns : tie.Need-returns Inv-loop μ-loop
+unfolding nextR
 returns c =
     let after-put = c .before .before in
     let left = after-put .before .before in

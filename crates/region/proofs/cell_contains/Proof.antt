@@ -1,11 +1,11 @@
 -- `region::cell_contains` meets its contract.
-use Rattle.region.proofs.Laws.{valid-pos}
+use Rattle.cellid.proofs.Laws.{valid-fits}
 use borrow.Author.Needs.{needs}
 use Rattle.region.proofs.cell_contains.Statement.{statement}
 use Rattle.region.proofs.cell_contains.Tie as tie
 
 contains-requires : tie.Need-contains-requires
-contains-requires c κs = valid-pos (c .args .own) (c .fits .own .fits) (c .pre)
+contains-requires c κs = valid-fits (c .args .own) (c .pre) .0
 
 returns : tie.Need-returns
 returns c = search needs

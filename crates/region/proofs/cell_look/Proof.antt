@@ -1,8 +1,7 @@
 -- `region::cell_look` meets its contract.
 use native.Mathlib.Omega.{arith}
-use Rattle.cellid.proofs.Laws.{cell-pos}
-use Rattle.cap.proofs.Siblings.{bit-le}
-use Rattle.region.proofs.Laws.{child-valid}
+use Rattle.cellid.proofs.Laws.{cell-pos, one-le}
+use Rattle.cellid.proofs.Leaves.{child-valid}
 use borrow.Author.Needs.{needs}
 use Rattle.region.proofs.cell_look.Statement.{statement}
 use Rattle.region.proofs.cell_look.Tie as tie
@@ -14,11 +13,11 @@ cell-intersects-requires : tie.Need-cell-intersects-requires
 cell-intersects-requires c κs = (c .before .pre .0, child-valid _ _ _ (c .before .pre .1) (c .before .pre .2) (c .before .pre .3) (c .child .ensures))
 
 mul-result : tie.Need-mul-result
-mul-result c = omega (arith, c .mark2 .ensures, bit-le (c .before .cell-contains .result))
+mul-result c = omega (arith, c .mark2 .ensures, one-le (c .before .cell-contains .result))
 
 add-result : tie.Need-add-result
 add-result c =
-    omega (arith, c .before .before .mark .ensures, c .mark2 .ensures, bit-le (c .before .before .before .cell-intersects .result), bit-le (c .before .cell-contains .result))
+    omega (arith, c .before .before .mark .ensures, c .mark2 .ensures, one-le (c .before .before .before .cell-intersects .result), one-le (c .before .cell-contains .result))
 
 returns : tie.Need-returns
 returns c =

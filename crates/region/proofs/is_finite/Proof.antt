@@ -1,5 +1,5 @@
 -- `region::is_finite` meets its contract.
-use Rattle.region.proofs.Laws.{finite-is}
+use Rattle.point.proofs.Laws.{finite-is}
 use lib.Ieee.{div, neg, ofBits}
 use Rattle.region.proofs.is_finite.Statement.{statement}
 use Rattle.region.proofs.is_finite.Tie as tie

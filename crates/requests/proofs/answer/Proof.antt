@@ -12,10 +12,10 @@ put-answer-requires : tie.Need-put-answer-requires
 put-answer-requires c κs = asked-fits _ _ _ _ _ _ (c .before .before .before .before .before .before .answer-in .ensures)
 
 returns-2 : tie.Need-returns-2
-returns-2 c = replied-asked _ _ _ _ _ _ _ _ (sym (c .before .before .before .before .before .before .before .before .before .before .before .before .before .before .before .before .is-silent .ensures) ∙ c .before .before .before .before .before .before .before .before .before .before .before .before .before .before .before .if1 .left) (c .before .before .before .before .before .before .before .before .before .before .before .before .before .before .read-request .ensures) (c .before .before .before .before .before .before .before .before .before .before .before .before .before .before .before .before .before .before .before .before .before .pre) _ (c .before .before .before .before .before .before .before .before .before .answer-in .result) _ _ (c .before .before .before .before .before .before .before .before .before .before .before .before .enum-told .given .1) (c .before .before .before .before .before .before .before .before .before .answer-in .ensures) (c .before .before .put-answer .ensures)
+returns-2 c = replied-asked _ _ _ _ _ _ _ _ (sym (c .before .before .before .before .before .before .before .before .before .before .before .before .before .before .before .before .is-silent .ensures) ∙ c .before .before .before .before .before .before .before .before .before .before .before .before .before .before .before .if1 .left) (c .before .before .before .before .before .before .before .before .before .before .before .before .before .before .read-asked .ensures) (c .before .before .before .before .before .before .before .before .before .before .before .before .before .before .before .before .before .before .before .before .before .pre) _ (c .before .before .before .before .before .before .before .before .before .answer-in .result) _ _ (c .before .before .before .before .before .before .before .before .before .before .before .before .enum-told .given .1) (c .before .before .before .before .before .before .before .before .before .answer-in .ensures) (c .before .before .put-answer .ensures)
 
 returns-3 : tie.Need-returns-3
-returns-3 c = replied-bad _ _ _ _ _ _ _ _ (sym (c .before .before .before .before .before .before .before .before .before .is-silent .ensures) ∙ c .before .before .before .before .before .before .before .before .if1 .left) (c .before .before .before .before .before .before .before .read-request .ensures) (c .before .before .before .before .before .before .before .before .before .before .before .before .before .before .pre) _ (c .before .before .before .before .before .after .given .1) (c .before .before .put-error .ensures)
+returns-3 c = replied-bad _ _ _ _ _ _ _ _ (sym (c .before .before .before .before .before .before .before .before .before .is-silent .ensures) ∙ c .before .before .before .before .before .before .before .before .if1 .left) (c .before .before .before .before .before .before .before .read-asked .ensures) (c .before .before .before .before .before .before .before .before .before .before .before .before .before .before .pre) _ (c .before .before .before .before .before .after .given .1) (c .before .before .put-error .ensures)
 
 pub answer-spec : {M : Type 1} → statement M
 answer-spec =

@@ -5,7 +5,7 @@ use Rattle.sets.proofs.is_pick_list.Statement.{statement}
 use Rattle.sets.proofs.is_pick_list.Tie as tie
 
 returns : tie.Need-returns
-returns c = pick-yes _ _ (c .before .if1 .taken) (c .is-list .ensures)
+returns c = pick-yes _ _ (c .before .if1 .taken) (c .is-valid .ensures)
 
 returns-2 : tie.Need-returns-2
 returns-2 c = pick-no _ (c .if1 .left)

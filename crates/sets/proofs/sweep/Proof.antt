@@ -5,7 +5,7 @@ use native.Mathlib.Omega.{arith}
 use lib.ListN.{length}
 use lib.Seq.{length-sets}
 use Rattle.ranges.specs.Ranges.{leaves}
-use Rattle.ranges.proofs.Inputs.{is-list→}
+use Rattle.cellunion.proofs.Lists.{is-list}
 use Rattle.sets.proofs.Turns.{Sweeping, sweep-start, sweep-on, sweep-turn, sweep-done}
 use Rattle.sets.proofs.sweep.Statement.{statement}
 use Rattle.sets.proofs.sweep.Tie as tie
@@ -17,10 +17,10 @@ abbrev μ-loop : tie.MeasureT-loop
 μ-loop op a b out₀ first₀ second₀ s₀ p₀ at₀ out first second s p at = leaves - p
 
 cursor-at-requires : tie.Need-cursor-at-requires Inv-loop μ-loop
-cursor-at-requires c κs = is-list→ _ (c .before .before .before .pre .0) .0
+cursor-at-requires c κs = is-list _ .0 (c .before .before .before .pre .0) .0
 
 cursor-at-requires-2 : tie.Need-cursor-at-requires-2 Inv-loop μ-loop
-cursor-at-requires-2 c κs = is-list→ _ (c .before .before .before .before .pre .1) .0
+cursor-at-requires-2 c κs = is-list _ .0 (c .before .before .before .before .pre .1) .0
 
 loop-holds : tie.Need-loop-holds Inv-loop μ-loop
 loop-holds c = let P = c .before .before .before .before .before .pre in sweep-start _ _ _ _ _ _ (P .0) (P .1) (c .before .cursor-at .ensures) (c .cursor-at2 .ensures)

@@ -4,7 +4,7 @@ use Prim.Native.Nat.{_-_}
 use native.Mathlib.Omega.{arith}
 use lib.ListN.{length}
 use borrow.Author.Needs.{needs}
-use Rattle.tokens.proofs.Names.{valid-fits}
+use Rattle.cellid.proofs.Laws.{valid-fits}
 use Rattle.tokens.proofs.Turns.{Reading, read-start, read-turn, read-bad, read-done, read-full}
 use Rattle.tokens.proofs.look_lines.Statement.{statement}
 use Rattle.tokens.proofs.look_lines.Tie as tie

@@ -1,0 +1,164 @@
+-- The refusals 1 to 6: each is given exactly when the paper says so.
+use mathlib.Core.Path.{_≡_, refl, sym, _∙_, subst}
+use mathlib.Core.Bool.{Bool, true, false, true≢false}
+use mathlib.Core.Logic.{_⊎_, inl, inr, ⊎-elim, _↔_}
+use Prim.Native.Nat.{ℕ, zero, suc, _≤_, _<_}
+use native.Mathlib.Omega.{arith}
+use lib.Dec.{leb, ltb}
+use borrow.Author.Tests.{leb-true, leb-false, ltb-true, ltb-false, lt-ltb, le-ltb, le-leb}
+use Rattle.cellid.proofs.Laws.{and-true, no-true}
+use Rattle.region.specs.declared.Region.{Region}
+use Rattle.region.specs.Region.{inDomain}
+use Rattle.run.specs.declared.RegionCoverer.{RegionCoverer}
+use Rattle.run.proofs.Lists.{if-ok}
+use Rattle.run.specs.Run.{memoryWords}
+use Rattle.bars.specs.declared.Bar.{Bar}
+use Rattle.bars.specs.Bars.{isMod, numbersBar, regionBar, memoryBar, firstBar, barOf}
+
+-- "level_mod not 1..3"
+abbrev pub NoMod : ℕ → Type 0
+NoMod m = (m < 1) ⊎ (3 < m)
+
+abbrev pub Mod : ℕ → Type 0
+Mod m = (0 < m) × (m ≤ 3)
+
+mod-true : (m : ℕ) → isMod m ≡ true → Mod m
+unfolding isMod
+mod-true m t = let a = and-true (leb 1 m) (leb m 3) t in let x : 1 ≤ m = leb-true _ _ (a .0) in let y : m ≤ 3 = leb-true _ _ (a .1) in (omega arith, y)
+
+mod-false : (m : ℕ) → isMod m ≡ false → NoMod m
+unfolding isMod
+mod-false zero t = inl (omega arith)
+mod-false (suc m) t = ⊎-elim (λ (h : leb (suc m) 3 ≡ true). absurd (true≢false (sym (rw (le-leb 1 (suc m) (omega arith), h)) ∙ t))) (λ (h : leb (suc m) 3 ≡ false). inr (leb-false _ _ h)) (which (leb (suc m) 3))
+  where
+    which : (b : Bool) → (b ≡ true) ⊎ (b ≡ false)
+    which true = inl refl
+    which false = inr refl
+
+is-mod : (m : ℕ) → Mod m → isMod m ≡ true
+unfolding isMod
+is-mod m h = rw (le-leb 1 m (omega arith), le-leb m 3 (omega arith))
+
+not-mod : (m : ℕ) → NoMod m → isMod m ≡ false
+not-mod m h = no-true (isMod m) (λ t. let g = mod-true m t in ⊎-elim (λ x. omega arith) (λ x. omega arith) h)
+
+-- ---- each bar by its reason
+
+pub region-open : (g : Region) → inDomain g ≡ true → regionBar g ≡ Bar.Open
+unfolding regionBar
+region-open g h = rw (h, regionBar)
+
+pub region-bad : (g : Region) → inDomain g ≡ false → regionBar g ≡ Bar.Barred 5
+unfolding regionBar
+region-bad g h = rw (h, regionBar)
+
+pub memory-short : (memory : ℕ) → memory < memoryWords → memoryBar memory ≡ Bar.Barred 6
+unfolding memoryBar
+memory-short memory h = rw (lt-ltb memory memoryWords h, memoryBar)
+
+pub memory-open : (memory : ℕ) → memoryWords ≤ memory → memoryBar memory ≡ Bar.Open
+unfolding memoryBar
+memory-open memory h = rw (le-ltb memory memoryWords h, memoryBar)
+
+module _ (c : RegionCoverer) where
+  pub numbers-deep : 30 < c .«max_level» → numbersBar c ≡ Bar.Barred 1
+  unfolding numbersBar
+  numbers-deep h = rw (lt-ltb 30 (c .«max_level») h, numbersBar)
+
+  module _ (t : c .«max_level» ≤ 30) where
+    pub numbers-order : c .«max_level» < c .«min_level» → numbersBar c ≡ Bar.Barred 2
+    unfolding numbersBar
+    numbers-order h = rw (le-ltb 30 (c .«max_level») t, numbersBar, lt-ltb (c .«max_level») (c .«min_level») h)
+
+    module _ (l : c .«min_level» ≤ c .«max_level») where
+      pub numbers-steps : NoMod (c .«level_mod») → numbersBar c ≡ Bar.Barred 3
+      unfolding numbersBar
+      numbers-steps h = rw (le-ltb 30 (c .«max_level») t, numbersBar, le-ltb (c .«max_level») (c .«min_level») l, not-mod (c .«level_mod») h)
+
+      module _ (m : Mod (c .«level_mod»)) where
+        pub numbers-cells : 1000 < c .«max_cells» → numbersBar c ≡ Bar.Barred 4
+        unfolding numbersBar
+        numbers-cells h = rw (le-ltb 30 (c .«max_level») t, numbersBar, le-ltb (c .«max_level») (c .«min_level») l, is-mod (c .«level_mod») m, lt-ltb 1000 (c .«max_cells») h)
+
+        pub numbers-open : c .«max_cells» ≤ 1000 → numbersBar c ≡ Bar.Open
+        unfolding numbersBar
+        numbers-open f = rw (le-ltb 30 (c .«max_level») t, numbersBar, le-ltb (c .«max_level») (c .«min_level») l, is-mod (c .«level_mod») m, le-ltb 1000 (c .«max_cells») f)
+
+module _ (c : RegionCoverer) (g : Region) (memory : ℕ) where
+  abbrev pub Top : Type 0
+  Top = c .«max_level» ≤ 30
+
+  abbrev pub Low : Type 0
+  Low = c .«min_level» ≤ c .«max_level»
+
+  abbrev pub Few : Type 0
+  Few = c .«max_cells» ≤ 1000
+
+  -- the numbers, with what each is given for, and what holds where none is
+  pub data Early : Bar → Type 0 where
+    deep : 30 < c .«max_level» → Early (Bar.Barred 1)
+    order : Top → c .«max_level» < c .«min_level» → Early (Bar.Barred 2)
+    steps : Top → Low → NoMod (c .«level_mod») → Early (Bar.Barred 3)
+    cells : Top → Low → Mod (c .«level_mod») → 1000 < c .«max_cells» → Early (Bar.Barred 4)
+    region : Top → Low → Mod (c .«level_mod») → Few → inDomain g ≡ false → Early (Bar.Barred 5)
+    short : Top → Low → Mod (c .«level_mod») → Few → inDomain g ≡ true → memory < memoryWords → Early (Bar.Barred 6)
+    none : Top → Low → Mod (c .«level_mod») → Few → inDomain g ≡ true → memoryWords ≤ memory → Early Bar.Open
+
+  -- the number that is given is given for its reason
+  pub early-is : Early (barOf c g memory)
+  unfolding barOf numbersBar regionBar memoryBar firstBar
+  early-is = if-ok numbers (ltb 30 (c .«max_level»)) _ _
+      (λ t. deep (ltb-true _ _ t))
+      (λ t₁. if-ok numbers (ltb (c .«max_level») (c .«min_level»)) _ _
+      (λ t. order (ltb-false _ _ t₁) (ltb-true _ _ t))
+      (λ t₂. if-ok numbers (isMod (c .«level_mod»)) _ _
+      (λ t₃. if-ok numbers (ltb 1000 (c .«max_cells»)) _ _
+      (λ t. cells (ltb-false _ _ t₁) (ltb-false _ _ t₂) (mod-true _ t₃) (ltb-true _ _ t))
+      (λ t₄. if-ok (λ (b : Bar). Early (firstBar b (memoryBar memory))) (inDomain g) _ _
+      (λ t₅. if-ok Early (ltb memory memoryWords) _ _
+      (λ t. short (ltb-false _ _ t₁) (ltb-false _ _ t₂) (mod-true _ t₃) (ltb-false _ _ t₄) t₅ (ltb-true _ _ t))
+      (λ t. none (ltb-false _ _ t₁) (ltb-false _ _ t₂) (mod-true _ t₃) (ltb-false _ _ t₄) t₅ (ltb-false _ _ t)))
+      (λ t. region (ltb-false _ _ t₁) (ltb-false _ _ t₂) (mod-true _ t₃) (ltb-false _ _ t₄) t)))
+      (λ t. steps (ltb-false _ _ t₁) (ltb-false _ _ t₂) (mod-false _ t))))
+    where
+      numbers : Bar → Type 0
+      numbers b = Early (firstBar b (firstBar (regionBar g) (memoryBar memory)))
+
+  -- and where the reason is there, the number is given
+  pub early-given : (b : Bar) → Early b → barOf c g memory ≡ b
+  unfolding barOf firstBar
+  early-given b (deep h) = rw (numbers-deep c h)
+  early-given b (order t h) = rw (numbers-order c t h)
+  early-given b (steps t l h) = rw (numbers-steps c t l h)
+  early-given b (cells t l m h) = rw (numbers-cells c t l m h)
+  early-given b (region t l m f h) = rw (numbers-open c t l m f, region-bad g h)
+  early-given b (short t l m f r h) = rw (numbers-open c t l m f, region-open g r, memory-short memory h)
+  early-given b (none t l m f r h) = rw (numbers-open c t l m f, region-open g r, memory-open memory h)
+
+  -- each number is given exactly when
+  pub exactly-when : (b : Bar) → (barOf c g memory ≡ b) ↔ Early b
+  exactly-when b = (λ e. subst Early e early-is, early-given b)
+
+  -- 1 to 6 and no other
+  pub early-low : {n : ℕ} → Early (Bar.Barred n) → (0 < n) × (n ≤ 6)
+  early-low (deep _) = (omega arith, omega arith)
+  early-low (order _ _) = (omega arith, omega arith)
+  early-low (steps _ _ _) = (omega arith, omega arith)
+  early-low (cells _ _ _ _) = (omega arith, omega arith)
+  early-low (region _ _ _ _ _) = (omega arith, omega arith)
+  early-low (short _ _ _ _ _ _) = (omega arith, omega arith)
+
+  -- what the functions beneath ask, once none of 1 to 6 is given
+  pub record Valid : Type 0 where
+    pub deep : Top
+    pub order : Low
+    pub «mod» : Mod (c .«level_mod»)
+    pub few : Few
+    pub region : inDomain g ≡ true
+    pub long : memoryWords ≤ memory
+
+  pub early-none : barOf c g memory ≡ Bar.Open → Valid
+  early-none e = of (subst Early e early-is)
+    where
+      of : Early Bar.Open → Valid
+      of (none t l m f r h) = record { deep = t; order = l; «mod» = m; few = f; region = r; long = h }

@@ -1,0 +1,74 @@
+// The refusals 1 to 6, which come before anything is touched: of a request's numbers, of its region and of the working memory, each by itself and joined in
+// paper 01's order.
+ghost use mathlib.Core.Path.{_≡_};
+ghost use Rattle.bars.specs.Bars.{firstBar, numbersBar, regionBar, memoryBar, barOf};
+use region::Region;
+use run::MEMORY_WORDS;
+use run::RegionCoverer;
+
+// Whether a request goes on, or is refused with a number before anything is touched.
+pub enum Bar {
+    Open,
+    Barred(u64),
+}
+
+// The first of two bars.
+pub fn first_bar(a: Bar, b: Bar) -> Bar
+    ensures { λ r. ⌜ r ≡ firstBar a b ⌝ }
+{
+    match a {
+        Bar::Open => b,
+        Bar::Barred(n) => Bar::Barred(n),
+    }
+}
+
+// 1 to 4: the request's numbers.
+pub fn numbers_bar(c: RegionCoverer) -> Bar
+    ensures { λ r. ⌜ r ≡ numbersBar c ⌝ }
+{
+    if c.max_level > 30 {
+        return Bar::Barred(1);
+    }
+    if c.max_level < c.min_level {
+        return Bar::Barred(2);
+    }
+    if c.level_mod < 1 {
+        return Bar::Barred(3);
+    }
+    if c.level_mod > 3 {
+        return Bar::Barred(3);
+    }
+    if c.max_cells > 1000 {
+        return Bar::Barred(4);
+    }
+    Bar::Open
+}
+
+// 5: the region.
+pub fn region_bar(g: Region) -> Bar
+    ensures { λ r. ⌜ r ≡ regionBar g ⌝ }
+{
+    if region::in_domain(g) {
+        Bar::Open
+    } else {
+        Bar::Barred(5)
+    }
+}
+
+// 6: the working memory.
+pub fn memory_bar(words: usize) -> Bar
+    ensures { λ r. ⌜ r ≡ memoryBar words ⌝ }
+{
+    if words < MEMORY_WORDS {
+        Bar::Barred(6)
+    } else {
+        Bar::Open
+    }
+}
+
+// The first of the refusals 1 to 6 that is to be given, if any.
+pub fn first_refusal(c: RegionCoverer, g: Region, words: usize) -> Bar
+    ensures { λ r. ⌜ r ≡ barOf c g words ⌝ }
+{
+    first_bar(numbers_bar(c), first_bar(region_bar(g), memory_bar(words)))
+}

@@ -1,0 +1,32 @@
+-- `covering::lay_fast` meets its contract: the fast covering of the bound, and the words of a run cleared. Assumes nothing.
+use mathlib.Core.Path.{refl, ap, _∙_}
+use Rattle.cellunion.specs.declared.Laid.{Laid}
+use Rattle.covering.specs.Covering.{answerLaid}
+use Rattle.bars.proofs.Early.{early-none}
+use Rattle.covering.proofs.Starts.{valid-domain}
+use Rattle.covering.proofs.Answers.{answered-as, answered-laid}
+use borrow.Author.Needs.{needs}
+use Rattle.covering.proofs.lay_fast.Statement.{statement}
+use Rattle.covering.proofs.lay_fast.Tie as tie
+
+fast-covering-requires : tie.Need-fast-covering-requires
+fast-covering-requires c κs = let v = early-none _ _ _ (c .before .before .before .pre) in (valid-domain _ _ _ v, v .region)
+
+clear-front-requires : tie.Need-clear-front-requires
+clear-front-requires c κs = early-none _ _ _ (c .before .before .before .before .before .before .before .pre) .long
+
+returns : tie.Need-returns
+returns c =
+    let f = c .before .before .before .before .before .before .before in
+    answered-as refl (answered-laid _ _ _ 0 0) (c .laid-answer .ensures ∙ ap (λ (w : Laid). answerLaid w 0 0) (f .fast-covering .ensures .0)) (c .before .before .before .clear-front .ensures) (f .fast-covering .ensures .1)
+
+pub lay-fast-spec : {M : Type 1} → statement M
+lay-fast-spec =
+    tie.close
+    (tie.spec
+    fast-covering-requires
+    clear-front-requires
+    (λ c κs. search needs)
+    (λ c. search needs)
+    (λ c. search needs)
+    returns)
