@@ -1,6 +1,6 @@
 -- The refusals 1 to 6: each is given exactly when the paper says so.
-use mathlib.Core.Path.{_≡_, refl, sym, _∙_, subst}
-use mathlib.Core.Bool.{Bool, true, false, true≢false}
+use mathlib.Core.Path.{_≡_, subst}
+use mathlib.Core.Bool.{true, false}
 use mathlib.Core.Logic.{_⊎_, inl, inr, ⊎-elim, _↔_}
 use Prim.Native.Nat.{ℕ, zero, suc, _≤_, _<_}
 use native.Mathlib.Omega.{arith}
@@ -29,11 +29,7 @@ mod-true m t = let a = and-true (leb 1 m) (leb m 3) t in let x : 1 ≤ m = leb-t
 mod-false : (m : ℕ) → isMod m ≡ false → NoMod m
 unfolding isMod
 mod-false zero t = inl (omega arith)
-mod-false (suc m) t = ⊎-elim (λ (h : leb (suc m) 3 ≡ true). absurd (true≢false (sym (rw (le-leb 1 (suc m) (omega arith), h)) ∙ t))) (λ (h : leb (suc m) 3 ≡ false). inr (leb-false _ _ h)) (which (leb (suc m) 3))
-  where
-    which : (b : Bool) → (b ≡ true) ⊎ (b ≡ false)
-    which true = inl refl
-    which false = inr refl
+mod-false (suc m) t = inr (leb-false (suc m) 3 (rw (le-leb 1 (suc m) (omega arith)) at t))
 
 is-mod : (m : ℕ) → Mod m → isMod m ≡ true
 unfolding isMod

@@ -131,8 +131,8 @@ fn expand_children(q: Request, g: Region, id: u64, left: u64) -> Found
 // The children of a candidate that is to be expanded: by one level below min, else by level_mod.
 pub fn expand(q: Request, g: Region, id: u64) -> Found
     requires { ⌜ Asks q g ⌝ }
-    requires { ⌜ (Cell id × (levelOf id + depth (q) id ≤ 30)) ⌝ }
-    ensures { λ r. ⌜ r ≡ found (taskOf q g) (depth (q) id) id ⌝ }
+    requires { ⌜ (Cell id × (levelOf id + depth q id ≤ 30)) ⌝ }
+    ensures { λ r. ⌜ r ≡ found (taskOf q g) (depth q id) id ⌝ }
 {
     if cellid::level(id) < q.coverer.min_level {
         children(q, g, id)

@@ -10,7 +10,8 @@ use lib.Dec.{lit≤, lit<}
 use lib.ListN.{length, getD, drop, take}
 use lib.Seq.{drop-cons}
 use lib.Ieee.{Float, nan, le}
-use Rattle.cellid.specs.CellId.{Cell, idOf}
+use Rattle.cellid.specs.CellId.{Cell, faceCell, sixFaces}
+use Rattle.cellid.proofs.Parts.{face-cell}
 use Rattle.order.specs.Order.{All}
 use Rattle.point.specs.declared.Point.{Point}
 use Rattle.neighbors.specs.Neighbors.{leafOfPoint, vertexNeighbors, inFour, AtLevel}
@@ -18,7 +19,7 @@ use Rattle.neighbors.specs.declared.Neighbors.{Neighbors}
 use Rattle.neighbors.proofs.Laws.{point-leaf, neighbors-few, neighbors-cells}
 use Rattle.cell.specs.declared.Cap.{Cap}
 use Rattle.cap.specs.declared.Bound.{Bound}
-use Rattle.cap.specs.Bound.{thresholds, levelIn, levelFor, sixFaces, boundAt, unionBound, inSix}
+use Rattle.cap.specs.Bound.{thresholds, levelIn, levelFor, boundAt, unionBound, inSix}
 use Rattle.cap.proofs.Table.{thirty}
 
 -- ---- the loop over the table
@@ -26,7 +27,7 @@ pub level-next : (ts : List Float) (r : Float) (k : ℕ) → k < length ts → l
 unfolding levelIn
 level-next ts r k h = rw (drop-cons ts k nan h, levelIn, add-one k)
 
-pub level-in-le : (ts : List Float) (r : Float) → levelIn ts r ≤ length ts
+level-in-le : (ts : List Float) (r : Float) → levelIn ts r ≤ length ts
 unfolding levelIn
 level-in-le [] r = lit≤ tt
 level-in-le (t ∷ ts) r = go (le r t) (level-in-le ts r)
@@ -77,8 +78,8 @@ in-six (a ∷ b ∷ c ∷ d ∷ e ∷ l) h = absurd (omega arith)
 neighbors-four : (id level : ℕ) → length (vertexNeighbors id level) ≤ 4
 neighbors-four id level = ⊎-elim (λ e. omega (arith, e)) (λ e. omega (arith, e)) (neighbors-few id level)
 
-pub listed-six : (n : Neighbors) (id level : ℕ) → n ≡ inFour (vertexNeighbors id level) → six (n .ids) (n .count) ≡ inSix (vertexNeighbors id level)
-listed-six n id level e = rw e (in-six (vertexNeighbors id level) (neighbors-four id level))
+pub four-six : (n : Neighbors) (id level : ℕ) → n ≡ inFour (vertexNeighbors id level) → six (n .ids) (n .count) ≡ inSix (vertexNeighbors id level)
+four-six n id level e = rw e (in-six (vertexNeighbors id level) (neighbors-four id level))
 
 module _ (center : Point) where
   at-short : (level : ℕ) → length (boundAt level center) ≤ 6
@@ -96,8 +97,8 @@ module _ (center : Point) where
   unfolding boundAt sixFaces All
   at-level zero h = (face 0 (lit< tt), (face 1 (lit< tt), (face 2 (lit< tt), (face 3 (lit< tt), (face 4 (lit< tt), (face 5 (lit< tt), tt))))))
     where
-      face : (f : ℕ) → f < 6 → AtLevel 0 (idOf 0 f)
-      face f h = (f, record { level = lit≤ tt; place = h; is = refl })
+      face : (f : ℕ) → f < 6 → AtLevel 0 (faceCell f)
+      face f h = (f, face-cell f h)
   at-level (suc n) h = let p = point-leaf center in
       let e : suc n - 1 ≡ n = omega arith in
       rw e (neighbors-cells (leafOfPoint center) 30 (p .0) n (p .1) (omega arith))

@@ -5,7 +5,7 @@ use mathlib.Core.Bool.{Bool, true, cond, _&&_}
 use mathlib.Core.List.{List, [], _∷_, _++_}
 use lib.ListN.{length, replicate}
 use lib.Ieee.{Float, lt, le}
-use Rattle.cellid.specs.CellId.{idOf}
+use Rattle.cellid.specs.CellId.{sixFaces}
 use Rattle.point.specs.Floats.{bits}
 use Rattle.point.specs.declared.Point.{Point}
 use Rattle.neighbors.specs.Neighbors.{leafOfPoint, vertexNeighbors}
@@ -60,9 +60,6 @@ abbrev pub falling : List Float → Bool
 falling [] = true
 falling (a ∷ []) = true
 falling (a ∷ b ∷ l) = lt b a && falling (b ∷ l)
-
-unfoldable pub sixFaces : List ℕ
-sixFaces = idOf 0 0 ∷ idOf 0 1 ∷ idOf 0 2 ∷ idOf 0 3 ∷ idOf 0 4 ∷ idOf 0 5 ∷ []
 
 unfoldable pub boundAt : ℕ → Point → List ℕ
 boundAt zero center = sixFaces

@@ -32,12 +32,14 @@ pub struct Bound {
     pub count: usize,
 }
 
+// A negative radius means empty.
 pub fn is_empty(c: Cap) -> bool
     ensures { λ r. ⌜ r ≡ isEmptyCap c ⌝ }
 {
     c.radius < 0.0
 }
 
+// The half turn means full.
 pub fn is_full(c: Cap) -> bool
     ensures { λ r. ⌜ r ≡ isFullCap c ⌝ }
 {

@@ -23,7 +23,7 @@ module _ {R : Result} {number count steps aside : ℕ} {mem mem′ out out′ : 
   pub called-answered : Called R number mem mem′ out out′ count steps aside → Answered R (record { number = number; count = count; steps = steps; aside = aside }) mem mem′ out out′
   called-answered C = record { answer = rw (C .told .is, C .told .counted, C .told .taken, C .told .total); memory = C .memory; output = C .output }
 
--- of the request and the region that the numbers make
+-- a call for c and g is one for the request and the region that its numbers make
 pub call-made : (k : Kind) (c c′ : RegionCoverer) (g g′ : Region) (allowance number : ℕ) (mem mem′ out out′ : List ℕ) (count steps aside : ℕ) → c ≡ c′ → g ≡ g′
     → Called (resultOf k c g allowance (length mem) (length out)) number mem mem′ out out′ count steps aside
     → Called (resultOf k c′ g′ allowance (length mem) (length out)) number mem mem′ out out′ count steps aside

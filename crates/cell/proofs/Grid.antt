@@ -1,4 +1,4 @@
--- The lines of the leaves' grid: they are finite, go up with their numbers, and run from -1 by 0 to 1.
+-- The lines of the leaves' grid: they are finite, never fall as their numbers rise, and run from -1 over 0 to 1.
 use mathlib.Core.Path.{_≡_, refl}
 use mathlib.Core.Bool.{false}
 use Prim.Native.Nat.{ℕ, _+_, _-_, _*_, _^_, _≤_, _<_}
@@ -14,7 +14,7 @@ use Rattle.point.specs.Floats.{_⊘_, bits, zeroF, halfF, oneF}
 use Rattle.point.proofs.Signs.{Plus, round-plus}
 use Rattle.point.proofs.Numbers.{Number}
 use Rattle.point.proofs.Sizes.{Within, within-finite, round-within}
-use Rattle.point.proofs.Rising.{as-fin, cross}
+use Rattle.point.proofs.Rising.{as-fin, le-cross}
 use Rattle.stuv.proofs.Bridges.{st-first, st-middle, st-last}
 use Rattle.stuv.proofs.Finite.{st-finite}
 use Rattle.stuv.proofs.Rising.{InUnit, st-rises}
@@ -47,7 +47,7 @@ quotient-order : (m n : ℕ) (e d : ℤ) → T (le (fin false m e) (fin false n 
 unfolding div ofBits
 quotient-order m n e d h =
     round-mono binary64 (m * up e * 1) (1 * 2 ^ 30 * down e) (n * up d * 1) (1 * 2 ^ 30 * down d)
-    (mul-pos (pow-pos 30) (down-pos e)) (mul-pos (pow-pos 30) (down-pos d)) (wider (m * up e) (n * up d) (down e) (down d) (cross m n e d h))
+    (mul-pos (pow-pos 30) (down-pos e)) (mul-pos (pow-pos 30) (down-pos d)) (wider (m * up e) (n * up d) (down e) (down d) (le-cross m n e d h))
   where
     wider : (a b c k : ℕ) → a * k ≤ b * c → a * 1 * (1 * 2 ^ 30 * k) ≤ b * 1 * (1 * 2 ^ 30 * c)
     wider a b c k h = omega (arith, h)
@@ -89,7 +89,7 @@ st-in i h = record { size = (within-finite 1 (ijToStMin i) (st-within i h), st-p
 -- ---- the lines
 
 -- a line is finite
-pub line-finite : (i : ℕ) → i ≤ 2 ^ 30 → Number (lineAt i)
+line-finite : (i : ℕ) → i ≤ 2 ^ 30 → Number (lineAt i)
 unfolding lineAt
 line-finite i h = st-finite (ijToStMin i) (st-within i h)
 

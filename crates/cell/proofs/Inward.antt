@@ -19,16 +19,16 @@ use Rattle.cellid.proofs.Laws.{level-le}
 use Rattle.cell.proofs.Grid.{span-finite}
 
 -- the k-th corner and the k-th edge's normal, of any length
-abbrev pub cornerAt : Cell → ℕ → Point
-cornerAt c k =
+abbrev pub cornerVector : Cell → ℕ → Point
+cornerVector c k =
     atCorner k
     (faceUvToXyz (c .face) (c .uv .x .lo) (c .uv .y .lo))
     (faceUvToXyz (c .face) (c .uv .x .hi) (c .uv .y .lo))
     (faceUvToXyz (c .face) (c .uv .x .hi) (c .uv .y .hi))
     (faceUvToXyz (c .face) (c .uv .x .lo) (c .uv .y .hi))
 
-abbrev pub normalAt : Cell → ℕ → Point
-normalAt c k =
+abbrev pub normalVector : Cell → ℕ → Point
+normalVector c k =
     atCorner k
     (vNorm (c .face) (c .uv .y .lo))
     (uNorm (c .face) (c .uv .x .hi))
@@ -36,14 +36,14 @@ normalAt c k =
     (mulOf (uNorm (c .face) (c .uv .x .lo)) (neg oneF))
 
 -- brought to unit length they are the cell's corners and its edges' normals
-pub corner-unit : (c : Cell) (k : ℕ) → vertexAt c k ≡ normalizeOf (cornerAt c k)
+pub corner-unit : (c : Cell) (k : ℕ) → vertexAt c k ≡ normalizeOf (cornerVector c k)
 unfolding vertexAt unitAt
 corner-unit c zero = refl
 corner-unit c (suc zero) = refl
 corner-unit c (suc (suc zero)) = refl
 corner-unit c (suc (suc (suc k))) = refl
 
-pub normal-unit : (c : Cell) (k : ℕ) → edgeAt c k ≡ normalizeOf (normalAt c k)
+pub normal-unit : (c : Cell) (k : ℕ) → edgeAt c k ≡ normalizeOf (normalVector c k)
 unfolding edgeAt
 normal-unit c zero = refl
 normal-unit c (suc zero) = refl
@@ -59,7 +59,7 @@ pub record Bounded (c : Cell) : Type 0 where
 
 module _ (c : Cell) (b : Bounded c) where
   -- an edge's normal is at right angles to its first end
-  pub first-end : (k : ℕ) → k < 4 → eq (dotOf (normalAt c k) (cornerAt c k)) zeroF ≡ true
+  pub first-end : (k : ℕ) → k < 4 → eq (dotOf (normalVector c k) (cornerVector c k)) zeroF ≡ true
   first-end zero h = v-normal (c .face) (c .uv .x .lo) (c .uv .y .lo) (b .left .0) (b .lower)
   first-end (suc zero) h = u-normal (c .face) (c .uv .x .hi) (c .uv .y .lo) (b .right) (b .lower .0)
   first-end (suc (suc zero)) h =
@@ -69,7 +69,7 @@ module _ (c : Cell) (b : Bounded c) where
   first-end (suc (suc (suc (suc k)))) h = absurd (omega arith)
 
   -- and to its second
-  pub second-end : (k : ℕ) → k < 4 → eq (dotOf (normalAt c k) (cornerAt c ((k + 1) % 4))) zeroF ≡ true
+  pub second-end : (k : ℕ) → k < 4 → eq (dotOf (normalVector c k) (cornerVector c ((k + 1) % 4))) zeroF ≡ true
   second-end zero h = v-normal (c .face) (c .uv .x .hi) (c .uv .y .lo) (b .right .0) (b .lower)
   second-end (suc zero) h = u-normal (c .face) (c .uv .x .hi) (c .uv .y .hi) (b .right) (b .upper .0)
   second-end (suc (suc zero)) h =
@@ -80,7 +80,7 @@ module _ (c : Cell) (b : Bounded c) where
 
   -- a place of the face lies on the side to which an edge's normal points exactly where it lies on the cell's side of that edge's line
   pub inner-side : (k : ℕ) (u v : Float) → k < 4 → Number u → Number v
-      → lt zeroF (dotOf (normalAt c k) (faceUvToXyz (c .face) u v))
+      → lt zeroF (dotOf (normalVector c k) (faceUvToXyz (c .face) u v))
       ≡ atCorner k (lt (c .uv .y .lo) v) (lt u (c .uv .x .hi)) (lt v (c .uv .y .hi)) (lt (c .uv .x .lo) u)
   inner-side zero u v h p q = v-inside (c .face) (c .uv .y .lo) u v (b .lower) (p .0) q
   inner-side (suc zero) u v h p q = u-inside (c .face) (c .uv .x .hi) u v (b .right) p (q .0)
@@ -88,9 +88,7 @@ module _ (c : Cell) (b : Bounded c) where
   inner-side (suc (suc (suc zero))) u v h p q = u-back-inside (c .face) (c .uv .x .lo) u v (b .left) p (q .0)
   inner-side (suc (suc (suc (suc k)))) u v h p q = absurd (omega arith)
 
--- ---- the lines of every id's cell are such values
-
--- so all of this holds of every id's cell
+-- every id's cell has such lines, so all of this holds of it
 pub id-bounded : (id : ℕ) → CellId.Cell id → Bounded (cellOf id)
 unfolding cellOf boundUv
 id-bounded id c =

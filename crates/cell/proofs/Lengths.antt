@@ -10,13 +10,10 @@ use Rattle.point.specs.Floats.{_⊕_, _⊗_, _⊘_, zeroF, oneF}
 use Rattle.point.specs.Vector.{mulOf, dotOf, norm2Of, normOf, isZero, normalizeOf}
 use Rattle.point.specs.declared.Point.{Point}
 use Rattle.point.proofs.Signs.{Plus, square-plus, add-plus}
-use Rattle.point.proofs.Exact.{plus-zero, plus-comm, square-neg, times-minus}
+use Rattle.point.proofs.Exact.{plus-zero, square-neg, times-minus}
+use Rattle.point.proofs.Numbers.{one-fits, sum-comm}
 use Rattle.stuv.specs.Projection.{uNorm, vNorm}
 use Rattle.cell.specs.Siblings.{scaleOf}
-
-one-fits : T (fits binary64 oneF)
-unfolding fits ofBits
-one-fits = tt
 
 zero-fits : T (fits binary64 zeroF)
 unfolding fits ofBits
@@ -25,10 +22,6 @@ zero-fits = tt
 one-plus : Plus oneF
 unfolding ofBits
 one-plus = refl
-
-zero-plus : Plus zeroF
-unfolding ofBits
-zero-plus = refl
 
 one-square : oneF ⊗ oneF ≡ oneF
 unfolding mul ofBits round units size
@@ -50,19 +43,19 @@ module _ (w : Float) where
   one-sq-zero = plus-zero full (add-plus binary64 oneF sq one-plus (square-plus binary64 w)) (add-fits binary64 oneF sq)
 
   sq-one-zero : sq ⊕ oneF ⊕ zeroF ≡ full
-  sq-one-zero = plus-zero (sq ⊕ oneF) (add-plus binary64 sq oneF (square-plus binary64 w) one-plus) (add-fits binary64 sq oneF) ∙ plus-comm sq oneF (square-plus binary64 w) one-plus
+  sq-one-zero = plus-zero (sq ⊕ oneF) (add-plus binary64 sq oneF (square-plus binary64 w) one-plus) (add-fits binary64 sq oneF) ∙ sum-comm sq oneF
 
   sq-zero-one : sq ⊕ zeroF ⊕ oneF ≡ full
-  sq-zero-one = ap (λ (x : Float). x ⊕ oneF) (plus-zero sq (square-plus binary64 w) (mul-fits binary64 w w)) ∙ plus-comm sq oneF (square-plus binary64 w) one-plus
+  sq-zero-one = ap (λ (x : Float). x ⊕ oneF) (plus-zero sq (square-plus binary64 w) (mul-fits binary64 w w)) ∙ sum-comm sq oneF
 
   zero-sq-one : zeroF ⊕ sq ⊕ oneF ≡ full
-  zero-sq-one = ap (λ (x : Float). x ⊕ oneF) (plus-comm zeroF sq zero-plus (square-plus binary64 w)) ∙ sq-zero-one
+  zero-sq-one = ap (λ (x : Float). x ⊕ oneF) (sum-comm zeroF sq) ∙ sq-zero-one
 
   one-zero-sq : oneF ⊕ zeroF ⊕ sq ≡ full
   one-zero-sq = ap (λ (x : Float). x ⊕ sq) (plus-zero oneF one-plus one-fits)
 
   zero-one-sq : zeroF ⊕ oneF ⊕ sq ≡ full
-  zero-one-sq = ap (λ (x : Float). x ⊕ sq) (plus-comm zeroF oneF zero-plus one-plus) ∙ one-zero-sq
+  zero-one-sq = ap (λ (x : Float). x ⊕ sq) (sum-comm zeroF oneF) ∙ one-zero-sq
 
 -- ---- a vector whose length is that of the line w, and its opposite
 

@@ -1,9 +1,10 @@
 -- What the test for a point means: of a place of the cell's own face it asks whether u and v lie between the cell's lines, each moved outward by the margin, so
 -- that it holds of every place between the lines themselves, the four corners among them.
-use mathlib.Core.Path.{_≡_, refl, sym, subst}
+use mathlib.Core.Path.{_≡_, refl}
 use mathlib.Core.Bool.{Bool, true, false, cond, _&&_}
 use Prim.Native.Nat.{ℕ, zero, suc, _<_}
 use native.Mathlib.Omega.{arith}
+use denote.Floats.{passes}
 use lib.Dec.{T}
 use lib.Ieee.{Float, binary64, lt, le, fits, ofBits}
 use lib.Ieee.Bits.{is-true}
@@ -23,7 +24,7 @@ use Rattle.cell.specs.declared.Rect.{Rect}
 use Rattle.cell.specs.declared.Cell.{Cell}
 use Rattle.cellid.proofs.Laws.{level-le}
 use Rattle.cell.proofs.Grid.{span-rises}
-use Rattle.cell.proofs.Inward.{Bounded, id-bounded, cornerAt}
+use Rattle.cell.proofs.Inward.{Bounded, id-bounded, cornerVector}
 
 -- the test of a place of the cell's face
 pub place-test : (c : Cell) (u v : Float) → T (fits binary64 u) → T (fits binary64 v)
@@ -39,9 +40,6 @@ margin-plus : Plus margin
 unfolding ofBits
 margin-plus = refl
 
-yes : {b : Bool} → b ≡ true → T b
-yes h = subst T (sym h) tt
-
 -- what lies between two ends lies between them when they are moved outward
 expanded-holds : (i : Interval) (u : Float) → Number (i .lo) → Number (i .hi) → le (i .lo) u ≡ true → le u (i .hi) ≡ true
     → inInterval (expandedOf i) u ≡ true
@@ -49,10 +47,10 @@ unfolding inInterval expandedOf
 expanded-holds i u p q h g = go (lt (i .hi) (i .lo))
   where
     below : le (i .lo ⊖ margin) u ≡ true
-    below = is-true _ (le-trans (i .lo ⊖ margin) (i .lo) u (difference-le (i .lo) margin p margin-finite margin-plus) (yes h))
+    below = is-true _ (le-trans (i .lo ⊖ margin) (i .lo) u (difference-le (i .lo) margin p margin-finite margin-plus) (passes _ h))
 
     above : le u (i .hi ⊕ margin) ≡ true
-    above = is-true _ (le-trans u (i .hi) (i .hi ⊕ margin) (yes g) (sum-ge (i .hi) margin q margin-finite margin-plus))
+    above = is-true _ (le-trans u (i .hi) (i .hi ⊕ margin) (passes _ g) (sum-ge (i .hi) margin q margin-finite margin-plus))
 
     go : (b : Bool) → inInterval (cond b i (record { lo = i .lo ⊖ margin; hi = i .hi ⊕ margin })) u ≡ true
     go true = rw (h, g)
@@ -89,10 +87,10 @@ module _ (id : ℕ) (c : CellId.Cell id) where
   same x h = is-true _ (le-self x (h .0))
 
   -- a cell holds its four corners, taken before they are brought to unit length
-  pub holds-corner : (k : ℕ) → k < 4 → holdsPoint (cellOf id) (cornerAt (cellOf id) k) ≡ true
+  pub holds-corner : (k : ℕ) → k < 4 → holdsPoint (cellOf id) (cornerVector (cellOf id) k) ≡ true
   holds-corner k h = go k (id-bounded id c) h
     where
-      go : (k : ℕ) → Bounded (cellOf id) → k < 4 → holdsPoint (cellOf id) (cornerAt (cellOf id) k) ≡ true
+      go : (k : ℕ) → Bounded (cellOf id) → k < 4 → holdsPoint (cellOf id) (cornerVector (cellOf id) k) ≡ true
       go zero n h =
           holds-place id (lines .x .lo) (lines .y .lo) c (n .left .1) (n .lower .1)
           (same (lines .x .lo) (n .left)) x-rises (same (lines .y .lo) (n .lower)) y-rises

@@ -1,4 +1,4 @@
--- Corners that cells share, the same points bit for bit: a cell's with its children's, siblings' with each other, and those of two cells side by side on a face.
+-- Corners that cells share, the same points bit for bit: a cell's with its children's, siblings' with each other, and those of two cells of one level side by side on a face.
 -- Lines are told apart by their numbers: no float is looked into.
 use mathlib.Core.Path.{_≡_, refl, sym, ap, _∙_}
 use Prim.Native.Nat.{ℕ, zero, suc, _+_, _-_, _*_, _/_, _%_, _^_, _<_}
@@ -7,7 +7,7 @@ use Rattle.cellid.specs.CellId.{IsCell, childOf}
 use Rattle.cellid.proofs.Laws.{level-cell}
 use Rattle.hilbert.specs.Curve.{walk, ijAt, posOf, faceIj}
 use Rattle.hilbert.proofs.Laws.{ij-lt, pos-lt}
-use Rattle.hilbert.proofs.Depth.{face-ij-square}
+use Rattle.hilbert.proofs.Depth.{walk-square}
 use Rattle.hilbert.proofs.Inverse.{ij-pos}
 use Rattle.cell.specs.Cell.{lineAt, spanAt, boundUv, cellOf, atCorner, unitAt, vertexAt, vertexOf}
 use Rattle.cell.specs.Siblings.{linesAt, quartersOf, halfOf, cellBetween, quarterAt}
@@ -42,22 +42,22 @@ inner-at l (suc (suc (suc zero))) h = refl
 inner-at l (suc (suc (suc (suc q)))) h = absurd (omega arith)
 
 -- the right side of a, with both its corners, is the left side of b
-pub record LeftOf (a b : Cell) : Type 0 where
+pub record SharesRight (a b : Cell) : Type 0 where
   pub lower : vertexAt a 1 ≡ vertexAt b 0
   pub upper : vertexAt a 2 ≡ vertexAt b 3
 
 -- the upper side of a, with both its corners, is the lower side of b
-pub record Under (a b : Cell) : Type 0 where
+pub record SharesUpper (a b : Cell) : Type 0 where
   pub left : vertexAt a 3 ≡ vertexAt b 0
   pub right : vertexAt a 2 ≡ vertexAt b 1
 
-left-at : (l : Quarters) (q : ℕ) → q < 2 → LeftOf (quarterAt l q) (quarterAt l (q + 2))
+left-at : (l : Quarters) (q : ℕ) → q < 2 → SharesRight (quarterAt l q) (quarterAt l (q + 2))
 unfolding vertexAt quarterAt halfOf
 left-at l zero h = record { lower = refl; upper = refl }
 left-at l (suc zero) h = record { lower = refl; upper = refl }
 left-at l (suc (suc q)) h = absurd (omega arith)
 
-under-at : (l : Quarters) (q : ℕ) → q < 4 → q % 2 ≡ 0 → Under (quarterAt l q) (quarterAt l (q + 1))
+under-at : (l : Quarters) (q : ℕ) → q < 4 → q % 2 ≡ 0 → SharesUpper (quarterAt l q) (quarterAt l (q + 1))
 unfolding vertexAt quarterAt halfOf
 under-at l zero h g = record { left = refl; right = refl }
 under-at l (suc zero) h g = absurd (omega arith)
@@ -109,13 +109,13 @@ module _ {id L p : ℕ} (c : IsCell id L p) (h : L < 30) where
       (inner-at (quartersOf id) (quarterOf id k) (quarter-lt k g) ∙ sym (inner-at (quartersOf id) (quarterOf id l) (quarter-lt l f)))
 
   -- two children in one half of v, the first in the lower half of u and the second in the upper, share a side
-  pub siblings-left : (k l : ℕ) → k < 4 → l < 4 → quarterOf id l ≡ quarterOf id k + 2 → LeftOf (cellOf (childOf id k)) (cellOf (childOf id l))
+  pub siblings-left : (k l : ℕ) → k < 4 → l < 4 → quarterOf id l ≡ quarterOf id k + 2 → SharesRight (cellOf (childOf id k)) (cellOf (childOf id l))
   siblings-left k l g f e =
       rw (child-quarter k c h g, child-quarter l c h f, e) (left-at (quartersOf id) (quarterOf id k) (omega (arith, quarter-lt l f, e)))
 
   -- two children in one half of u, the first in the lower half of v and the second in the upper, share a side
   pub siblings-under : (k l : ℕ) → k < 4 → l < 4 → quarterOf id k % 2 ≡ 0 → quarterOf id l ≡ quarterOf id k + 1
-      → Under (cellOf (childOf id k)) (cellOf (childOf id l))
+      → SharesUpper (cellOf (childOf id k)) (cellOf (childOf id l))
   siblings-under k l g f z e =
       rw (child-quarter k c h g, child-quarter l c h f, e) (under-at (quartersOf id) (quarterOf id k) (quarter-lt k g) z)
 
@@ -132,11 +132,11 @@ span-same : (i m level : ℕ) → m / 2 ^ (30 - level) ≡ i / 2 ^ (30 - level) 
 unfolding spanAt
 span-same i m level e = rw e
 
-left-cells : (face : ℕ) (x m y : Interval) → m .lo ≡ x .hi → LeftOf (cellBetween face x y) (cellBetween face m y)
+left-cells : (face : ℕ) (x m y : Interval) → m .lo ≡ x .hi → SharesRight (cellBetween face x y) (cellBetween face m y)
 unfolding vertexAt
 left-cells face x m y e = record { lower = rw e; upper = rw e }
 
-under-cells : (face : ℕ) (x y m : Interval) → m .lo ≡ y .hi → Under (cellBetween face x y) (cellBetween face x m)
+under-cells : (face : ℕ) (x y m : Interval) → m .lo ≡ y .hi → SharesUpper (cellBetween face x y) (cellBetween face x m)
 unfolding vertexAt
 under-cells face x y m e = record { left = rw e; right = rw e }
 
@@ -146,17 +146,17 @@ cell-is {id} {L} {p} c = rw (level-cell id L p c)
 
 module _ {a b L p q : ℕ} (c : IsCell a L p) (d : IsCell b L q) (f : faceIj b .face ≡ faceIj a .face) where
   -- side by side in the direction of u, they share a side
-  pub cells-left : walk b L .i ≡ walk a L .i + 1 → walk b L .j ≡ walk a L .j → LeftOf (cellOf a) (cellOf b)
+  pub cells-left : walk b L .i ≡ walk a L .i + 1 → walk b L .j ≡ walk a L .j → SharesRight (cellOf a) (cellOf b)
   cells-left i j =
-      let s = face-ij-square a L p c in
-      let t = face-ij-square b L q d in
+      let s = walk-square a L (c .level) in
+      let t = walk-square b L (d .level) in
       rw (cell-is c, cell-is d, f, span-same (faceIj a .j) (faceIj b .j) L (t .1 ∙ j ∙ sym (s .1)))
       (left-cells _ _ _ _ (span-next (faceIj a .i) (faceIj b .i) L (t .0 ∙ i ∙ ap (λ (x : ℕ). x + 1) (sym (s .0)))))
 
   -- side by side in the direction of v, they share a side
-  pub cells-under : walk b L .i ≡ walk a L .i → walk b L .j ≡ walk a L .j + 1 → Under (cellOf a) (cellOf b)
+  pub cells-under : walk b L .i ≡ walk a L .i → walk b L .j ≡ walk a L .j + 1 → SharesUpper (cellOf a) (cellOf b)
   cells-under i j =
-      let s = face-ij-square a L p c in
-      let t = face-ij-square b L q d in
+      let s = walk-square a L (c .level) in
+      let t = walk-square b L (d .level) in
       rw (cell-is c, cell-is d, f, span-same (faceIj a .i) (faceIj b .i) L (t .0 ∙ i ∙ sym (s .0)))
       (under-cells _ _ _ _ (span-next (faceIj a .j) (faceIj b .j) L (t .1 ∙ j ∙ ap (λ (x : ℕ). x + 1) (sym (s .1)))))

@@ -11,7 +11,7 @@ use Rattle.cellid.proofs.Leaves.{child-cell}
 use Rattle.cellid.proofs.Parts.{face-child}
 use Rattle.hilbert.specs.Curve.{walk, turnOf, ijAt, faceIj}
 use Rattle.hilbert.proofs.Laws.{ij-lt, walk-in, face-ij-in}
-use Rattle.hilbert.proofs.Depth.{walk-child, face-ij-square}
+use Rattle.hilbert.proofs.Depth.{walk-child, walk-square}
 use Rattle.cell.specs.Cell.{spanAt, boundUv, cellOf}
 use Rattle.cell.specs.Siblings.{linesAt, quartersOf, halfOf, quarterAt}
 
@@ -52,8 +52,8 @@ unfolding cellOf quarterAt quartersOf boundUv faceIj turnOf
 child-quarter {id} {L} {p} k c h g =
     let d = child-cell k c h g in
     let w = walk-child k c h g in
-    let q = face-ij-square (childOf id k) (L + 1) (4 * p + k) d in
-    let r = face-ij-square id L p c in
+    let q = walk-square (childOf id k) (L + 1) (d .level) in
+    let r = walk-square id L (c .level) in
     let b = ij-lt (walk id L .row) k (walk-in id L .row) g in
     rw (
       level-cell (childOf id k) (L + 1) (4 * p + k) d,

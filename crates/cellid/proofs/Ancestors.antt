@@ -4,7 +4,7 @@ use mathlib.Core.Path.{_≡_, refl, sym, ap, _∙_, subst}
 use mathlib.Core.Logic.{_⊎_, inl, inr, ⊎-elim, _↔_}
 use mathlib.Core.Bool.{Bool, true, false, _&&_, true≢false}
 use Prim.Native.Nat.{ℕ, zero, suc, _+_, _-_, _*_, _/_, _^_, _≤_, _<_, max}
-use native.Mathlib.Nat.{le-trans, mul-comm, mul-assoc, eq-of-mul-eq-mul-right, div-lt-iff-lt-mul, eq-or-lt-of-le, le-of-suc-le-suc, div-div-eq-div-mul}
+use native.Mathlib.Nat.{le-trans, mul-comm, mul-assoc, eq-of-mul-eq-mul-right, div-lt-iff-lt-mul, eq-or-lt-of-le, le-of-suc-le-suc}
 use native.Mathlib.Omega.{arith}
 use lib.Bits.{bitXor, xor-lt}
 use lib.Count.{leadingZeros, leading-top, leading-le}
@@ -15,6 +15,7 @@ use Rattle.cellid.specs.CellId.{Cell, IsCell, idOf, bitAt, placeAt, face
 use Rattle.cellid.specs.declared.Common.{Common}
 use Rattle.cellid.proofs.Leaves.{holds-deeper, Depth, deeper, higher, depth}
 use Rattle.cellid.proofs.Bits.{xor-below}
+use Rattle.cellid.proofs.Parts.{face-same}
 use Rattle.cellid.proofs.Laws.{and-true, bool-iff, no-true, level-le, same-above, low-cell, low-pos, low-small, level-cell, parent-id, cell-lt}
 
 -- ---- the ancestor at a level
@@ -106,14 +107,6 @@ deepest-nothing a b (suc n) e =
     let f = no-true (sameAt a b (suc n)) (λ t. let g : Common.Level (suc n) ≡ Common.Nothing = rw (deepest, t) at e in let z : _≡_ {A = ℕ} 0 1 = cc in omega arith) in
     deepest-nothing a b n (rw (deepest, f) at e)
 
--- the ancestor at the level 0 is the face
-same-face : (a b N : ℕ) → N ≤ 30 → parentAt a N ≡ parentAt b N → faceOf a ≡ faceOf b
-same-face a b N h e =
-    let w : placeAt N + 1 + 2 * N ≡ 61 = omega arith in
-    let f : (x : ℕ) → x / 2 ^ 61 ≡ x / 2 ^ (placeAt N + 1) / 2 ^ (2 * N) =
-    λ x. sym (div-div-eq-div-mul x (2 ^ (placeAt N + 1)) (2 ^ (2 * N)) ∙ ap (λ (n : ℕ). x / n) (sym (pow-add 2 (placeAt N + 1) (2 * N)) ∙ ap (λ (n : ℕ). 2 ^ n) w)) in
-    f a ∙ ap (λ (x : ℕ). x / 2 ^ (2 * N)) (parents→ a b N e) ∙ sym (f b)
-
 level-or-nothing : (c : Common) → ((K : ℕ) × (c ≡ Common.Level K)) ⊎ (c ≡ Common.Nothing)
 level-or-nothing (Common.Level K) = inl (K, refl)
 level-or-nothing Common.Nothing = inr refl
@@ -124,7 +117,7 @@ common-nothing a b = (
   λ e f. true≢false (sym (same← a b 0 (omega arith, omega arith, parents← a b 0 f)) ∙ deepest-nothing a b 30 (unfold commonLevel in e)),
   λ d. ⊎-elim
       (λ (r : (K : ℕ) × (commonLevel a b ≡ Common.Level K)).
-      let s = common-level a b (r .0) (r .1) .0 in absurd (d (same-face a b (r .0) (le-trans (s .0) (level-le a)) (s .2))))
+      let s = common-level a b (r .0) (r .1) .0 in absurd (d (face-same a b (r .0) (le-trans (s .0) (level-le a)) (parents→ a b (r .0) (s .2)))))
       (λ e. e)
       (level-or-nothing (commonLevel a b)),
 )

@@ -162,25 +162,23 @@ place-core id m t e =
     let half : (2 * m + 1) / 2 ≡ m = omega arith in
     rw (e, pow-add 2 t 1, ← div-div-eq-div-mul ((2 * m + 1) * 2 ^ t) (2 ^ t) 2, shl-shr (2 * m + 1) t, half)
 
-pub valid-cell : (id : ℕ) → id < 2 ^ 64 → validId id ≡ true → IsCell id (levelOf id) (placeOf id)
+-- the face of a valid id bounds it
+valid-cell : (id : ℕ) → validId id ≡ true → IsCell id (levelOf id) (placeOf id)
 unfolding validId levelOf placeOf
-valid-cell id h v =
+valid-cell id v =
     let r = and-true (leb (id / 2 ^ 61) 5) (leb (trailingZeros 64 id) 60 && eqb (trailingZeros 64 id % 2) 0) v in
     let s = and-true (leb (trailingZeros 64 id) 60) (eqb (trailingZeros 64 id % 2) 0) (r .1) in
+    let face : id / 2 ^ 61 ≤ 5 = leb-true _ _ (r .0) in
     let top : trailingZeros 64 id ≤ 60 = leb-true _ _ (s .0) in
     let pos : 0 < id = pos-of-ne-zero (λ e. let z : trailingZeros 64 id ≡ 64 = ap (trailingZeros 64) e ∙ trailing-of-zero 64 in omega arith) in
-    let o = odd-part 64 id pos h in
+    let o = odd-part 64 id pos (omega arith) in
     let z : trailingZeros 64 id ≡ o .1 = ap (trailingZeros 64) (o .3) ∙ zeros-of 64 (o .1) (o .0) (o .2) in
     let e : id ≡ (2 * o .0 + 1) * 2 ^ trailingZeros 64 id = o .3 ∙ ap (λ (n : ℕ). (2 * o .0 + 1) * 2 ^ n) (sym z) in
-    let g = cell-core id (o .0) (trailingZeros 64 id) e (leb-true _ _ (r .0)) top (eqb-true _ _ (s .1)) in
+    let g = cell-core id (o .0) (trailingZeros 64 id) e face top (eqb-true _ _ (s .1)) in
     subst (λ (m : ℕ). IsCell id (30 - trailingZeros 64 id / 2) m) (sym (place-core id (o .0) (trailingZeros 64 id) e)) g
 
--- the face of a valid id bounds it
 pub valid-is : (id : ℕ) → validId id ≡ true → Cell id
-unfolding validId
-valid-is id v =
-    let top : id / 2 ^ 61 ≤ 5 = leb-true _ _ (and-true _ _ v .0) in
-    (levelOf id, placeOf id, valid-cell id (omega arith) v)
+valid-is id v = (levelOf id, placeOf id, valid-cell id v)
 
 -- a valid id is no 0 and fits 64 bits
 pub valid-fits : (id : ℕ) → validId id ≡ true → (0 < id) × (id < 2 ^ 64)

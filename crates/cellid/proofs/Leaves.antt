@@ -2,7 +2,7 @@
 -- and intersecting in terms of leaves.
 use mathlib.Core.Path.{_≡_, refl, sym, ap, ap₂, _∙_, subst}
 use mathlib.Core.Logic.{_⊎_, inl, inr, ⊎-elim, _↔_}
-use mathlib.Core.Bool.{Bool, true, false, _&&_, _||_, true≢false}
+use mathlib.Core.Bool.{Bool, true, false, _||_, true≢false, and-comm}
 use Prim.Native.Nat.{ℕ, suc, _+_, _-_, _*_, _/_, _%_, _^_, _≤_, _<_, zero}
 use native.Mathlib.Nat.{zero-add, mul-comm, mul-one, mul-div-cancel, div-mul-le-self, lt-div-mul-add, div-eq-of-lt-le, div-div-eq-div-mul, add-mul, one-mul, mul-lt-mul-of-pos-right}
 use native.Mathlib.Omega.{arith}
@@ -170,17 +170,11 @@ holds-at {a} {b} {L} {M} {p} {q} c d (higher k e) t = absurd (not-all k (at c e)
 pub holds-level : (a b : ℕ) → Cell a → Cell b → holds a b ≡ true → levelOf a ≤ levelOf b
 holds-level a b (L, p, c) (M, q, d) t = rw (level-cell a L p c, level-cell b M q d) (holds-at c d (depth L M) t)
 
--- a and b intersect exactly where some leaf is one of both
-swap-and : (x y : Bool) → (x && y) ≡ (y && x)
-swap-and true true = refl
-swap-and true false = refl
-swap-and false true = refl
-swap-and false false = refl
-
 pub meets-sym : (a b : ℕ) → meets a b ≡ meets b a
 unfolding meets
-meets-sym a b = swap-and (leb (firstLeaf b) (lastLeaf a)) (leb (firstLeaf a) (lastLeaf b))
+meets-sym a b = and-comm (leb (firstLeaf b) (lastLeaf a)) (leb (firstLeaf a) (lastLeaf b))
 
+-- a and b intersect exactly where some leaf is one of both
 meets-at : {a b L M p q : ℕ} (k : ℕ) → IsCell a L p → IsCell b M q → M ≡ L + k → (meets a b ≡ true) ↔ ((n : ℕ) × (hasLeaf a n ≡ true) × (hasLeaf b n ≡ true))
 meets-at {a} {b} {L} {M} {p} {q} k c d e =
     let d' : IsCell b (L + k) q = at d e in (

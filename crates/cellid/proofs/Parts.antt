@@ -8,8 +8,8 @@ use native.Mathlib.Omega.{arith}
 use lib.Count.{trailingZeros}
 use lib.Pow.{pow-add}
 use borrow.Author.Tests.{le-leb, eq-eqb}
-use Rattle.cellid.specs.CellId.{Cell, IsCell, Spelt, spell, idOf, bitAt, placeAt, faceOf, pairOf, levelOf, placeOf, validId, faceCell, childOf}
-use Rattle.cellid.proofs.Laws.{odd-mul, pow-pair, place-id, zeros-id, zeros-of, valid-cell, cell-valid, cell-lt}
+use Rattle.cellid.specs.CellId.{Cell, IsCell, Spelt, spell, idOf, bitAt, placeAt, faceOf, pairOf, placeOf, validId, faceCell, childOf}
+use Rattle.cellid.proofs.Laws.{odd-mul, pow-pair, place-id, zeros-id, zeros-of, valid-is, cell-valid, cell-lt}
 use Rattle.cellid.proofs.Leaves.{child-cell}
 
 -- ---- the face and the pairs, as one number: the place
@@ -109,18 +109,18 @@ abbrev pub LowestAt : ℕ → ℕ → Type 0
 LowestAt id t = (m : ℕ) × (id ≡ (2 * m + 1) * 2 ^ t)
 
 -- valid exactly where the face is at most 5 and the lowest set bit stands at an even place, 0 to 60
-pub valid-bits : (id : ℕ) → id < 2 ^ 64 → (validId id ≡ true) ↔ ((faceOf id ≤ 5) × (t : ℕ) × (t ≤ 60) × (t % 2 ≡ 0) × LowestAt id t)
+pub valid-bits : (id : ℕ) → (validId id ≡ true) ↔ ((faceOf id ≤ 5) × (t : ℕ) × (t ≤ 60) × (t % 2 ≡ 0) × LowestAt id t)
 unfolding validId idOf
-valid-bits id h = (
-  λ v. let c = valid-cell id h v in
-      (omega (arith, cell-lt id (levelOf id) (placeOf id) c), placeAt (levelOf id), omega arith, omega arith, (placeOf id, c .is)),
+valid-bits id = (
+  λ v. let c = valid-is id v in
+      (omega (arith, cell-lt id (c .0) (c .1) (c .2)), placeAt (c .0), omega arith, omega arith, (c .1, c .2 .is)),
   λ r. let z : trailingZeros 64 id ≡ r .1 = ap (trailingZeros 64) (r .4 .1) ∙ zeros-of 64 (r .1) (r .4 .0) (omega (arith, r .2)) in
       rw (z, le-leb (faceOf id) 5 (r .0), le-leb (r .1) 60 (r .2), eq-eqb (r .1 % 2) 0 (r .3)),
 )
 
 -- valid exactly where it is a cell; of one level and one place, by `cell-unique`
-pub valid-cells : (id : ℕ) → id < 2 ^ 64 → (validId id ≡ true) ↔ Cell id
-valid-cells id h = (λ v. (levelOf id, placeOf id, valid-cell id h v), λ c. cell-valid id (c .0) (c .1) (c .2))
+pub valid-cells : (id : ℕ) → (validId id ≡ true) ↔ Cell id
+valid-cells id = (valid-is id, λ c. cell-valid id (c .0) (c .1) (c .2))
 
 -- ---- faces and leaves
 
@@ -130,7 +130,7 @@ unfolding faceCell idOf
 face-cell f h = record { level = omega arith; place = omega arith; is = omega arith }
 
 -- two ids that agree down to some pair have one face
-face-same : (a b n : ℕ) → n ≤ 30 → upper a n ≡ upper b n → faceOf a ≡ faceOf b
+pub face-same : (a b n : ℕ) → n ≤ 30 → upper a n ≡ upper b n → faceOf a ≡ faceOf b
 face-same a b zero h e = e
 face-same a b (suc n) h e =
     face-same a b n (omega arith) (upper-step a n (omega arith) ∙ ap (λ (x : ℕ). x / 4) e ∙ sym (upper-step b n (omega arith)))

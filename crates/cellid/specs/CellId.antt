@@ -2,6 +2,7 @@
 -- in the order of the curve; its id is (2 * p + 1) * 4 ^ (30 - L). Powers of four are written as powers of two.
 use mathlib.Core.Path.{_≡_}
 use mathlib.Core.Bool.{Bool, true, false, _&&_}
+use mathlib.Core.List.{List, [], _∷_}
 use Prim.Native.Nat.{ℕ, zero, suc, _+_, _-_, _*_, _/_, _%_, _^_, _≤_, _<_}
 use lib.Count.{trailingZeros}
 use lib.Dec.{leb, eqb}
@@ -72,6 +73,10 @@ validId id = leb (faceOf id) 5 && (leb (trailingZeros 64 id) 60 && eqb (trailing
 -- the cell of a face
 unfoldable pub faceCell : ℕ → ℕ
 faceCell face = face * 2 ^ 61 + 2 ^ 60
+
+-- those of all six, which have every leaf
+unfoldable pub sixFaces : List ℕ
+sixFaces = faceCell 0 ∷ faceCell 1 ∷ faceCell 2 ∷ faceCell 3 ∷ faceCell 4 ∷ faceCell 5 ∷ []
 
 -- the ancestor at the level L, of any id that stands at L or below
 unfoldable pub parentAt : ℕ → ℕ → ℕ

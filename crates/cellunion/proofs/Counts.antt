@@ -9,7 +9,7 @@ use native.Mathlib.Omega.{arith}
 use lib.Dec.{ltb}
 use lib.Pow.{pow-add}
 use borrow.Author.Tests.{ltb-true, ltb-false}
-use Rattle.cellid.specs.CellId.{Cell, bitAt, placeAt, levelOf, firstLeaf, lastLeaf, hasLeaf, one}
+use Rattle.cellid.specs.CellId.{Cell, bitAt, placeAt, leavesOf, firstLeaf, lastLeaf, hasLeaf, one}
 use Rattle.cellid.proofs.Laws.{level-cell}
 use Rattle.cellunion.specs.CellUnion.{lo, hi, covers, Apart, countTo, leafSum}
 use Rattle.order.specs.Order.{All}
@@ -72,10 +72,11 @@ hi-le {x} C =
     omega (arith, hi-is (C .2), add-mul (C .1) 1 (bitAt L), one-mul (bitAt L), mul-assoc 6 (2 ^ (2 * L)) (bitAt L))
 
 -- a cell's leaves
-size : {x : ℕ} → Cell x → 2 ^ (2 * (30 - levelOf x)) ≡ hi x - lo x
+size : {x : ℕ} → Cell x → leavesOf x ≡ hi x - lo x
+unfolding leavesOf
 size {x} C = ap (λ (L : ℕ). 2 ^ (2 * (30 - L))) (level-cell x (C .0) (C .1) (C .2)) ∙ omega (arith, lo-is (C .2), hi-is (C .2))
 
-pub cell-leaves : {x : ℕ} (N : ℕ) → Cell x → hi x ≤ N → countTo (hasLeaf x) N ≡ 2 ^ (2 * (30 - levelOf x))
+pub cell-leaves : {x : ℕ} (N : ℕ) → Cell x → hi x ≤ N → countTo (hasLeaf x) N ≡ leavesOf x
 cell-leaves {x} N C h =
     let s = span C in
     count-stretch (hasLeaf x) (lo x) (hi x) N (omega arith) (λ n p q. leaf← n C p q) (λ n t. leaf→ n C t) ∙ omega (arith, size C)

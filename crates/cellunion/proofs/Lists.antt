@@ -2,7 +2,7 @@
 -- list, one cell after another.
 use mathlib.Core.Path.{_≡_, refl, sym, ap, _∙_}
 use mathlib.Core.Logic.{_⊎_, _↔_, ⊎-elim}
-use mathlib.Core.Bool.{Bool, true, false, not, _&&_, _||_}
+use mathlib.Core.Bool.{Bool, true, false, not, _&&_, _||_, or-assoc}
 use mathlib.Core.List.{List, [], _∷_, _++_}
 use Prim.Native.Nat.{ℕ, _+_, _≤_, _<_}
 use native.Mathlib.Omega.{arith}
@@ -105,10 +105,6 @@ pub covers-append : (a b : List ℕ) (n : ℕ) → covers (a ++ b) n ≡ (covers
 unfolding covers
 covers-append [] b n = refl
 covers-append (x ∷ a) b n = ap (λ (t : Bool). hasLeaf x n || t) (covers-append a b n) ∙ sym (or-assoc (hasLeaf x n) (covers a n) (covers b n))
-  where
-    or-assoc : (a b c : Bool) → ((a || b) || c) ≡ (a || (b || c))
-    or-assoc true b c = refl
-    or-assoc false b c = refl
 
 pub covers-nil : (n : ℕ) → covers [] n ≡ false
 unfolding covers

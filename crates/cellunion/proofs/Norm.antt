@@ -3,14 +3,14 @@ use mathlib.Core.Path.{_≡_, refl, sym, ap, _∙_}
 use mathlib.Core.Logic.{_⊎_, inl, inr, ⊎-elim}
 use mathlib.Core.Bool.{true, false}
 use mathlib.Core.List.{List, [], _∷_, _++_}
-use Prim.Native.Nat.{ℕ, _+_, _-_, _*_, _≤_, _<_}
+use Prim.Native.Nat.{ℕ, _+_, _*_, _≤_, _<_}
 use native.Mathlib.Omega.{arith}
 use lib.Dec.{ltb}
 use lib.ListN.{length, length-append}
 use borrow.Author.Tests.{ltb-false}
 use Rattle.cellid.specs.CellId.{Cell, firstLeaf, lastLeaf}
 use Rattle.cellid.proofs.Laws.{bool-iff}
-use Rattle.cellunion.specs.CellUnion.{lo, hi, covers, SameLeaves, Member, Apart, NoFour, Normal, keep, pass, rev, normalise}
+use Rattle.cellunion.specs.CellUnion.{lo, hi, covers, SameLeaves, Member, Apart, NoFour, Normal, keepCell, pass, rev, normalise}
 use Rattle.cellunion.specs.Stack.{Down, Stack}
 use Rattle.order.specs.Order.{All, Le, insert, sort, Sorted}
 use Rattle.order.proofs.OrderLaws.{which, all-append, all-weak, insert-past, insert-front}
@@ -52,7 +52,7 @@ unfolding pass All Sorted
 pass-laws [] s S C o r = record { stack = S; old = λ n k. k; new = λ n k. absurd (unfold Member in k .1); from = λ n k. inl k; short = omega arith }
 pass-laws (c ∷ l) s S C o r =
     let K = keep-laws s c S (C .0) (r .0) in
-    pass-step s l (pass (keep s c) l) (keep s c) c K (pass-laws l (keep s c) (K .stack) (C .1) (o .1) (ready-on (keep s c) c l (K .low) (o .0)))
+    pass-step s l (pass (keepCell s c) l) (keepCell s c) c K (pass-laws l (keepCell s c) (K .stack) (C .1) (o .1) (ready-on (keepCell s c) c l (K .low) (o .0)))
 
 -- ---- reading the stack from below
 

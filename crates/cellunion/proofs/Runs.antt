@@ -16,8 +16,8 @@ use Rattle.cellid.proofs.Leaves.{child-cell}
 use Rattle.order.specs.Order.{All, Sorted, sort}
 use Rattle.order.proofs.SortLaws.{sorted-sort, sort-sorted, length-sort}
 use Rattle.order.proofs.LexLaws.{numbers}
-use Rattle.cellunion.specs.CellUnion.{lo, hi, Member, isFour, upOne, clearOf, collapse, keep, pass, rev, normalise}
-use Rattle.cellunion.specs.Stack.{Down, Stack, down, Topped, Next, Gives, PassDone}
+use Rattle.cellunion.specs.CellUnion.{lo, hi, Member, isFour, upOne, clearOf, collapse, keepCell, pass, rev, normalise}
+use Rattle.cellunion.specs.Stack.{Down, Stack, topFirst, Topped, Next, Gives, PassDone}
 use Rattle.cellunion.specs.Memory.{zeros, laid, normalised}
 use Rattle.cellunion.proofs.Spans.{span, In, holds-no}
 use Rattle.cellunion.proofs.Unique.{all-at, at-all}
@@ -25,37 +25,37 @@ use Rattle.cellunion.proofs.Stack.{clear-laws, not-next, keep-laws, sta
 use Rattle.cellunion.proofs.Norm.{Ready, ready-on, all-ready, member-sort→, normalise-sorted}
 use Rattle.cellunion.proofs.Memory.{next-read, no-more, drop-more, length-zeros}
 
-pub down-pop : (k : ℕ) (m : List ℕ) → 0 < k → down k m ≡ getD m (k - 1) 0 ∷ down (k - 1) m
-unfolding down
-down-pop zero m h = absurd (omega arith)
-down-pop (suc k) m h = let e : suc k - 1 ≡ k = omega arith in rw e
+pub top-pop : (k : ℕ) (m : List ℕ) → 0 < k → topFirst k m ≡ getD m (k - 1) 0 ∷ topFirst (k - 1) m
+unfolding topFirst
+top-pop zero m h = absurd (omega arith)
+top-pop (suc k) m h = let e : suc k - 1 ≡ k = omega arith in rw e
 
 -- ---- what stands inside c
 
-pub clear-go : (c k : ℕ) (m : List ℕ) (b : Bool) → 0 < k → b ≡ holds c (getD m (k - 1) 0) → not b ≡ false → clearOf c (down k m) ≡ clearOf c (down (k - 1) m)
+pub clear-go : (c k : ℕ) (m : List ℕ) (b : Bool) → 0 < k → b ≡ holds c (getD m (k - 1) 0) → not b ≡ false → clearOf c (topFirst k m) ≡ clearOf c (topFirst (k - 1) m)
 unfolding clearOf
 clear-go c k m b h e t =
     let f : holds c (getD m (k - 1) 0) ≡ true = sym e ∙ not-false b t in
-    rw (down-pop k m h, clearOf, f)
+    rw (top-pop k m h, clearOf, f)
 
-pub clear-stop : (c k : ℕ) (m : List ℕ) (b : Bool) → 0 < k → b ≡ holds c (getD m (k - 1) 0) → not b ≡ true → clearOf c (down k m) ≡ down k m
+pub clear-stop : (c k : ℕ) (m : List ℕ) (b : Bool) → 0 < k → b ≡ holds c (getD m (k - 1) 0) → not b ≡ true → clearOf c (topFirst k m) ≡ topFirst k m
 unfolding clearOf
 clear-stop c k m b h e t =
     let f : holds c (getD m (k - 1) 0) ≡ false = sym e ∙ not-true b t in
-    rw (down-pop k m h, clearOf, f)
+    rw (top-pop k m h, clearOf, f)
 
-pub clear-end : (c k : ℕ) (m : List ℕ) → k ≤ 0 → clearOf c (down k m) ≡ down k m
-unfolding clearOf down
+pub clear-end : (c k : ℕ) (m : List ℕ) → k ≤ 0 → clearOf c (topFirst k m) ≡ topFirst k m
+unfolding clearOf topFirst
 clear-end c k m h = let e : k ≡ 0 = omega arith in rw e
 
 -- ---- c on top
 
-pub down-three : (k : ℕ) (m : List ℕ) → 3 ≤ k → down k m ≡ getD m (k - 1) 0 ∷ getD m (k - 2) 0 ∷ getD m (k - 3) 0 ∷ down (k - 3) m
-unfolding down
-down-three zero m h = absurd (omega arith)
-down-three (suc zero) m h = absurd (omega arith)
-down-three (suc (suc zero)) m h = absurd (omega arith)
-down-three (suc (suc (suc k))) m h =
+top-three : (k : ℕ) (m : List ℕ) → 3 ≤ k → topFirst k m ≡ getD m (k - 1) 0 ∷ getD m (k - 2) 0 ∷ getD m (k - 3) 0 ∷ topFirst (k - 3) m
+unfolding topFirst
+top-three zero m h = absurd (omega arith)
+top-three (suc zero) m h = absurd (omega arith)
+top-three (suc (suc zero)) m h = absurd (omega arith)
+top-three (suc (suc (suc k))) m h =
     let e1 : suc (suc (suc k)) - 1 ≡ suc (suc k) = omega arith in
     let e2 : suc (suc (suc k)) - 2 ≡ suc k = omega arith in
     let e3 : suc (suc (suc k)) - 3 ≡ k = omega arith in
@@ -86,11 +86,11 @@ below-face x y z c C b e t =
 pub record Going (m : List ℕ) (k₀ c₀ k c : ℕ) : Type 0 where
   pub within : k ≤ k₀
   pub room : k₀ < length m
-  pub topped : Topped (down k m) c
-  pub same : collapse (down k m) c ≡ collapse (down k₀ m) c₀
+  pub topped : Topped (topFirst k m) c
+  pub same : collapse (topFirst k m) c ≡ collapse (topFirst k₀ m) c₀
 
 pub siblings-ask : (m : List ℕ) (k₀ c₀ k c : ℕ) → Going m k₀ c₀ k c → 3 ≤ k → SiblingsAsk (getD m (k - 3) 0) (getD m (k - 2) 0) (getD m (k - 1) 0) c
-siblings-ask m k₀ c₀ k c G h = asks _ _ _ c (down (k - 3) m) (subst (λ (s : List ℕ). Topped s c) (down-three k m h) (G .topped))
+siblings-ask m k₀ c₀ k c G h = asks _ _ _ c (topFirst (k - 3) m) (subst (λ (s : List ℕ). Topped s c) (top-three k m h) (G .topped))
 
 pub collapse-turn : (m : List ℕ) (k₀ c₀ k c p : ℕ) (b : Bool) → Going m k₀ c₀ k c → 3 ≤ k → b ≡ isFour (getD m (k - 3) 0) (getD m (k - 2) 0) (getD m (k - 1) 0) c → not b ≡ false → p ≡ upOne c → Going m k₀ c₀ (k - 3) p
 collapse-turn m k₀ c₀ k c p b G h e t q =
@@ -98,43 +98,43 @@ collapse-turn m k₀ c₀ k c p b G h e t q =
     rw q (record {
       within = omega (arith, G .within);
       room = G .room;
-      topped = rises _ _ _ c (down (k - 3) m) (subst (λ (s : List ℕ). Topped s c) (down-three k m h) (G .topped)) f;
-      same = sym (ap (λ (s : List ℕ). collapse s c) (down-three k m h) ∙ collapse-go _ _ _ c (down (k - 3) m) f) ∙ G .same;
+      topped = rises _ _ _ c (topFirst (k - 3) m) (subst (λ (s : List ℕ). Topped s c) (top-three k m h) (G .topped)) f;
+      same = sym (ap (λ (s : List ℕ). collapse s c) (top-three k m h) ∙ collapse-go _ _ _ c (topFirst (k - 3) m) f) ∙ G .same;
     })
 
-pub collapse-stop : (m : List ℕ) (k c : ℕ) (b : Bool) → 3 ≤ k → b ≡ isFour (getD m (k - 3) 0) (getD m (k - 2) 0) (getD m (k - 1) 0) c → not b ≡ true → collapse (down k m) c ≡ c ∷ down k m
+pub collapse-stop : (m : List ℕ) (k c : ℕ) (b : Bool) → 3 ≤ k → b ≡ isFour (getD m (k - 3) 0) (getD m (k - 2) 0) (getD m (k - 1) 0) c → not b ≡ true → collapse (topFirst k m) c ≡ c ∷ topFirst k m
 collapse-stop m k c b h e t =
     let f : isFour (getD m (k - 3) 0) (getD m (k - 2) 0) (getD m (k - 1) 0) c ≡ false = sym e ∙ not-true b t in
-    ap (λ (s : List ℕ). collapse s c) (down-three k m h) ∙ collapse-end _ _ _ c (down (k - 3) m) f ∙ ap (λ (s : List ℕ). c ∷ s) (sym (down-three k m h))
+    ap (λ (s : List ℕ). collapse s c) (top-three k m h) ∙ collapse-end _ _ _ c (topFirst (k - 3) m) f ∙ ap (λ (s : List ℕ). c ∷ s) (sym (top-three k m h))
 
-pub collapse-low : (m : List ℕ) (k c : ℕ) → k < 3 → collapse (down k m) c ≡ c ∷ down k m
-unfolding collapse down
+pub collapse-low : (m : List ℕ) (k c : ℕ) → k < 3 → collapse (topFirst k m) c ≡ c ∷ topFirst k m
+unfolding collapse topFirst
 collapse-low m zero c h = refl
 collapse-low m (suc zero) c h = refl
 collapse-low m (suc (suc zero)) c h = refl
 collapse-low m (suc (suc (suc k))) c h = absurd (omega arith)
 
-length-down : (k : ℕ) (m : List ℕ) → length (down k m) ≡ k
-unfolding down
-length-down zero m = refl
-length-down (suc k) m = ap suc (length-down k m)
+length-top : (k : ℕ) (m : List ℕ) → length (topFirst k m) ≡ k
+unfolding topFirst
+length-top zero m = refl
+length-top (suc k) m = ap suc (length-top k m)
 
 -- the words left are the cells left, and so many
-pub clear-left : (r k : ℕ) (m s : List ℕ) → r ≤ k → down r m ≡ s → (r ≤ k) × (down r m ≡ s) × (r ≡ length s)
-clear-left r k m s h e = (h, e, sym (length-down r m) ∙ ap length e)
+pub clear-left : (r k : ℕ) (m s : List ℕ) → r ≤ k → topFirst r m ≡ s → (r ≤ k) × (topFirst r m ≡ s) × (r ≡ length s)
+clear-left r k m s h e = (h, e, sym (length-top r m) ∙ ap length e)
 
-pub down-set : (k i v : ℕ) (m : List ℕ) → k ≤ i → i < length m → down k (set m i v) ≡ down k m
-unfolding down
-down-set zero i v m h g = refl
-down-set (suc k) i v m h g = ap₂ (λ (x : ℕ) (s : List ℕ). x ∷ s) (getD-set-other m i k v 0 (omega arith)) (down-set k i v m (omega arith) g)
+top-set : (k i v : ℕ) (m : List ℕ) → k ≤ i → i < length m → topFirst k (set m i v) ≡ topFirst k m
+unfolding topFirst
+top-set zero i v m h g = refl
+top-set (suc k) i v m h g = ap₂ (λ (x : ℕ) (s : List ℕ). x ∷ s) (getD-set-other m i k v 0 (omega arith)) (top-set k i v m (omega arith) g)
 
-pub down-push : (k v : ℕ) (m : List ℕ) → k < length m → down (k + 1) (set m k v) ≡ v ∷ down k m
-unfolding down
-down-push k v m h = rw (add-one k) (ap₂ (λ (x : ℕ) (s : List ℕ). x ∷ s) (getD-set-same m k v 0 h) (down-set k k v m (omega arith) h))
+pub top-push : (k v : ℕ) (m : List ℕ) → k < length m → topFirst (k + 1) (set m k v) ≡ v ∷ topFirst k m
+unfolding topFirst
+top-push k v m h = rw (add-one k) (ap₂ (λ (x : ℕ) (s : List ℕ). x ∷ s) (getD-set-same m k v 0 h) (top-set k k v m (omega arith) h))
 
-pub collapse-done : (m : List ℕ) (k₀ c₀ k c : ℕ) → Going m k₀ c₀ k c → collapse (down k m) c ≡ c ∷ down k m → Gives (collapse (down k₀ m) c₀) k₀ m (set m k c) (k + 1)
+pub collapse-done : (m : List ℕ) (k₀ c₀ k c : ℕ) → Going m k₀ c₀ k c → collapse (topFirst k m) c ≡ c ∷ topFirst k m → Gives (collapse (topFirst k₀ m) c₀) k₀ m (set m k c) (k + 1)
 collapse-done m k₀ c₀ k c G e = record {
-  is = down-push k c m (omega (arith, G .within, G .room)) ∙ sym e ∙ G .same;
+  is = top-push k c m (omega (arith, G .within, G .room)) ∙ sym e ∙ G .same;
   within = omega (arith, G .within);
   rest = drop-set-lt (k₀ + 1) m k c (omega (arith, G .within));
 }
@@ -144,26 +144,26 @@ collapse-done m k₀ c₀ k c G e = record {
 abbrev pub HeadFree : List ℕ → ℕ → ℕ → Type 0
 HeadFree m k c = (k ≤ 0) ⊎ ((0 < k) × (holds (getD m (k - 1) 0) c ≡ false))
 
-pub head-pos : (m : List ℕ) (k c : ℕ) → Next (down k m) c → 0 < k → 0 < getD m (k - 1) 0
+pub head-pos : (m : List ℕ) (k c : ℕ) → Next (topFirst k m) c → 0 < k → 0 < getD m (k - 1) 0
 unfolding All
 head-pos m k c N h =
-    let C = subst (λ (s : List ℕ). All Cell s) (down-pop k m h) (N .stack .cells) .0 in
+    let C = subst (λ (s : List ℕ). All Cell s) (top-pop k m h) (N .stack .cells) .0 in
     cell-pos _ _ _ (C .2)
 
-pub keep-skip : (m : List ℕ) (k c : ℕ) (b : Bool) → 0 < k → b ≡ holds (getD m (k - 1) 0) c → b ≡ true → Gives (keep (down k m) c) k m m k
-unfolding keep
+pub keep-skip : (m : List ℕ) (k c : ℕ) (b : Bool) → 0 < k → b ≡ holds (getD m (k - 1) 0) c → b ≡ true → Gives (keepCell (topFirst k m) c) k m m k
+unfolding keepCell
 keep-skip m k c b h e t =
     let f : holds (getD m (k - 1) 0) c ≡ true = sym e ∙ t in
     record {
-      is = let q : keep (down k m) c ≡ down k m = rw (down-pop k m h, keep, f) in sym q;
+      is = let q : keepCell (topFirst k m) c ≡ topFirst k m = rw (top-pop k m h, keepCell, f) in sym q;
       within = omega arith;
       rest = refl;
     }
 
-keep-go : (m : List ℕ) (k c : ℕ) → HeadFree m k c → keep (down k m) c ≡ collapse (clearOf c (down k m)) c
-unfolding keep clearOf collapse down
+keep-go : (m : List ℕ) (k c : ℕ) → HeadFree m k c → keepCell (topFirst k m) c ≡ collapse (clearOf c (topFirst k m)) c
+unfolding keepCell clearOf collapse topFirst
 keep-go m k c (inl h) = let e : k ≡ 0 = omega arith in rw e
-keep-go m k c (inr h) = rw (down-pop k m (h .0), keep, h .1)
+keep-go m k c (inr h) = rw (top-pop k m (h .0), keepCell, h .1)
 
 not-held : (s : List ℕ) (c : ℕ) → Next s c → (t : ℕ) (r : List ℕ) → s ≡ t ∷ r → holds t c ≡ false → (y : ℕ) → Member y s → In c y → ⊥
 unfolding All Down Member
@@ -173,17 +173,17 @@ not-held s c N t r e f y m i =
     ⊎-elim (λ (q : y ≡ t). holds-no (S .cells .0) (N .cell) f (omega (arith, i .0, ap lo q), omega (arith, i .1, ap hi q)))
     (λ m. not-next t c r (N .cell) (R .0) (S .down .0) y m i) (subst (λ (z : List ℕ). Member y z) e m)
 
-none-held : (m : List ℕ) (k c : ℕ) → Next (down k m) c → HeadFree m k c → (y : ℕ) → Member y (down k m) → In c y → ⊥
-unfolding Member down
+none-held : (m : List ℕ) (k c : ℕ) → Next (topFirst k m) c → HeadFree m k c → (y : ℕ) → Member y (topFirst k m) → In c y → ⊥
+unfolding Member topFirst
 none-held m k c N (inl h) y w i = let e : k ≡ 0 = omega arith in (rw e at w)
-none-held m k c N (inr h) y w i = not-held (down k m) c N (getD m (k - 1) 0) (down (k - 1) m) (down-pop k m (h .0)) (h .1) y w i
+none-held m k c N (inr h) y w i = not-held (topFirst k m) c N (getD m (k - 1) 0) (topFirst (k - 1) m) (top-pop k m (h .0)) (h .1) y w i
 
-pub keep-topped : (m : List ℕ) (k c j : ℕ) → k < length m → Next (down k m) c → HeadFree m k c → j ≤ k → down j m ≡ clearOf c (down k m) → (j < length m) × Topped (down j m) c
+pub keep-topped : (m : List ℕ) (k c j : ℕ) → k < length m → Next (topFirst k m) c → HeadFree m k c → j ≤ k → topFirst j m ≡ clearOf c (topFirst k m) → (j < length m) × Topped (topFirst j m) c
 keep-topped m k c j h N f l e =
-    let A = clear-laws c (N .cell) (down k m) (N .stack) (N .ready) (none-held m k c N f) in
+    let A = clear-laws c (N .cell) (topFirst k m) (N .stack) (N .ready) (none-held m k c N f) in
     (omega arith, rw e (record { stack = A .stack; cell = N .cell; under = A .under }))
 
-pub keep-done : (m : List ℕ) (k c j : ℕ) (m' : List ℕ) (r : ℕ) → HeadFree m k c → j ≤ k → down j m ≡ clearOf c (down k m) → Gives (collapse (down j m) c) j m m' r → Gives (keep (down k m) c) k m m' r
+pub keep-done : (m : List ℕ) (k c j : ℕ) (m' : List ℕ) (r : ℕ) → HeadFree m k c → j ≤ k → topFirst j m ≡ clearOf c (topFirst k m) → Gives (collapse (topFirst j m) c) j m m' r → Gives (keepCell (topFirst k m) c) k m m' r
 keep-done m k c j m' r f l e G = record {
   is = G .is ∙ ap (λ (s : List ℕ). collapse s c) e ∙ sym (keep-go m k c f);
   within = omega (arith, G .within);
@@ -198,17 +198,17 @@ pub record Passing (m₀ : List ℕ) (n : ℕ) (m : List ℕ) (k i : ℕ) : Type
   pub room : n ≤ length m₀
   pub len : length m ≡ length m₀
   pub rest : drop i m ≡ drop i m₀
-  pub stack : Stack (down k m)
-  pub ready : All (Ready (down k m)) (drop i (take n m₀))
+  pub stack : Stack (topFirst k m)
+  pub ready : All (Ready (topFirst k m)) (drop i (take n m₀))
   pub cells : All Cell (drop i (take n m₀))
   pub sorted : Sorted ltb (drop i (take n m₀))
-  pub same : pass (down k m) (drop i (take n m₀)) ≡ pass [] (take n m₀)
+  pub same : pass (topFirst k m) (drop i (take n m₀)) ≡ pass [] (take n m₀)
 
 pub pass-start : (m₀ : List ℕ) (n : ℕ) → n ≤ length m₀ → All Cell (take n m₀) → Sorted ltb (take n m₀) → Passing m₀ n m₀ 0 0
-unfolding down
+unfolding topFirst
 pass-start m₀ n h C S = record { few = omega arith; within = omega arith; room = h; len = refl; rest = refl; stack = stack-nil; ready = all-ready (take n m₀); cells = C; sorted = S; same = refl }
 
-pub pass-next : (m₀ : List ℕ) (n : ℕ) (m : List ℕ) (k i : ℕ) → Passing m₀ n m k i → i < n → (k < length m) × Next (down k m) (getD m i 0)
+pub pass-next : (m₀ : List ℕ) (n : ℕ) (m : List ℕ) (k i : ℕ) → Passing m₀ n m k i → i < n → (k < length m) × Next (topFirst k m) (getD m i 0)
 unfolding All
 pass-next m₀ n m k i P h =
     let e = next-read m₀ m n i (P .room) h (P .rest) in (
@@ -216,18 +216,18 @@ pass-next m₀ n m k i P h =
       record {
         stack = P .stack;
         cell = subst (λ (s : List ℕ). All Cell s) e (P .cells) .0;
-        ready = subst (λ (s : List ℕ). All (Ready (down k m)) s) e (P .ready) .0;
+        ready = subst (λ (s : List ℕ). All (Ready (topFirst k m)) s) e (P .ready) .0;
       },
     )
 
-pub pass-turn : (m₀ : List ℕ) (n : ℕ) (m : List ℕ) (k i : ℕ) (m' : List ℕ) (r : ℕ) → Passing m₀ n m k i → i < n → length m' ≡ length m → Gives (keep (down k m) (getD m i 0)) k m m' r → Passing m₀ n m' r (i + 1)
+pub pass-turn : (m₀ : List ℕ) (n : ℕ) (m : List ℕ) (k i : ℕ) (m' : List ℕ) (r : ℕ) → Passing m₀ n m k i → i < n → length m' ≡ length m → Gives (keepCell (topFirst k m) (getD m i 0)) k m m' r → Passing m₀ n m' r (i + 1)
 unfolding All Sorted pass
 pass-turn m₀ n m k i m' r P h q G =
     let e = next-read m₀ m n i (P .room) h (P .rest) in
     let c = getD m i 0 in
     let l = drop (i + 1) (take n m₀) in
     let N = pass-next m₀ n m k i P h .1 in
-    let K = keep-laws (down k m) c (N .stack) (N .cell) (N .ready) in
+    let K = keep-laws (topFirst k m) c (N .stack) (N .cell) (N .ready) in
     let O = subst (Sorted ltb) e (P .sorted) in
     record {
       few = omega (arith, G .within, P .few);
@@ -236,25 +236,25 @@ pass-turn m₀ n m k i m' r P h q G =
       len = q ∙ P .len;
       rest = drop-more (k + 1) (i + 1) m' m (omega (arith, P .few)) (G .rest) ∙ drop-more i (i + 1) m m₀ (omega arith) (P .rest);
       stack = subst Stack (sym (G .is)) (K .stack);
-      ready = subst (λ (s : List ℕ). All (Ready s) l) (sym (G .is)) (ready-on (keep (down k m) c) c l (K .low) (O .0));
+      ready = subst (λ (s : List ℕ). All (Ready s) l) (sym (G .is)) (ready-on (keepCell (topFirst k m) c) c l (K .low) (O .0));
       cells = subst (λ (s : List ℕ). All Cell s) e (P .cells) .1;
       sorted = O .1;
-      same = ap (λ (s : List ℕ). pass s l) (G .is) ∙ sym (ap (pass (down k m)) e) ∙ P .same;
+      same = ap (λ (s : List ℕ). pass s l) (G .is) ∙ sym (ap (pass (topFirst k m)) e) ∙ P .same;
     }
 
-pub rev-down : (k : ℕ) (m : List ℕ) → k ≤ length m → take k m ≡ rev (down k m)
-unfolding rev down
-rev-down zero m h = refl
-rev-down (suc k) m h = take-suc m k 0 h ∙ ap (λ (s : List ℕ). s ++ (getD m k 0 ∷ [])) (rev-down k m (omega arith))
+pub rev-top : (k : ℕ) (m : List ℕ) → k ≤ length m → take k m ≡ rev (topFirst k m)
+unfolding rev topFirst
+rev-top zero m h = refl
+rev-top (suc k) m h = take-suc m k 0 h ∙ ap (λ (s : List ℕ). s ++ (getD m k 0 ∷ [])) (rev-top k m (omega arith))
 
 pub pass-done : (m₀ : List ℕ) (n : ℕ) (m : List ℕ) (k i : ℕ) → Sorted ltb (take n m₀) → Passing m₀ n m k i → n ≤ i → PassDone n m₀ m k
 unfolding normalise pass
 pass-done m₀ n m k i S P h =
     let z = no-more m₀ n i (P .room) h in
-    let s : down k m ≡ pass [] (take n m₀) = sym (ap (pass (down k m)) z) ∙ P .same in
+    let s : topFirst k m ≡ pass [] (take n m₀) = sym (ap (pass (topFirst k m)) z) ∙ P .same in
     record {
       within = omega (arith, P .few);
-      is = rev-down k m (omega (arith, P .few, P .len, P .room)) ∙ ap rev (s ∙ ap (pass []) (sym (sorted-sort ltb numbers (take n m₀) S)));
+      is = rev-top k m (omega (arith, P .few, P .len, P .room)) ∙ ap rev (s ∙ ap (pass []) (sym (sorted-sort ltb numbers (take n m₀) S)));
       rest = drop-more i n m m₀ (P .within) (P .rest);
     }
 

@@ -1,6 +1,6 @@
 -- One pass of normalising: the kept cells stay normal and hold the same leaves.
 use mathlib.Core.Path.{_≡_, refl, sym, ap, ap₂, _∙_, subst}
-use mathlib.Core.Logic.{_⊎_, inl, inr, ⊎-elim}
+use mathlib.Core.Logic.{inl, inr, ⊎-elim}
 use mathlib.Core.Bool.{true, false, _&&_}
 use mathlib.Core.List.{List, [], _∷_}
 use Prim.Native.Nat.{ℕ, suc, _+_, _-_, _*_, _/_, _^_, _≤_, _<_}
@@ -12,7 +12,7 @@ use borrow.Author.Tests.{ltb-true, ltb-false, lt-ltb, eqb-true, eq-eqb}
 use Rattle.cellid.specs.CellId.{Cell, IsCell, idOf, bitAt, levelOf, parentAt, childOf, holds}
 use Rattle.cellid.proofs.Laws.{and-true, level-cell, parent-id}
 use Rattle.cellid.proofs.Leaves.{child-cell}
-use Rattle.cellunion.specs.CellUnion.{lo, hi, Member, NoFour, upOne, isFour, collapse, clearOf, keep}
+use Rattle.cellunion.specs.CellUnion.{lo, hi, Member, NoFour, upOne, isFour, collapse, clearOf, keepCell}
 use Rattle.cellunion.specs.Stack.{Down, Stack}
 use Rattle.order.specs.Order.{All}
 use Rattle.order.proofs.OrderLaws.{which, all-weak}
@@ -325,8 +325,8 @@ two-steps s q r c A B = record {
   short = omega (arith, A .short, B .short);
 }
 
-pub keep-laws : (s : List ℕ) (c : ℕ) → Stack s → Cell c → All (λ y. 2 * lo y + 1 ≤ c) s → Kept s c (keep s c)
-unfolding keep All Down Member
+pub keep-laws : (s : List ℕ) (c : ℕ) → Stack s → Cell c → All (λ y. 2 * lo y + 1 ≤ c) s → Kept s c (keepCell s c)
+unfolding keepCell All Down Member
 keep-laws [] c S C r =
     let u = span C in
     let B = push-laws [] c c S C tt (omega arith) (λ P L p I h t. unfold TopFour in t) in
@@ -334,7 +334,7 @@ keep-laws [] c S C r =
 keep-laws (t ∷ s) c S C r = ⊎-elim
     (λ (e : holds t c ≡ true).
     let i = holds-in (S .cells .0) C e in
-    rw (e, keep) (record {
+    rw (e, keepCell) (record {
       stack = S;
       to = λ n k. ⊎-elim (λ (q : k .0 ≡ c). (t, inl refl, omega (arith, i .0, k .2, ap lo q), omega (arith, i .1, k .3, ap hi q))) (λ m. (k .0, m, k .2, k .3)) (k .1);
       from = λ n k. (k .0, inr (k .1), k .2, k .3);
@@ -344,5 +344,5 @@ keep-laws (t ∷ s) c S C r = ⊎-elim
     (λ (e : holds t c ≡ false).
     let u = span C in
     let A = clear-laws c C (t ∷ s) S r (λ y m i. ⊎-elim (λ (q : y ≡ t). holds-no (S .cells .0) C e (omega (arith, i .0, ap lo q), omega (arith, i .1, ap hi q))) (λ m. not-next t c s C (r .0) (S .down .0) y m i) m) in
-    rw (e, keep) (two-steps (t ∷ s) (clearOf c (t ∷ s)) _ c A (collapse-laws (clearOf c (t ∷ s)) c c (A .stack) C (A .under) (omega arith))))
+    rw (e, keepCell) (two-steps (t ∷ s) (clearOf c (t ∷ s)) _ c A (collapse-laws (clearOf c (t ∷ s)) c c (A .stack) C (A .under) (omega arith))))
     (which (holds t c))

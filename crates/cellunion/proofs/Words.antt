@@ -1,7 +1,7 @@
 -- The definitions in other words: `Apart` as "ascending, no cell inside another" and as "no two overlap"; `covers` as "some cell holds the leaf's id".
 use mathlib.Core.Path.{_≡_, refl, sym, _∙_, subst}
-use mathlib.Core.Logic.{_⊎_, inl, inr, ⊎-elim}
-use mathlib.Core.Bool.{Bool, true, false, _&&_}
+use mathlib.Core.Logic.{inl, inr, ⊎-elim}
+use mathlib.Core.Bool.{true, false, and-false}
 use mathlib.Core.List.{List, [], _∷_}
 use Prim.Native.Nat.{ℕ, _+_, _*_, _<_}
 use native.Mathlib.Omega.{arith}
@@ -39,10 +39,6 @@ clear← {x} {y} X Y h =
 pub before-meets : (x y : ℕ) → lastLeaf x < firstLeaf y → (meets x y ≡ false) × (meets y x ≡ false)
 unfolding meets
 before-meets x y h = let e = lt-leb (firstLeaf y) (lastLeaf x) h in (rw (meets, e), rw (meets, e) (and-false (leb (firstLeaf x) (lastLeaf y))))
-  where
-    and-false : (b : Bool) → (b && false) ≡ false
-    and-false true = refl
-    and-false false = refl
 
 -- ---- lists
 

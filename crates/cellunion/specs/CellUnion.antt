@@ -5,7 +5,7 @@ use mathlib.Core.List.{List, [], _∷_, _++_}
 use mathlib.Core.Logic.{_⊎_}
 use Prim.Native.Nat.{ℕ, zero, suc, _+_, _-_, _*_, _/_, _%_, _^_, _≤_, _<_, min, max}
 use lib.Dec.{ltb, eqb}
-use Rattle.cellid.specs.CellId.{Cell, idOf, lowBit, levelOf, placeOf, validId, parentAt, childOf, firstLeaf, lastLeaf, holds, hasLeaf, one}
+use Rattle.cellid.specs.CellId.{Cell, idOf, lowBit, levelOf, placeOf, validId, parentAt, childOf, firstLeaf, lastLeaf, leavesOf, holds, hasLeaf, one}
 use Rattle.order.specs.Order.{All, sort}
 
 -- ---- leaves. Leaf number n, from 0, has the id 2n + 1.
@@ -42,11 +42,11 @@ unfoldable pub Clear : List ℕ → Type 0
 Clear [] = Unit
 Clear (x ∷ l) = All (λ y. (x < y) × (holds x y ≡ false) × (holds y x ≡ false)) l × Clear l
 
--- the check of a list: "valid, ascending and free of overlap" (paper 02, n and j). A valid id may come next if its first leaf stands after b, the last leaf
--- before it
+-- an id may come next in a list: it is valid, and its first leaf stands after b, the last leaf of those before it
 unfoldable pub listed : ℕ → ℕ → Bool
 listed b id = validId id && ltb b (firstLeaf id)
 
+-- "valid, ascending and free of overlap" (paper 02, n and j)
 unfoldable pub listFrom : ℕ → List ℕ → Bool
 listFrom b [] = true
 listFrom b (id ∷ l) = listed b id && listFrom (lastLeaf id) l
@@ -92,13 +92,13 @@ clearOf c [] = []
 clearOf c (t ∷ s) = elim (holds c t) [ true ↦ clearOf c s | false ↦ t ∷ s ]
 
 -- one more cell: nothing if the last kept holds it
-unfoldable pub keep : List ℕ → ℕ → List ℕ
-keep [] c = c ∷ []
-keep (t ∷ s) c = elim (holds t c) [ true ↦ t ∷ s | false ↦ collapse (clearOf c (t ∷ s)) c ]
+unfoldable pub keepCell : List ℕ → ℕ → List ℕ
+keepCell [] c = c ∷ []
+keepCell (t ∷ s) c = elim (holds t c) [ true ↦ t ∷ s | false ↦ collapse (clearOf c (t ∷ s)) c ]
 
 unfoldable pub pass : List ℕ → List ℕ → List ℕ
 pass s [] = s
-pass s (c ∷ l) = pass (keep s c) l
+pass s (c ∷ l) = pass (keepCell s c) l
 
 -- the stack read from below
 unfoldable pub rev : List ℕ → List ℕ
@@ -146,7 +146,7 @@ unfoldable pub countTo : (ℕ → Bool) → ℕ → ℕ
 countTo f zero = 0
 countTo f (suc N) = one (f N) + countTo f N
 
--- "A cell holds 4^(30 − level) leaves": the sum over a list
+-- the leaves of a list's cells, added up
 unfoldable pub leafSum : List ℕ → ℕ
 leafSum [] = 0
-leafSum (id ∷ l) = 2 ^ (2 * (30 - levelOf id)) + leafSum l
+leafSum (id ∷ l) = leavesOf id + leafSum l

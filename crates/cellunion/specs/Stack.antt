@@ -18,9 +18,9 @@ pub record Stack (s : List ℕ) : Type 0 where
   pub nofour : NoFour s
 
 -- the first k words, the last of them first
-unfoldable pub down : ℕ → List ℕ → List ℕ
-down zero m = []
-down (suc k) m = getD m k 0 ∷ down k m
+unfoldable pub topFirst : ℕ → List ℕ → List ℕ
+topFirst zero m = []
+topFirst (suc k) m = getD m k 0 ∷ topFirst k m
 
 -- c may go on top: all of s ends before it begins
 pub record Topped (s : List ℕ) (c : ℕ) : Type 0 where
@@ -36,7 +36,7 @@ pub record Next (s : List ℕ) (c : ℕ) : Type 0 where
 
 -- r words are kept, and what stands from place k + 1 on is as before
 pub record Gives (want : List ℕ) (k : ℕ) (m m' : List ℕ) (r : ℕ) : Type 0 where
-  pub is : down r m' ≡ want
+  pub is : topFirst r m' ≡ want
   pub within : r ≤ k + 1
   pub rest : drop (k + 1) m' ≡ drop (k + 1) m
 

@@ -5,9 +5,9 @@ ghost use lib.ListN.{length, take};
 ghost use lib.Dec.{ltb};
 ghost use Rattle.cellid.specs.CellId.{Cell, lowBit, levelOf};
 ghost use Rattle.order.specs.Order.{All, Sorted};
-ghost use Rattle.cellunion.specs.CellUnion.{normalise, listed, isList, isFour, clearOf, collapse, keep, goal, below, denormalise, countOf};
+ghost use Rattle.cellunion.specs.CellUnion.{normalise, listed, isList, isFour, clearOf, collapse, keepCell, goal, below, denormalise, countOf};
 ghost use Rattle.cellunion.specs.Memory.{zeros, normalised, laid, roomFor, laidOver, AsksList};
-ghost use Rattle.cellunion.specs.Stack.{down, Topped, Next, Gives, PassDone};
+ghost use Rattle.cellunion.specs.Stack.{topFirst, Topped, Next, Gives, PassDone};
 
 // The answer of a function that lays a list over an output: how many words it laid, or that they do not fit and nothing was written.
 pub enum Laid {
@@ -77,7 +77,7 @@ fn are_siblings(x: u64, y: u64, z: u64, c: u64) -> bool
 // How many of the first k are left without those inside c.
 pub fn clear_of(mem: &[u64], k: usize, c: u64) -> usize
     requires { ⌜ (k ≤ length (now mem)) × (0 < c) ⌝ }
-    ensures { λ r. ⌜ (r ≤ k) × (down r (now (mem .entry)) ≡ clearOf c (down k (now (mem .entry)))) × (r ≡ length (clearOf c (down k (now (mem .entry))))) ⌝ }
+    ensures { λ r. ⌜ (r ≤ k) × (topFirst r (now (mem .entry)) ≡ clearOf c (topFirst k (now (mem .entry)))) × (r ≡ length (clearOf c (topFirst k (now (mem .entry))))) ⌝ }
 {
     let mut left = k;
     while 0 < left {
@@ -91,8 +91,8 @@ pub fn clear_of(mem: &[u64], k: usize, c: u64) -> usize
 
 // Puts c on top of the first k, and as long as it completes four siblings their parent in their place.
 fn collapse(mem: &mut [u64], k: usize, c: u64) -> usize
-    requires { ⌜ (k < length (now mem)) × Topped (down k (now mem)) c ⌝ }
-    ensures { λ r. ⌜ Gives (collapse (down k (now (mem .entry))) c) k (now (mem .entry)) (now (mem .exit)) r ⌝ }
+    requires { ⌜ (k < length (now mem)) × Topped (topFirst k (now mem)) c ⌝ }
+    ensures { λ r. ⌜ Gives (collapse (topFirst k (now (mem .entry))) c) k (now (mem .entry)) (now (mem .exit)) r ⌝ }
 {
     let mut left = k;
     let mut top = c;
@@ -109,8 +109,8 @@ fn collapse(mem: &mut [u64], k: usize, c: u64) -> usize
 
 // One more cell: nothing if the last kept holds it, else it goes on top of what does not lie in it.
 fn keep(mem: &mut [u64], k: usize, c: u64) -> usize
-    requires { ⌜ (k < length (now mem)) × Next (down k (now mem)) c ⌝ }
-    ensures { λ r. ⌜ Gives (keep (down k (now (mem .entry))) c) k (now (mem .entry)) (now (mem .exit)) r ⌝ }
+    requires { ⌜ (k < length (now mem)) × Next (topFirst k (now mem)) c ⌝ }
+    ensures { λ r. ⌜ Gives (keepCell (topFirst k (now (mem .entry))) c) k (now (mem .entry)) (now (mem .exit)) r ⌝ }
 {
     if 0 < k {
         if cellid::contains(mem[k - 1], c) {

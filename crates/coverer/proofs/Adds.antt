@@ -1,11 +1,9 @@
 -- Adding a candidate, and the children of a taken one: the definition's cases, in the code's words.
-use Rattle.run.specs.declared.Request.{Request}
 use mathlib.Core.Path.{_≡_, refl, sym, ap, ap₂, _∙_, subst}
 use mathlib.Core.Bool.{Bool, true, false, _&&_, not}
 use mathlib.Core.Logic.{⊎-elim}
 use mathlib.Core.List.{List, [], _∷_, _++_}
 use Prim.Native.Nat.{ℕ, suc, _+_, _-_, _*_, _/_, _%_, _^_, _≤_, _<_}
-use native.Mathlib.Nat.{zero-mod, add-mod-right}
 use native.Mathlib.Numerals.{add-one}
 use native.Mathlib.Omega.{arith}
 use lib.Dec.{leb, ltb, eqb}
@@ -18,13 +16,14 @@ use Rattle.cellid.proofs.Laws.{low-cell, cell-lt}
 use Rattle.order.specs.Order.{All}
 use Rattle.order.proofs.OrderLaws.{which}
 use Rattle.region.specs.declared.Region.{Region}
-use Rattle.run.specs.Run.{Child, State, Outcome, refused, going, then, divide, isEmpty, sumOf, full, depth, expansionOf, lifts, byId, keep, enqueue, setAside, isFull, add, addAll, Task, _by_, maxLevel, levelMod, minLevel, maxCells, memoryWords}
+use Rattle.run.specs.declared.Request.{Request}
+use Rattle.run.specs.Run.{Child, State, Outcome, refused, going, then, divide, isEmpty, sumOf, full, depth, expansionOf, lifts, byId, keep, enqueue, setAside, isFull, add, addAll, Task, maxLevel, levelMod, minLevel, maxCells, memoryWords, byCost}
 use Rattle.run.specs.Masks.{consIf, childrenIn, found}
-use Rattle.run.specs.Ground.{Domain, wanted, ChildOk, Queued}
-use Rattle.run.proofs.Lists.{if-ok, empty-nil, sum-append, all-drop, rel-eq}
+use Rattle.run.specs.Ground.{Domain, lookFor, ChildOk, Queued}
+use Rattle.run.proofs.Lists.{if-ok, empty-nil, sum-append, all-back, rel-eq}
 use Rattle.run.proofs.Looks.{MeansBy, Means, look-means}
 use Rattle.run.proofs.Leaves.{leaves-add}
-use Rattle.run.proofs.Ground.{under-ok, low-on, high-on}
+use Rattle.run.proofs.Ground.{expansion-ok, low-on, high-on}
 use Rattle.run.proofs.Masks.{list-turn}
 use Rattle.run.proofs.Counts.{found-counted, empty-set}
 use Rattle.run.proofs.Turns.{then-then, add-none, add-lift, add-queue}
@@ -94,7 +93,7 @@ waiting-next P t u b j h g R =
     let e = children-turn b j h in
     let a : All P (childIf b j ++ childrenFrom b (j + 1)) = subst (All P) e (R .all) in
     record {
-      all = all-drop P (childIf b j) (childrenFrom b (j + 1)) a;
+      all = all-back P (childIf b j) (childrenFrom b (j + 1)) a;
       room = omega (arith, R .room, ap leavesIn e, sum-append (λ (k : Child). leavesOf (k .id)) (childIf b j) (childrenFrom b (j + 1)));
     }
 
@@ -127,7 +126,7 @@ module _ (T : Task) (D : Domain (T .asked)) where
   -- ---- a candidate that is to be expanded
 
   pub queued : (id : ℕ) (b : Bool) → b ≡ false → ChildOk T (record { id = id; ends = b }) → Queued T id
-  queued id b e C = record { fit = C .fit; seen = C .seen ∙ ap wanted e }
+  queued id b e C = record { fit = C .fit; seen = C .seen ∙ ap lookFor e }
 
   -- the levels of its expansion
   pub record Below (id : ℕ) : Type 0 where
@@ -151,7 +150,7 @@ module _ (T : Task) (D : Domain (T .asked)) where
   none-failed : (id : ℕ) → Queued T id → isEmpty (expansionOf T id .children) ≡ true → T .asked .inner ≡ false → leavesOf id ≡ sumOf leavesOf (expansionOf T id .failed)
   unfolding sumOf
   none-failed id Q e o =
-      let x = under-ok T D (byId T) (λ i n. leavesOf n) (λ i n L p c l. leaves-add n L p c l) 0 id Q in
+      let x = expansion-ok T D (byId T) (λ i n. leavesOf n) (λ i n L p c l. leaves-add n L p c l) 0 id Q in
       let s : leavesIn (expansionOf T id .children) + sumOf leavesOf (expansionOf T id .failed) ≡ leavesOf id = rel-eq (T .asked .inner) _ _ o (x .sum) in
       let z : leavesIn (expansionOf T id .children) ≡ 0 = ap leavesIn (empty-nil (expansionOf T id .children) e) in
       omega arith
@@ -161,7 +160,7 @@ module _ (T : Task) (D : Domain (T .asked)) where
   is-empty id = empty-set T (depth (T .asked) id) id
 
   pub adds-none : (m : List ℕ) (t : Counts) (id n : ℕ) → Queued T id → found T (depth (T .asked) id) id .present ≡ 0 → n ≡ leavesOf id
-      → Does T (λ i. add (T by byId T) (grown i id) false) m t m (Turn.Going (asideOf (T .asked .inner) t n))
+      → Does T (λ i. add (byCost T) (grown i id) false) m t m (Turn.Going (asideOf (T .asked .inner) t n))
   unfolding Gives
   adds-none m t id n Q z e =
       let b : isEmpty (expansionOf T id .children) ≡ true = is-empty id ∙ eq-eqb _ 0 z in
@@ -180,22 +179,22 @@ module _ (T : Task) (D : Domain (T .asked)) where
 
   module _ (m : List ℕ) (t : Counts) (m′ : List ℕ) (r : Turn) (id : ℕ) (some : found T (depth (T .asked) id) id .present ≡ 0 → ⊥) (lift : Bool)
       (is : lift ≡ (not (T .asked .inner) && (leb (minLevel (T .asked)) (levelOf id) && eqb (ones (found T (depth (T .asked) id) id .terminal)) (full (T .asked))))) where
-    pub adds-lifted : lift ≡ true → Does T (λ i. keep (grown i id)) m t m′ r → Does T (λ i. add (T by byId T) (grown i id) false) m t m′ r
-    adds-lifted e = does-as T (λ i. keep (grown i id)) (λ i. add (T by byId T) (grown i id) false) m t m′ r
+    pub adds-lifted : lift ≡ true → Does T (λ i. keep (grown i id)) m t m′ r → Does T (λ i. add (byCost T) (grown i id) false) m t m′ r
+    adds-lifted e = does-as T (λ i. keep (grown i id)) (λ i. add (byCost T) (grown i id) false) m t m′ r
         (λ i s S. add-lift T (byId T) (grown i id) s (is-empty id ∙ ne-eqb _ 0 some) (lifts-is id ∙ sym is ∙ e))
 
     pub adds-queued : lift ≡ false → Does T (λ i. enqueue (byId T) (grown i id)) m t m′ r
-        → Does T (λ i. add (T by byId T) (grown i id) false) m t m′ r
-    adds-queued e = does-as T (λ i. enqueue (byId T) (grown i id)) (λ i. add (T by byId T) (grown i id) false) m t m′ r
+        → Does T (λ i. add (byCost T) (grown i id) false) m t m′ r
+    adds-queued e = does-as T (λ i. enqueue (byId T) (grown i id)) (λ i. add (byCost T) (grown i id) false) m t m′ r
         (λ i s S. add-queue T (byId T) (grown i id) s (is-empty id ∙ ne-eqb _ 0 some) (lifts-is id ∙ sym is ∙ e))
 
   pub adds-kept : (m : List ℕ) (t : Counts) (m′ : List ℕ) (r : Turn) (id : ℕ) (b : Bool) → b ≡ true → Does T (λ i. keep (grown i id)) m t m′ r
-      → Does T (λ i. add (T by byId T) (grown i id) b) m t m′ r
+      → Does T (λ i. add (byCost T) (grown i id) b) m t m′ r
   unfolding add
-  adds-kept m t m′ r id b e = does-as T (λ i. keep (grown i id)) (λ i. add (T by byId T) (grown i id) b) m t m′ r (λ i s S. rw (e, add))
+  adds-kept m t m′ r id b e = does-as T (λ i. keep (grown i id)) (λ i. add (byCost T) (grown i id) b) m t m′ r (λ i s S. rw (e, add))
 
   pub adds-open : (m : List ℕ) (t : Counts) (m′ : List ℕ) (r : Turn) (id : ℕ) (b : Bool) → b ≡ false
-      → Does T (λ i. add (T by byId T) (grown i id) false) m t m′ r → Does T (λ i. add (T by byId T) (grown i id) b) m t m′ r
+      → Does T (λ i. add (byCost T) (grown i id) false) m t m′ r → Does T (λ i. add (byCost T) (grown i id) b) m t m′ r
   adds-open m t m′ r id b e d = rw e d
 
   -- ---- children, one after another
@@ -205,21 +204,21 @@ module _ (T : Task) (D : Domain (T .asked)) where
   then-cong (refused n) f g e = refl
   then-cong (going s) f g e = e s
 
-  pub addAll-append : (i : ℕ) (l r : List Child) (s : State) → addAll (T by byId T) i (l ++ r) s ≡ then (addAll (T by byId T) i l s) (addAll (T by byId T) i r)
+  pub addAll-append : (i : ℕ) (l r : List Child) (s : State) → addAll (byCost T) i (l ++ r) s ≡ then (addAll (byCost T) i l s) (addAll (byCost T) i r)
   unfolding addAll then
   addAll-append i [] r s = refl
   addAll-append i (k ∷ l) r s = ⊎-elim
       (λ (e : isFull (T .asked) s ≡ true). rw (e, addAll) (addAll-append i l r s))
       (λ (e : isFull (T .asked) s ≡ false). rw (e, addAll)
-      (then-cong (add (T by byId T) (grown i (k .id)) (k .ends) s) _ _ (λ x. addAll-append i l r x)
-      ∙ sym (then-then (add (T by byId T) (grown i (k .id)) (k .ends) s) (addAll (T by byId T) i l) (addAll (T by byId T) i r))))
+      (then-cong (add (byCost T) (grown i (k .id)) (k .ends) s) _ _ (λ x. addAll-append i l r x)
+      ∙ sym (then-then (add (byCost T) (grown i (k .id)) (k .ends) s) (addAll (byCost T) i l) (addAll (byCost T) i r))))
       (which (isFull (T .asked) s))
 
-  pub children-then : (b : Brood) (j : ℕ) → j < b .places → (i : ℕ) (s : State) → addAll (T by byId T) i (childrenFrom b j) s
-      ≡ then (addAll (T by byId T) i (childIf b j) s) (addAll (T by byId T) i (childrenFrom b (j + 1)))
-  children-then b j h i s = ap (λ (l : List Child). addAll (T by byId T) i l s) (children-turn b j h) ∙ addAll-append i (childIf b j) (childrenFrom b (j + 1)) s
+  pub children-then : (b : Brood) (j : ℕ) → j < b .places → (i : ℕ) (s : State) → addAll (byCost T) i (childrenFrom b j) s
+      ≡ then (addAll (byCost T) i (childIf b j) s) (addAll (byCost T) i (childrenFrom b (j + 1)))
+  children-then b j h i s = ap (λ (l : List Child). addAll (byCost T) i l s) (children-turn b j h) ∙ addAll-append i (childIf b j) (childrenFrom b (j + 1)) s
 
-  pub children-over : (b : Brood) (j : ℕ) → b .places ≤ j → (i : ℕ) (s : State) → addAll (T by byId T) i (childrenFrom b j) s ≡ going s
+  pub children-over : (b : Brood) (j : ℕ) → b .places ≤ j → (i : ℕ) (s : State) → addAll (byCost T) i (childrenFrom b j) s ≡ going s
   unfolding addAll
   children-over b j h i s = rw (children-end b j h)
 
@@ -229,14 +228,14 @@ module _ (T : Task) (D : Domain (T .asked)) where
   full-is m t s f h S e = rw (raw-length T h S) (sym e)
 
   pub child-none : (m : List ℕ) (t : Counts) (b : Brood) (j : ℕ) → isIn (b .present) j ≡ false
-      → Does T (λ i. addAll (T by byId T) i (childIf b j)) m t m (Turn.Going t)
+      → Does T (λ i. addAll (byCost T) i (childIf b j)) m t m (Turn.Going t)
   unfolding addAll
-  child-none m t b j e = does-nothing T (λ i. addAll (T by byId T) i (childIf b j)) m t (λ i s S. rw (child-away b j e))
+  child-none m t b j e = does-nothing T (λ i. addAll (byCost T) i (childIf b j)) m t (λ i s S. rw (child-away b j e))
 
   pub child-full : (m : List ℕ) (t : Counts) (b : Brood) (j : ℕ) (f : Bool) → memoryWords ≤ length m → isIn (b .present) j ≡ true → f ≡ (T .asked .inner && leb (maxCells (T .asked)) (t .kept)) → f ≡ true
-      → Does T (λ i. addAll (T by byId T) i (childIf b j)) m t m (Turn.Going t)
+      → Does T (λ i. addAll (byCost T) i (childIf b j)) m t m (Turn.Going t)
   unfolding addAll
-  child-full m t b j f h e ef t′ = does-nothing T (λ i. addAll (T by byId T) i (childIf b j)) m t
+  child-full m t b j f h e ef t′ = does-nothing T (λ i. addAll (byCost T) i (childIf b j)) m t
       (λ i s S. rw (child-there b j e, addAll, full-is m t s f h S ef ∙ t′))
 
   then-going : (o : Outcome) → then o (λ s. going s) ≡ o
@@ -245,22 +244,22 @@ module _ (T : Task) (D : Domain (T .asked)) where
   then-going (going s) = refl
 
   pub child-added : (m : List ℕ) (t : Counts) (m′ : List ℕ) (r : Turn) (b : Brood) (j : ℕ) (f ends : Bool) → memoryWords ≤ length m → isIn (b .present) j ≡ true → f ≡ (T .asked .inner && leb (maxCells (T .asked)) (t .kept)) → f ≡ false
-      → ends ≡ isIn (b .terminal) j → Does T (λ i. add (T by byId T) (grown i (childAt b j)) ends) m t m′ r
-      → Does T (λ i. addAll (T by byId T) i (childIf b j)) m t m′ r
+      → ends ≡ isIn (b .terminal) j → Does T (λ i. add (byCost T) (grown i (childAt b j)) ends) m t m′ r
+      → Does T (λ i. addAll (byCost T) i (childIf b j)) m t m′ r
   unfolding addAll
-  child-added m t m′ r b j f ends h e ef t′ d = does-as T (λ i. add (T by byId T) (grown i (childAt b j)) ends)
-      (λ i. addAll (T by byId T) i (childIf b j)) m t m′ r
-      (λ i s S. rw (child-there b j e, addAll, full-is m t s f h S ef ∙ t′, ← d) (then-going (add (T by byId T) (grown i (childAt b j)) ends s)))
+  child-added m t m′ r b j f ends h e ef t′ d = does-as T (λ i. add (byCost T) (grown i (childAt b j)) ends)
+      (λ i. addAll (byCost T) i (childIf b j)) m t m′ r
+      (λ i s S. rw (child-there b j e, addAll, full-is m t s f h S ef ∙ t′, ← d) (then-going (add (byCost T) (grown i (childAt b j)) ends s)))
 
   -- ---- adding a candidate, each way that the code goes
 
   module _ (m : List ℕ) (t : Counts) (id : ℕ) (b : Bool) (C : ChildOk T (record { id = id; ends = b })) where
     pub add-kept : (m′ : List ℕ) (r : Turn) → b ≡ true → Does T (λ i. keep (grown i id)) m t m′ r → AsideUpTo (t .aside) r
-        → Does T (λ i. add (T by byId T) (grown i id) b) m t m′ r × AsideUpTo (t .aside + leavesOf id) r
+        → Does T (λ i. add (byCost T) (grown i id) b) m t m′ r × AsideUpTo (t .aside + leavesOf id) r
     add-kept m′ r e d a = (adds-kept m t m′ r id b e d, up-to (t .aside) _ r (omega arith) a)
 
     pub add-empty : (f : Found) (n : ℕ) (u : Counts) → b ≡ false → f ≡ found T (depth (T .asked) id) id → f .present ≡ 0 → n ≡ lowBit id → u ≡ asideOf (T .asked .inner) t n
-        → Does T (λ i. add (T by byId T) (grown i id) b) m t m (Turn.Going u) × AsideUpTo (t .aside + leavesOf id) (Turn.Going u)
+        → Does T (λ i. add (byCost T) (grown i id) b) m t m (Turn.Going u) × AsideUpTo (t .aside + leavesOf id) (Turn.Going u)
     unfolding AsideUpTo
     add-empty f n u e ef z en eu =
         let Q = queued id b e C in
@@ -278,13 +277,13 @@ module _ (T : Task) (D : Domain (T .asked)) where
       lift-is = is ∙ ap₂ (λ (x : Found) (y : Rule). not (T .asked .inner) && (leb (minLevel (T .asked)) (levelOf id) && eqb (ones (x .terminal)) (y .full))) ef ev
 
       pub add-lifted : lift ≡ true → Does T (λ i. keep (grown i id)) m t m′ r → AsideUpTo (t .aside) r
-          → Does T (λ i. add (T by byId T) (grown i id) b) m t m′ r × AsideUpTo (t .aside + leavesOf id) r
+          → Does T (λ i. add (byCost T) (grown i id) b) m t m′ r × AsideUpTo (t .aside + leavesOf id) r
       add-lifted l d a = (adds-open m t m′ r id b e (adds-lifted m t m′ r id some-is lift lift-is l d), up-to (t .aside) _ r (omega arith) a)
 
       pub add-queued : lift ≡ false
           → (v ≡ ruleOf T → record { id = id; present = f .present; terminal = f .terminal } ≡ recOf T (grown 0 id)
           → Does T (λ i. enqueue (byId T) (grown i id)) m t m′ r) → AsideUpTo (t .aside) r
-          → Does T (λ i. add (T by byId T) (grown i id) b) m t m′ r × AsideUpTo (t .aside + leavesOf id) r
+          → Does T (λ i. add (byCost T) (grown i id) b) m t m′ r × AsideUpTo (t .aside + leavesOf id) r
       add-queued l d a =
           let rec : Found → Rec = λ x. record { id = id; present = x .present; terminal = x .terminal } in
           (adds-open m t m′ r id b e (adds-queued m t m′ r id some-is lift lift-is l (d ev (ap rec ef))), up-to (t .aside) _ r (omega arith) a)

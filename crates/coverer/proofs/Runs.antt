@@ -1,8 +1,8 @@
 -- The start cells, one after another, and the steps until the queue is empty. Over any request and any two tests.
 use mathlib.Core.Path.{_≡_, refl, sym, ap, _∙_, subst}
-use mathlib.Core.Bool.{Bool, true, false}
+use mathlib.Core.Bool.{true, false}
 use mathlib.Core.List.{List, [], _∷_}
-use Prim.Native.Nat.{ℕ, zero, suc, _+_, _-_, _*_, _^_, _≤_, _<_}
+use Prim.Native.Nat.{ℕ, suc, _+_, _-_, _*_, _^_, _≤_, _<_}
 use native.Mathlib.Numerals.{add-one}
 use native.Mathlib.Nat.{sub-zero}
 use native.Mathlib.Omega.{arith}
@@ -10,7 +10,7 @@ use lib.ListN.{length, getD, drop}
 use lib.Seq.{drop-cons, drop-length}
 use Rattle.cellid.specs.CellId.{leavesOf, lowBit}
 use Rattle.order.specs.Order.{All}
-use Rattle.run.specs.Run.{Grown, State, Outcome, refused, going, then, isEmpty, Look, fails, none, terminal, divide, look, sumOf, byId, setAside, add, step, startAs, startAll, placed, nothing, after, loop, run, Task, _by_, memoryWords}
+use Rattle.run.specs.Run.{Grown, State, Outcome, refused, going, then, isEmpty, Look, fails, none, terminal, divide, look, sumOf, byId, setAside, add, step, startAs, startAll, placed, nothing, after, loop, run, Task, memoryWords, byCost}
 use Rattle.run.specs.Ground.{Fit, ChildOk}
 use Rattle.run.proofs.Looks.{MeansBy, look-means}
 use Rattle.run.proofs.Steps.{steps-one, steps-none}
@@ -40,9 +40,6 @@ queued-look terminal e = let z : _≡_ {A = ℕ} 0 1 = cc in absurd (omega arith
 queued-look divide e = refl
 
 module _ (T : Task) where
-  abbrev lt : Grown → Grown → Bool
-  lt = byId T
-
   -- ---- a start cell
 
   module _ (m : List ℕ) (t : Counts) (id : ℕ) (c : Candidate) (is : c ≡ candidateOf (look T id)) where
@@ -52,20 +49,20 @@ module _ (T : Task) where
     pub start-queued-ok : Fit (T .asked) id → c ≡ Candidate.Queued → ChildOk T (record { id = id; ends = false })
     start-queued-ok F e = record { fit = F; seen = queued-look (look T id) (sym is ∙ e) }
 
-    pub start-kept : (m′ : List ℕ) (r : Turn) → c ≡ Candidate.Kept → Does T (λ i. add (T by byId T) (grown i id) true) m t m′ r
-        → Does T (λ i. startAs (T by byId T) (look T id) (grown i id)) m t m′ r
+    pub start-kept : (m′ : List ℕ) (r : Turn) → c ≡ Candidate.Kept → Does T (λ i. add (byCost T) (grown i id) true) m t m′ r
+        → Does T (λ i. startAs (byCost T) (look T id) (grown i id)) m t m′ r
     unfolding startAs
-    start-kept m′ r e = does-as T (λ i. add (T by byId T) (grown i id) true) (λ i. startAs (T by byId T) (look T id) (grown i id)) m t m′ r
-        (λ i s S. ap (λ (v : Look). startAs (T by byId T) v (grown i id) s) (kept-look (look T id) (sym is ∙ e)))
+    start-kept m′ r e = does-as T (λ i. add (byCost T) (grown i id) true) (λ i. startAs (byCost T) (look T id) (grown i id)) m t m′ r
+        (λ i s S. ap (λ (v : Look). startAs (byCost T) v (grown i id) s) (kept-look (look T id) (sym is ∙ e)))
 
-    pub start-queued : (m′ : List ℕ) (r : Turn) → c ≡ Candidate.Queued → Does T (λ i. add (T by byId T) (grown i id) false) m t m′ r
-        → Does T (λ i. startAs (T by byId T) (look T id) (grown i id)) m t m′ r
+    pub start-queued : (m′ : List ℕ) (r : Turn) → c ≡ Candidate.Queued → Does T (λ i. add (byCost T) (grown i id) false) m t m′ r
+        → Does T (λ i. startAs (byCost T) (look T id) (grown i id)) m t m′ r
     unfolding startAs
-    start-queued m′ r e = does-as T (λ i. add (T by byId T) (grown i id) false) (λ i. startAs (T by byId T) (look T id) (grown i id)) m t m′ r
-        (λ i s S. ap (λ (v : Look). startAs (T by byId T) v (grown i id) s) (queued-look (look T id) (sym is ∙ e)))
+    start-queued m′ r e = does-as T (λ i. add (byCost T) (grown i id) false) (λ i. startAs (byCost T) (look T id) (grown i id)) m t m′ r
+        (λ i s S. ap (λ (v : Look). startAs (byCost T) v (grown i id) s) (queued-look (look T id) (sym is ∙ e)))
 
   none-gives : (m : List ℕ) (t : Counts) (id n i : ℕ) (s : State) (v : Look) → n ≡ leavesOf id → look T id ≡ v → candidateOf v ≡ Candidate.None → Stands T m t s
-      → Gives T m (Turn.Going (asideOf (T .asked .inner) t n)) (startAs (T by byId T) v (grown i id) s)
+      → Gives T m (Turn.Going (asideOf (T .asked .inner) t n)) (startAs (byCost T) v (grown i id) s)
   unfolding Gives startAs candidateOf MeansBy sumOf
   none-gives m t id n i s fails e l c S = (setAside (T .asked) i (id ∷ []) s, refl, sets-aside T m t n i (id ∷ []) s (λ o. e ∙ omega arith) S)
   none-gives m t id n i s none e l c S = (s, refl, rw (aside-in (T .asked .inner) t n (look-means T id none l)) S)
@@ -73,7 +70,7 @@ module _ (T : Task) where
   none-gives m t id n i s divide e l c S = let z : _≡_ {A = ℕ} 0 1 = cc in absurd (omega arith)
 
   pub start-none : (m : List ℕ) (t u : Counts) (id n : ℕ) (c : Candidate) → Fit (T .asked) id → c ≡ candidateOf (look T id) → c ≡ Candidate.None → n ≡ lowBit id → u ≡ asideOf (T .asked .inner) t n
-      → Does T (λ i. startAs (T by byId T) (look T id) (grown i id)) m t m (Turn.Going u) × AsideUpTo (t .aside + leavesOf id) (Turn.Going u)
+      → Does T (λ i. startAs (byCost T) (look T id) (grown i id)) m t m (Turn.Going u) × AsideUpTo (t .aside + leavesOf id) (Turn.Going u)
   unfolding AsideUpTo
   start-none m t u id n c F is e en eu =
       let l : n ≡ leavesOf id = en ∙ low-leaves id (F .cell) in (
@@ -86,7 +83,7 @@ module _ (T : Task) where
   pub record Starting (l : List ℕ) (m₀ m : List ℕ) (t : Counts) (i : ℕ) : Type 0 where
     pub state : State
     pub stands : Stands T m t state
-    pub rest : startAll (T by byId T) (placed i (drop i l)) state ≡ after (T by byId T) l 0
+    pub rest : startAll (byCost T) (placed i (drop i l)) state ≡ after (byCost T) l 0
     pub room : t .aside ≤ i * 2 ^ 60
     pub frame : past memoryWords m ≡ past memoryWords m₀
 
@@ -95,40 +92,40 @@ module _ (T : Task) where
   starting l m = record { state = nothing; stands = stands-nothing T m; rest = refl; room = omega arith; frame = refl }
 
   turned : (l : List ℕ) (i x : ℕ) (s : State) → i < length l → x ≡ getD l i 0
-      → startAll (T by byId T) (placed i (drop i l)) s ≡ then (startAs (T by byId T) (look T x) (grown i x) s) (startAll (T by byId T) (placed (i + 1) (drop (i + 1) l)))
+      → startAll (byCost T) (placed i (drop i l)) s ≡ then (startAs (byCost T) (look T x) (grown i x) s) (startAll (byCost T) (placed (i + 1) (drop (i + 1) l)))
   unfolding startAll placed
   turned l i x s h e = rw (add-one i, drop-cons l i 0 h, e)
 
   pub starting-turn : (l m₀ m : List ℕ) (t : Counts) (i x : ℕ) (m′ : List ℕ) (r : Turn) (u : Counts) → i < length l → x ≡ getD l i 0 → r ≡ Turn.Going u → leavesOf x ≤ 2 ^ 60
-      → Does T (λ j. startAs (T by byId T) (look T x) (grown j x)) m t m′ r → AsideUpTo (t .aside + leavesOf x) r → Starting l m₀ m t i → Starting l m₀ m′ u (i + 1)
+      → Does T (λ j. startAs (byCost T) (look T x) (grown j x)) m t m′ r → AsideUpTo (t .aside + leavesOf x) r → Starting l m₀ m t i → Starting l m₀ m′ u (i + 1)
   unfolding Gives then AsideUpTo
   starting-turn l m₀ m t i x m′ r u h ex er le d a I =
-      let g = subst (λ (y : Turn). Gives T m′ y (startAs (T by byId T) (look T x) (grown i x) (I .state))) er (d .gives i (I .state) (I .stands)) in
+      let g = subst (λ (y : Turn). Gives T m′ y (startAs (byCost T) (look T x) (grown i x) (I .state))) er (d .gives i (I .state) (I .stands)) in
       let aside : u .aside ≤ t .aside + leavesOf x = subst (AsideUpTo (t .aside + leavesOf x)) er a in
       record {
         state = g .0;
         stands = g .2;
-        rest = sym (turned l i x (I .state) h ex ∙ ap (λ (o : Outcome). then o (startAll (T by byId T) (placed (i + 1) (drop (i + 1) l)))) (g .1)) ∙ I .rest;
+        rest = sym (turned l i x (I .state) h ex ∙ ap (λ (o : Outcome). then o (startAll (byCost T) (placed (i + 1) (drop (i + 1) l)))) (g .1)) ∙ I .rest;
         room = omega (arith, I .room);
         frame = d .frame ∙ I .frame;
       }
 
   pub starting-stop : (l m₀ m : List ℕ) (t : Counts) (i x : ℕ) (m′ : List ℕ) (r : Turn) (n : ℕ) → i < length l → x ≡ getD l i 0 → r ≡ Turn.Refused n
-      → Does T (λ j. startAs (T by byId T) (look T x) (grown j x)) m t m′ r → Starting l m₀ m t i → Comes T (after (T by byId T) l 0) m₀ m′ (Turn.Refused n)
+      → Does T (λ j. startAs (byCost T) (look T x) (grown j x)) m t m′ r → Starting l m₀ m t i → Comes T (after (byCost T) l 0) m₀ m′ (Turn.Refused n)
   unfolding Gives then
   starting-stop l m₀ m t i x m′ r n h ex er d I =
-      let g = subst (λ (y : Turn). Gives T m′ y (startAs (T by byId T) (look T x) (grown i x) (I .state))) er (d .gives i (I .state) (I .stands)) in
+      let g = subst (λ (y : Turn). Gives T m′ y (startAs (byCost T) (look T x) (grown i x) (I .state))) er (d .gives i (I .state) (I .stands)) in
       record {
-        gives = sym (I .rest) ∙ turned l i x (I .state) h ex ∙ ap (λ (o : Outcome). then o (startAll (T by byId T) (placed (i + 1) (drop (i + 1) l)))) g;
+        gives = sym (I .rest) ∙ turned l i x (I .state) h ex ∙ ap (λ (o : Outcome). then o (startAll (byCost T) (placed (i + 1) (drop (i + 1) l)))) g;
         frame = d .frame ∙ I .frame;
       }
 
-  pub starting-end : (l m₀ m : List ℕ) (t : Counts) (i : ℕ) → i ≡ length l → Starting l m₀ m t i → Comes T (after (T by byId T) l 0) m₀ m (Turn.Going t)
+  pub starting-end : (l m₀ m : List ℕ) (t : Counts) (i : ℕ) → i ≡ length l → Starting l m₀ m t i → Comes T (after (byCost T) l 0) m₀ m (Turn.Going t)
   unfolding Gives startAll placed
   starting-end l m₀ m t i e I =
       let d : drop i l ≡ [] = ap (λ (j : ℕ). drop j l) e ∙ drop-length l in
       record {
-        gives = (I .state, sym (I .rest) ∙ ap (λ (x : List ℕ). startAll (T by byId T) (placed i x) (I .state)) d, I .stands);
+        gives = (I .state, sym (I .rest) ∙ ap (λ (x : List ℕ). startAll (byCost T) (placed i x) (I .state)) d, I .stands);
         frame = I .frame;
       }
 
@@ -146,11 +143,11 @@ module _ (T : Task) where
   waiting : {m : List ℕ} {t : Counts} {s : State} → 0 < t .queued → Stands T m t s → isEmpty (s .queue) ≡ false
   waiting {m} {t} {s} h S = empty-is (s .queue) (omega (arith, queue-length T S))
 
-  loop-step : (a : ℕ) (s : State) → isEmpty (s .queue) ≡ false → loop (T by byId T) (suc a) s ≡ then (step (T by byId T) s) (loop (T by byId T) a)
+  loop-step : (a : ℕ) (s : State) → isEmpty (s .queue) ≡ false → loop (byCost T) (suc a) s ≡ then (step (byCost T) s) (loop (byCost T) a)
   unfolding loop
   loop-step a s e = rw (e, loop)
 
-  loop-spent : (s : State) → isEmpty (s .queue) ≡ false → loop (T by byId T) 0 s ≡ refused 9
+  loop-spent : (s : State) → isEmpty (s .queue) ≡ false → loop (byCost T) 0 s ≡ refused 9
   unfolding loop
   loop-spent s e = rw (e, loop)
 
@@ -159,32 +156,32 @@ module _ (T : Task) where
     pub reached : Reached T state
     pub stands : Stands T m t state
     pub left : t .steps ≤ k
-    pub goes : Goes T (λ i. loop (T by byId T) (k - t₀ .steps)) (λ i. loop (T by byId T) (k - t .steps)) m₀ t₀ m t
+    pub goes : Goes T (λ i. loop (byCost T) (k - t₀ .steps)) (λ i. loop (byCost T) (k - t .steps)) m₀ t₀ m t
 
   module _ (k : ℕ) (m₀ : List ℕ) (t₀ : Counts) (m : List ℕ) (t : Counts) (I : Going k m₀ t₀ m t) where
-    pub going-spent : 0 < t .queued → t .steps ≡ k → Does T (λ i. loop (T by byId T) (k - t₀ .steps)) m₀ t₀ m (Turn.Refused 9)
+    pub going-spent : 0 < t .queued → t .steps ≡ k → Does T (λ i. loop (byCost T) (k - t₀ .steps)) m₀ t₀ m (Turn.Refused 9)
     unfolding Gives
     going-spent h e =
         let z : k - t .steps ≡ 0 = omega arith in
-        goes-on T _ _ m₀ t₀ m t m (Turn.Refused 9) (record { gives = λ i s S. ap (λ (n : ℕ). loop (T by byId T) n s) z ∙ loop-spent s (waiting h S); frame = refl }) (I .goes)
+        goes-on T _ _ m₀ t₀ m t m (Turn.Refused 9) (record { gives = λ i s S. ap (λ (n : ℕ). loop (byCost T) n s) z ∙ loop-spent s (waiting h S); frame = refl }) (I .goes)
 
-    pub going-end : t .queued ≤ 0 → Does T (λ i. loop (T by byId T) (k - t₀ .steps)) m₀ t₀ m (Turn.Going t)
+    pub going-end : t .queued ≤ 0 → Does T (λ i. loop (byCost T) (k - t₀ .steps)) m₀ t₀ m (Turn.Going t)
     going-end h = goes-end T _ _ m₀ t₀ m t (λ i s S. loop-end T (byId T) (k - t .steps) s (nil-is (s .queue) (omega (arith, queue-length T S)))) (I .goes)
 
-    module _ (m′ : List ℕ) (r : Turn) (some : 0 < t .queued) (left : t .steps ≡ k → ⊥) (d : Does T (λ i. step (T by byId T)) m t m′ r) where
-      more : (i : ℕ) (s : State) → Stands T m t s → loop (T by byId T) (k - t .steps) s ≡ then (step (T by byId T) s) (loop (T by byId T) (k - (t .steps + 1)))
+    module _ (m′ : List ℕ) (r : Turn) (some : 0 < t .queued) (left : t .steps ≡ k → ⊥) (d : Does T (λ i. step (byCost T)) m t m′ r) where
+      more : (i : ℕ) (s : State) → Stands T m t s → loop (byCost T) (k - t .steps) s ≡ then (step (byCost T) s) (loop (byCost T) (k - (t .steps + 1)))
       more i s S =
           let left-over : t .steps ≤ k = I .left in
           let z : k - t .steps ≡ suc (k - (t .steps + 1)) = omega arith in
-          ap (λ (n : ℕ). loop (T by byId T) n s) z ∙ loop-step (k - (t .steps + 1)) s (waiting some S)
+          ap (λ (n : ℕ). loop (byCost T) n s) z ∙ loop-step (k - (t .steps + 1)) s (waiting some S)
 
-      pub going-stop : (n : ℕ) → r ≡ Turn.Refused n → Does T (λ i. loop (T by byId T) (k - t₀ .steps)) m₀ t₀ m′ (Turn.Refused n)
-      going-stop n e = goes-stop T _ _ _ (λ i. loop (T by byId T) (k - (t .steps + 1))) m₀ t₀ m t m′ n more (subst (Does T (λ i. step (T by byId T)) m t m′) e d) (I .goes)
+      pub going-stop : (n : ℕ) → r ≡ Turn.Refused n → Does T (λ i. loop (byCost T) (k - t₀ .steps)) m₀ t₀ m′ (Turn.Refused n)
+      going-stop n e = goes-stop T _ _ _ (λ i. loop (byCost T) (k - (t .steps + 1))) m₀ t₀ m t m′ n more (subst (Does T (λ i. step (byCost T)) m t m′) e d) (I .goes)
 
       pub going-turn : (u : Counts) → r ≡ Turn.Going u → Going k m₀ t₀ m′ u × (u .steps ≡ t .steps + 1)
       unfolding Gives after then
       going-turn u e =
-          let d′ = subst (Does T (λ i. step (T by byId T)) m t m′) e d in
+          let d′ = subst (Does T (λ i. step (byCost T)) m t m′) e d in
           let g = d′ .gives 0 (I .state) (I .stands) in
           let R = I .reached in
           let one : u .steps ≡ t .steps + 1 =
@@ -197,29 +194,29 @@ module _ (T : Task) where
                 fit = R .fit;
                 six = R .six;
                 steps = suc (R .steps);
-                is = ap (λ (o : Outcome). then o (step (T by byId T))) (R .is) ∙ g .1;
+                is = ap (λ (o : Outcome). then o (step (byCost T))) (R .is) ∙ g .1;
               };
               stands = g .2;
               left = omega arith;
-              goes = goes-turn T _ _ _ (λ i. loop (T by byId T) (k - u .steps)) m₀ t₀ m t m′ u
-                  (λ i s S. more i s S ∙ ap (λ (n : ℕ). then (step (T by byId T) s) (loop (T by byId T) (k - n))) (sym one)) d′ (I .goes);
+              goes = goes-turn T _ _ _ (λ i. loop (byCost T) (k - u .steps)) m₀ t₀ m t m′ u
+                  (λ i s S. more i s S ∙ ap (λ (n : ℕ). then (step (byCost T) s) (loop (byCost T) (k - n))) (sym one)) d′ (I .goes);
             },
             one,
           )
 
   -- ---- the whole run
 
-  module _ (l m m₁ : List ℕ) (r : Turn) (k : ℕ) (C : Comes T (after (T by byId T) l 0) m m₁ r) where
-    pub runs-refused : (n : ℕ) → r ≡ Turn.Refused n → Comes T (run (T by byId T) l k) m m₁ (Turn.Refused n)
+  module _ (l m m₁ : List ℕ) (r : Turn) (k : ℕ) (C : Comes T (after (byCost T) l 0) m m₁ r) where
+    pub runs-refused : (n : ℕ) → r ≡ Turn.Refused n → Comes T (run (byCost T) l k) m m₁ (Turn.Refused n)
     unfolding Gives run then
     runs-refused n e =
-        let g : after (T by byId T) l 0 ≡ refused n = subst (λ (y : Turn). Gives T m₁ y (after (T by byId T) l 0)) e (C .gives) in
-        record { gives = ap (λ (o : Outcome). then o (loop (T by byId T) k)) g; frame = C .frame }
+        let g : after (byCost T) l 0 ≡ refused n = subst (λ (y : Turn). Gives T m₁ y (after (byCost T) l 0)) e (C .gives) in
+        record { gives = ap (λ (o : Outcome). then o (loop (byCost T) k)) g; frame = C .frame }
 
     module _ (t : Counts) (e : r ≡ Turn.Going t) where
-      started : (s : State) × (after (T by byId T) l 0 ≡ going s) × Stands T m₁ t s
+      started : (s : State) × (after (byCost T) l 0 ≡ going s) × Stands T m₁ t s
       unfolding Gives
-      started = subst (λ (y : Turn). Gives T m₁ y (after (T by byId T) l 0)) e (C .gives)
+      started = subst (λ (y : Turn). Gives T m₁ y (after (byCost T) l 0)) e (C .gives)
 
       no-steps : t .steps ≡ 0
       no-steps = started .2 .steps ∙ steps-none T (byId T) l (started .0) (started .1)
@@ -230,10 +227,10 @@ module _ (T : Task) where
       pub runs-room : t .steps ≤ k
       runs-room = omega (arith, no-steps)
 
-      pub runs-on : (m₂ : List ℕ) (x : Turn) → Does T (λ i. loop (T by byId T) (k - t .steps)) m₁ t m₂ x → Comes T (run (T by byId T) l k) m m₂ x
+      pub runs-on : (m₂ : List ℕ) (x : Turn) → Does T (λ i. loop (byCost T) (k - t .steps)) m₁ t m₂ x → Comes T (run (byCost T) l k) m m₂ x
       unfolding run then
       runs-on m₂ x d =
           let z : k - t .steps ≡ k = ap (λ (n : ℕ). k - n) no-steps ∙ sub-zero k in
-          let o : run (T by byId T) l k ≡ loop (T by byId T) (k - t .steps) (started .0) =
-          ap (λ (y : Outcome). then y (loop (T by byId T) k)) (started .1) ∙ ap (λ (n : ℕ). loop (T by byId T) n (started .0)) (sym z) in
+          let o : run (byCost T) l k ≡ loop (byCost T) (k - t .steps) (started .0) =
+          ap (λ (y : Outcome). then y (loop (byCost T) k)) (started .1) ∙ ap (λ (n : ℕ). loop (byCost T) n (started .0)) (sym z) in
           record { gives = subst (Gives T m₂ x) (sym o) (d .gives 0 (started .0) (started .2)); frame = d .frame ∙ C .frame }

@@ -19,7 +19,7 @@ use Rattle.run.proofs.Totals.{aside-more}
 use Rattle.queue.specs.declared.Rec.{Rec}
 use Rattle.queue.specs.declared.Rule.{Rule}
 use Rattle.queue.specs.Queue.{before, key, pushR, popR}
-use Rattle.queue.proofs.Laws.{held, push-out, pop-out, getR-out}
+use Rattle.queue.proofs.Laws.{in-queue, push-out, pop-out, getR-out}
 use Rattle.coverer.specs.declared.Counts.{Counts}
 use Rattle.coverer.specs.declared.Turn.{Turn}
 use Rattle.coverer.specs.Engine.{wordsAt, past, grown, ruleOf, recOf, Stands, Gives, Does, asideOf, AsideUpTo}
@@ -70,7 +70,7 @@ module _ (T : Task) where
   more = queue-more T (λ i p t. record { id = i; present = p; terminal = t }) (before w) keyed
 
   pub queue-length : {m : List ℕ} {t : Counts} {s : State} → Stands T m t s → length (s .queue) ≡ t .queued
-  queue-length {m} {t} {s} S = sym (length-map (s .queue) (recOf T)) ∙ held w .size m (t .queued) (map (recOf T) (s .queue)) (S .queue)
+  queue-length {m} {t} {s} S = sym (length-map (s .queue) (recOf T)) ∙ in-queue w .size m (t .queued) (map (recOf T) (s .queue)) (S .queue)
 
   pub raw-length : {m : List ℕ} {t : Counts} {s : State} → memoryWords ≤ length m → Stands T m t s → length (s .raw) ≡ t .kept
   unfolding rawIds
@@ -82,7 +82,7 @@ module _ (T : Task) where
 
   pub stands-nothing : (m : List ℕ) → Stands T m (record { kept = 0; queued = 0; aside = 0; steps = 0 }) nothing
   unfolding rawIds asideTotal sumOf
-  stands-nothing m = record { queue = held w .none m; raw = words-none queueWords m; few = omega arith; room = omega arith; aside = refl; steps = refl }
+  stands-nothing m = record { queue = in-queue w .none m; raw = words-none queueWords m; few = omega arith; room = omega arith; aside = refl; steps = refl }
 
   -- ---- one more kept
 
@@ -100,7 +100,7 @@ module _ (T : Task) where
           record { raw = s .raw ++ (grown i id ∷ []); queue = s .queue; aside = s .aside; steps = s .steps },
           keep-go T (byId T) (grown i id) s (omega (arith, raw-length h S)),
           record {
-            queue = held w .only m _ (t .queued) (map (recOf T) (s .queue)) (λ j b. getR-out m (queueWords + t .kept) id j (omega arith)) (S .queue);
+            queue = in-queue w .only m _ (t .queued) (map (recOf T) (s .queue)) (λ j b. getR-out m (queueWords + t .kept) id j (omega arith)) (S .queue);
             raw = raw-more s (grown i id) m _ (t .kept) (S .raw) (words-more queueWords (t .kept) id m (omega arith));
             few = S .few;
             room = omega arith;
@@ -127,7 +127,7 @@ module _ (T : Task) where
       record {
         queue =
             rw (add-one (t .queued), more (grown i (r .id)) (s .queue), ← e)
-            (held w .more m (t .queued) r (map (recOf T) (s .queue)) (omega arith) (S .queue));
+            (in-queue w .more m (t .queued) r (map (recOf T) (s .queue)) (omega arith) (S .queue));
         raw = words-past queueWords (t .kept) m _ (push-past w queueMost queueWords m (t .queued) r g refl) ∙ S .raw;
         few = omega arith;
         room = S .room;

@@ -1,11 +1,10 @@
 -- A step: the least record is taken, and handed on to its children, kept, or the end of an inner run. Over any request and any two tests.
-use Rattle.run.specs.declared.Request.{Request}
 use mathlib.Core.Path.{_≡_, refl, sym, ap, ap₂, _∙_, subst}
 use mathlib.Core.Bool.{Bool, true, false, _&&_, _||_}
 use mathlib.Core.Logic.{⊎-elim}
 use mathlib.Core.List.{List, [], _∷_, map}
 use Prim.Native.Nat.{ℕ, suc, _+_, _-_, _*_, _/_, _^_, _≤_, _<_}
-use native.Mathlib.Nat.{div-one, sub-zero, mul-sub, mul-comm, mul-div-cancel-left}
+use native.Mathlib.Nat.{div-one, sub-zero, mul-div-cancel-left}
 use native.Mathlib.Numerals.{add-one}
 use native.Mathlib.Omega.{arith}
 use lib.Dec.{leb, ltb, eqb}
@@ -16,12 +15,13 @@ use Rattle.cellid.specs.CellId.{levelOf, placeOf, lowBit, bitAt, leavesOf}
 use Rattle.cellid.proofs.Laws.{low-cell, bit-up, sub-mul}
 use Rattle.order.specs.Order.{All}
 use Rattle.order.proofs.OrderLaws.{which}
-use Rattle.run.specs.Run.{Grown, Child, State, sumOf, depth, expand, expansionOf, byId, keep, setAside, addAll, isHandedOn, stepWith, stepOn, step, asideTotal, rawIds, Task, _by_, levelMod, rawMost, maxCells, minLevel, queueMost, queueWords, memoryWords}
+use Rattle.run.specs.declared.Request.{Request}
+use Rattle.run.specs.Run.{Grown, Child, State, sumOf, depth, expand, expansionOf, byId, keep, setAside, addAll, isHandedOn, stepWith, stepOn, step, asideTotal, rawIds, Task, levelMod, rawMost, maxCells, minLevel, queueMost, queueWords, memoryWords, byCost}
 use Rattle.run.specs.Masks.{descend, childrenIn, found}
 use Rattle.run.specs.Ground.{Domain, ChildOk, Queued}
 use Rattle.run.proofs.Lists.{rel-le}
 use Rattle.run.proofs.Leaves.{leaves-add}
-use Rattle.run.proofs.Ground.{under-ok}
+use Rattle.run.proofs.Ground.{expansion-ok}
 use Rattle.run.proofs.Demand3.{sums}
 use Rattle.run.proofs.Starts.{sum-placed}
 use Rattle.run.proofs.Masks.{found-small, found-list}
@@ -30,7 +30,7 @@ use Rattle.run.proofs.Totals.{failed-total, sum-le}
 use Rattle.queue.specs.declared.Rec.{Rec}
 use Rattle.queue.specs.declared.Rule.{Rule}
 use Rattle.queue.specs.Queue.{popR, nextR}
-use Rattle.queue.proofs.Laws.{held}
+use Rattle.queue.proofs.Laws.{in-queue}
 use Rattle.coverer.specs.declared.Counts.{Counts}
 use Rattle.coverer.specs.declared.Turn.{Turn}
 use Rattle.coverer.specs.declared.Brood.{Brood}
@@ -92,7 +92,7 @@ module _ (T : Task) (D : Domain (T .asked)) where
     under-leaves : (t : Counts) (x : ℕ) → (T .asked .inner ≡ false → x ≡ sumOf leavesOf (expansionOf T id .failed))
         → asideOf (T .asked .inner) t x .aside + leavesIn (expansionOf T id .children) ≤ t .aside + leavesOf id
     under-leaves t x e =
-        let u = under-ok T D (byId T) (λ i m. leavesOf m) (λ i m L p c l. leaves-add m L p c l) 0 id Q in
+        let u = expansion-ok T D (byId T) (λ i m. leavesOf m) (λ i m L p c l. leaves-add m L p c l) 0 id Q in
         let le : leavesIn (expansionOf T id .children) + sumOf leavesOf (expansionOf T id .failed) ≤ leavesOf id = rel-le (T .asked .inner) _ _ (u .sum) in
         ⊎-elim
         (λ (b : T .asked .inner ≡ true). omega (arith, ap (λ (y : Counts). y .aside) (aside-in (T .asked .inner) t x b)))
@@ -147,19 +147,19 @@ module _ (T : Task) (D : Domain (T .asked)) where
     brood-places h g = rw places-is (places-le (depth (T .asked) (r .id)) (depth-le (T .asked) (r .id) h g))
 
     pub brood-ok : All (ChildOk T) (childrenFrom b 0)
-    brood-ok = subst (All (ChildOk T)) (sym brood-children) (under-ok T D (byId T) (λ i x. leavesOf x) (λ i x L p c l. leaves-add x L p c l) 0 (r .id) (B .queued) .children)
+    brood-ok = subst (All (ChildOk T)) (sym brood-children) (expansion-ok T D (byId T) (λ i x. leavesOf x) (λ i x L p c l. leaves-add x L p c l) 0 (r .id) (B .queued) .children)
 
     pub brood-leaves : (t u : Counts) → u ≡ asideOf (T .asked .inner) t ((b .places - k) * b .unit) → u .aside + leavesIn (childrenFrom b 0) ≤ t .aside + leavesOf (r .id)
     brood-leaves t u e = rw (e, brood-children) (under-leaves (r .id) (B .queued) t ((b .places - k) * b .unit) brood-failed)
 
     pub hands : (m₁ : List ℕ) (t u : Counts) (m₂ : List ℕ) (a : Turn) → u ≡ asideOf (T .asked .inner) t ((b .places - k) * b .unit)
-        → Does T (λ i. addAll (T by byId T) i (childrenFrom b 0)) m₁ u m₂ a → Does T (λ i. handOn T (grown i (r .id))) m₁ t m₂ a
+        → Does T (λ i. addAll (byCost T) i (childrenFrom b 0)) m₁ u m₂ a → Does T (λ i. handOn T (grown i (r .id))) m₁ t m₂ a
     unfolding handOn
     hands m₁ t u m₂ a e d = record {
       gives = λ i s S.
           let s₁ : State = setAside (T .asked) i (expansionOf T (r .id) .failed) s in
           let S₁ : Stands T m₁ u s₁ = rw e (sets-aside T m₁ t ((b .places - k) * b .unit) i (expansionOf T (r .id) .failed) s brood-failed S) in
-          subst (λ (l : List Child). Gives T m₂ a (addAll (T by byId T) i l s₁)) brood-children (d .gives i s₁ S₁);
+          subst (λ (l : List Child). Gives T m₂ a (addAll (byCost T) i l s₁)) brood-children (d .gives i s₁ S₁);
       frame = d .frame;
     }
 
@@ -167,13 +167,13 @@ module _ (T : Task) (D : Domain (T .asked)) where
 
   module _ (m : List ℕ) (t : Counts) (long : memoryWords ≤ length m) (f : Bool) (ef : f ≡ (T .asked .inner && leb (maxCells (T .asked)) (t .kept))) where
     pub taken-full : (id : ℕ) → f ≡ true
-        → Does T (λ i. stepWith (T by byId T) (grown i id)) m t m (Turn.Going (record { kept = t .kept; queued = 0; aside = t .aside; steps = t .steps }))
+        → Does T (λ i. stepWith (byCost T) (grown i id)) m t m (Turn.Going (record { kept = t .kept; queued = 0; aside = t .aside; steps = t .steps }))
     unfolding Gives stepWith rawIds asideTotal
     taken-full id e = record {
       gives = λ i s S. (
         record { raw = s .raw; queue = []; aside = s .aside; steps = s .steps },
         rw (full-is T D m t s f long S ef ∙ e, stepWith),
-        record { queue = held (ruleOf T) .none m; raw = S .raw; few = omega arith; room = S .room; aside = S .aside; steps = S .steps },
+        record { queue = in-queue (ruleOf T) .none m; raw = S .raw; few = omega arith; room = S .room; aside = S .aside; steps = S .steps },
       );
       frame = refl;
     }
@@ -189,15 +189,15 @@ module _ (T : Task) (D : Domain (T .asked)) where
       hands-is i s S = rw (count-children, raw-length T long S, queue-length T S) (sym eh)
 
       pub taken-handed : (m′ : List ℕ) (a : Turn) → h ≡ true → Does T (λ i. handOn T (grown i (r .id))) m t m′ a
-          → Does T (λ i. stepWith (T by byId T) (grown i (r .id))) m t m′ a
+          → Does T (λ i. stepWith (byCost T) (grown i (r .id))) m t m′ a
       unfolding stepWith handOn
-      taken-handed m′ a e = does-as T (λ i. handOn T (grown i (r .id))) (λ i. stepWith (T by byId T) (grown i (r .id))) m t m′ a
+      taken-handed m′ a e = does-as T (λ i. handOn T (grown i (r .id))) (λ i. stepWith (byCost T) (grown i (r .id))) m t m′ a
           (λ i s S. rw (full-is T D m t s f long S ef ∙ still, stepWith, hands-is i s S ∙ e))
 
       pub taken-kept : (m′ : List ℕ) (a : Turn) → h ≡ false → Does T (λ i. keep (grown i (r .id))) m t m′ a
-          → Does T (λ i. stepWith (T by byId T) (grown i (r .id))) m t m′ a
+          → Does T (λ i. stepWith (byCost T) (grown i (r .id))) m t m′ a
       unfolding stepWith
-      taken-kept m′ a e = does-as T (λ i. keep (grown i (r .id))) (λ i. stepWith (T by byId T) (grown i (r .id))) m t m′ a
+      taken-kept m′ a e = does-as T (λ i. keep (grown i (r .id))) (λ i. stepWith (byCost T) (grown i (r .id))) m t m′ a
           (λ i s S. rw (full-is T D m t s f long S ef ∙ still, stepWith, hands-is i s S ∙ e))
 
   -- ---- the least is taken
@@ -227,7 +227,7 @@ module _ (T : Task) (D : Domain (T .asked)) where
       go [] e = absurd (omega (arith, queue-length T S, ap length e))
       go (c ∷ l) e =
           let z : t .queued ≡ suc (t .queued - 1) = omega arith in
-          let P = held w .less m (t .queued - 1) (recOf T c) (map (recOf T) l) (omega arith) (rw (z, e) at (S .queue)) in
+          let P = in-queue w .less m (t .queued - 1) (recOf T c) (map (recOf T) l) (omega arith) (rw (z, e) at (S .queue)) in
           record {
             first = c;
             rest = l;
@@ -277,7 +277,7 @@ module _ (T : Task) (D : Domain (T .asked)) where
       }
 
   pub steps : (m : List ℕ) (t : Counts) (v : Rule) (r : Rec) (m₁ m₂ : List ℕ) (a : Turn) → memoryWords ≤ length m → 0 < t .queued → t .queued ≤ queueMost → v ≡ w → r ≡ nextR m (t .queued - 1) → m₁ ≡ popR v m (t .queued - 1)
-      → Does T (λ i. stepWith (T by byId T) (grown i (r .id))) m₁ (stepped t) m₂ a → Does T (λ i. step (T by byId T)) m t m₂ a
+      → Does T (λ i. stepWith (byCost T) (grown i (r .id))) m₁ (stepped t) m₂ a → Does T (λ i. step (byCost T)) m t m₂ a
   unfolding step stepOn
   steps m t v r m₁ m₂ a long some few ev er em d =
       let p : m₁ ≡ popR w m (t .queued - 1) = em ∙ ap (λ (x : Rule). popR x m (t .queued - 1)) ev in
@@ -287,9 +287,9 @@ module _ (T : Task) (D : Domain (T .asked)) where
             let c = P .first in
             let s₁ : State = record { raw = s .raw; queue = P .rest; aside = s .aside; steps = suc (s .steps) } in
             let e : r .id ≡ c .id = ap (λ (x : Rec). x .id) (er ∙ P .least) in
-            let g : Gives T m₂ a (stepWith (T by byId T) (grown (c .from) (r .id)) s₁) = d .gives (c .from) s₁ (rw p (P .stands)) in
-            let o : stepOn (T by byId T) (s .queue) s ≡ stepWith (T by byId T) (grown (c .from) (r .id)) s₁ =
-            ap (λ (x : List Grown). stepOn (T by byId T) x s) (P .queue) ∙ ap (λ (x : ℕ). stepWith (T by byId T) (grown (c .from) x) s₁) (sym e) in
+            let g : Gives T m₂ a (stepWith (byCost T) (grown (c .from) (r .id)) s₁) = d .gives (c .from) s₁ (rw p (P .stands)) in
+            let o : stepOn (byCost T) (s .queue) s ≡ stepWith (byCost T) (grown (c .from) (r .id)) s₁ =
+            ap (λ (x : List Grown). stepOn (byCost T) x s) (P .queue) ∙ ap (λ (x : ℕ). stepWith (byCost T) (grown (c .from) x) s₁) (sym e) in
             subst (Gives T m₂ a) (sym o) g;
         frame = d .frame ∙ ap (past memoryWords) p ∙ past-later queueWords memoryWords m _ (omega arith) (pop-past w queueMost queueWords m (t .queued - 1) (omega arith) refl);
       }

@@ -6,7 +6,7 @@ use lib.ListN.{length, drop}
 use Rattle.cellunion.specs.Memory.{zeros, laid}
 use Rattle.region.specs.declared.Region.{Region}
 use Rattle.run.specs.declared.Request.{Request}
-use Rattle.run.specs.Run.{queueWords, memoryWords, Course, _by_, Outcome, refused, going, byId, run, rawIds, asideTotal}
+use Rattle.run.specs.Run.{queueWords, memoryWords, Course, Outcome, refused, going, byCost, run, rawIds, asideTotal}
 use Rattle.candidate.specs.Candidate.{taskOf}
 use Rattle.coverer.specs.declared.Ran.{Ran}
 
@@ -20,7 +20,7 @@ onlyWords a b l m = zeros a ++ (l ++ (zeros (b - (a + length l)) ++ drop b m))
 
 -- what a request's run on a region goes by: the region's two tests; the least cost first, of equal costs the smaller id
 abbrev pub courseOf : Request → Region → Course
-courseOf q g = taskOf q g by byId (taskOf q g)
+courseOf q g = byCost (taskOf q g)
 
 -- the defined run
 unfoldable pub outcomeOf : Request → Region → List ℕ → ℕ → Outcome

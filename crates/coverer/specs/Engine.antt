@@ -1,7 +1,7 @@
 -- Private contracts only; nothing here need be believed: what the engine promises is in specs/Coverer.
 -- How the working memory and the engine's counts stand for a state of the defined run, and what each part of the engine does in these words: whatever state
 -- the memory stands for before, it stands for the defined next one afterwards. The start cells' places, `from`, are in no word of the memory: each statement
--- holds for every place i. Of the queue no more is said than that it is `Held`.
+-- holds for every place i. Of the queue no more is said than that it is `InQueue`.
 use mathlib.Core.Path.{_≡_}
 use mathlib.Core.Bool.{Bool, true, false}
 use mathlib.Core.List.{List, [], map}
@@ -12,12 +12,12 @@ use Rattle.cellid.specs.CellId.{lowBit, leavesOf}
 use Rattle.order.specs.Order.{All}
 use Rattle.region.specs.declared.Region.{Region}
 use Rattle.run.specs.declared.Request.{Request}
-use Rattle.run.specs.Run.{queueMost, rawMost, Task, _by_, Grown, Child, State, Outcome, refused, going, full, depth, sumOf, byId, look, expansionOf, setAside, addAll, startAs, after, rawIds, asideTotal, queueWords, memoryWords}
+use Rattle.run.specs.Run.{queueMost, rawMost, Task, Grown, Child, State, Outcome, refused, going, full, depth, sumOf, look, expansionOf, setAside, addAll, startAs, after, rawIds, asideTotal, queueWords, memoryWords, byCost}
 use Rattle.run.specs.Masks.{found, consIf, childrenIn}
 use Rattle.run.specs.Ground.{Fit}
 use Rattle.queue.specs.declared.Rec.{Rec}
 use Rattle.queue.specs.declared.Rule.{Rule}
-use Rattle.queue.specs.Queue.{Held}
+use Rattle.queue.specs.Queue.{InQueue}
 use Rattle.candidate.specs.Candidate.{taskOf, Asks}
 use Rattle.coverer.specs.declared.Counts.{Counts}
 use Rattle.coverer.specs.declared.Turn.{Turn}
@@ -83,7 +83,7 @@ module _ (T : Task) where
 
   -- the memory m and the counts t stand for the state s
   pub record Stands (m : List ℕ) (t : Counts) (s : State) : Type 0 where
-    pub queue : Held ruleOf m (t .queued) (map recOf (s .queue))
+    pub queue : InQueue ruleOf m (t .queued) (map recOf (s .queue))
     pub raw : wordsAt queueWords (t .kept) m ≡ rawIds s
     pub few : t .queued ≤ queueMost
     pub room : t .kept ≤ rawMost
@@ -111,15 +111,15 @@ module _ (T : Task) where
     pub fit : All (Fit (T .asked)) starts
     pub six : length starts ≤ 6
     pub steps : ℕ
-    pub is : after (T by byId T) starts steps ≡ going s
+    pub is : after (byCost T) starts steps ≡ going s
 
   -- the taken cell handed on to its children: what failed is set aside, then the children are added
   unfoldable pub handOn : Grown → State → Outcome
-  handOn c s = addAll (T by byId T) (c .from) (expansionOf T (c .id) .children) (setAside (T .asked) (c .from) (expansionOf T (c .id) .failed) s)
+  handOn c s = addAll (byCost T) (c .from) (expansionOf T (c .id) .children) (setAside (T .asked) (c .from) (expansionOf T (c .id) .failed) s)
 
   -- a start cell, by what the look at it says
   abbrev pub startOne : Grown → State → Outcome
-  startOne c = startAs (T by byId T) (look T (c .id)) c
+  startOne c = startAs (byCost T) (look T (c .id)) c
 
 -- what is asked, and the order's rule for it
 pub record Ready (q : Request) (g : Region) (w : Rule) : Type 0 where

@@ -30,7 +30,7 @@ use Rattle.bars.specs.declared.Bar.{Bar}
 use Rattle.bars.specs.Bars.{barOf}
 use Rattle.covering.specs.Covering.{Result, refused, done, fitted, checked, listOf, leftBy, endedAs, ranOf, refusal, answerOf, outputAfter, memoryAfter, Answered, answerLaid}
 use Rattle.bars.proofs.Early.{Valid, early-none}
-use Rattle.covering.proofs.Starts.{raw-cells}
+use Rattle.covering.proofs.Starts.{ran-cells}
 
 -- what is answered is answered whatever it is called
 pub answered-as : {R R′ : Result} {r r′ : Answer} {m n n′ o p p′ : List ℕ} → R ≡ R′ → Answered R′ r′ m n′ o p′ → r ≡ r′ → n ≡ n′ → p ≡ p′ → Answered R r m n o p
@@ -226,7 +226,7 @@ module _ (e : Ending) (inner : Bool) (c : RegionCoverer) (g : Region) (allowance
     finish-asks = (
       omega (arith, same, valid .long),
       omega (arith, D .counted, few),
-      subst (All Cell) (sym kept-words) (raw-cells c g (length m) valid inner allowance (D .state) (D .is)),
+      subst (All Cell) (sym kept-words) (ran-cells c g (length m) valid inner allowance (D .state) (D .is)),
       omega (arith, valid .order, valid .deep),
       valid .«mod» .0,
     )

@@ -14,12 +14,12 @@ use Rattle.run.specs.declared.RegionCoverer.{RegionCoverer}
 use Rattle.fast.specs.Memory.{NumbersFit, startsFor}
 use Rattle.fast.proofs.StartLaws.{StartLevel, starts-laws}
 use Rattle.fast.proofs.Turns.{bound-front}
-use Rattle.run.specs.Run.{State, Grown, going, rawIds, memoryWords}
+use Rattle.run.specs.Run.{State, going, rawIds, memoryWords}
 use Rattle.run.specs.Ground.{Fit, Domain}
 use Rattle.order.proofs.OrderLaws.{all-weak}
-use Rattle.run.proofs.Lists.{all-with, all-map}
+use Rattle.run.proofs.Lists.{all-with}
 use Rattle.run.proofs.Looks.{canon}
-use Rattle.run.proofs.Demand3.{raw-kept}
+use Rattle.run.proofs.Demand3.{raw-cells}
 use Rattle.candidate.specs.Candidate.{Asks}
 use Rattle.coverer.specs.Coverer.{outcomeOf, engineAnswer, engineMemory}
 use Rattle.coverer.specs.declared.Ran.{Ran}
@@ -41,11 +41,9 @@ module _ (c : RegionCoverer) (g : Region) (memory : ℕ) (v : Valid c g memory) 
   pub run-domain : Domain (askedOf c inner)
   run-domain = record { order = v .order; deep = v .deep }
 
-  pub raw-cells : (allowance : ℕ) (s : State) → ranOf inner c g allowance ≡ going s → All Cell (rawIds s)
-  unfolding ranOf outcomeOf rawIds
-  raw-cells allowance s e =
-      all-map (λ (k : Grown). k .id) Cell (s .raw)
-      (all-weak _ _ (s .raw) (λ x k. (_, _, k .fit .cell)) (raw-kept _ run-domain _ (startsFor c (boundOf g)) (starts-fit c g (v .«mod» .0) (v .region) inner) allowance s e))
+  pub ran-cells : (allowance : ℕ) (s : State) → ranOf inner c g allowance ≡ going s → All Cell (rawIds s)
+  unfolding ranOf outcomeOf
+  ran-cells allowance s e = raw-cells _ run-domain _ (startsFor c (boundOf g)) (starts-fit c g (v .«mod» .0) (v .region) inner) allowance s e
 
   -- the start cells in their array
   module _ (k : ℕ) (ids t : List ℕ) (K : k ≡ length (startsFor c (boundOf g))) (I : ids ≡ startsFor c (boundOf g) ++ t) where

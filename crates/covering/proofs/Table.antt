@@ -76,10 +76,10 @@ module _ (room : ℕ) (l : List ℕ) (steps aside : ℕ) where
 -- ---- each number is given exactly when, for every kind of answer
 
 -- the run of a request is refused with the number n; the quick covering has no run
-unfoldable pub Stopped : Kind → RegionCoverer → Region → ℕ → ℕ → Type 0
-Stopped (Kind.Outer e) c g allowance n = ranOf false c g allowance ≡ Run.refused n
-Stopped (Kind.Inner e) c g allowance n = ranOf true c g allowance ≡ Run.refused n
-Stopped Kind.Fast c g allowance n = ⊥
+unfoldable pub RunRefused : Kind → RegionCoverer → Region → ℕ → ℕ → Type 0
+RunRefused (Kind.Outer e) c g allowance n = ranOf false c g allowance ≡ Run.refused n
+RunRefused (Kind.Inner e) c g allowance n = ranOf true c g allowance ≡ Run.refused n
+RunRefused Kind.Fast c g allowance n = ⊥
 
 -- a run's finished list, with its steps and its set-aside total
 pub record RunFinished (e : Ending) (inner : Bool) (c : RegionCoverer) (g : Region) (allowance : ℕ) (l : List ℕ) (steps aside : ℕ) : Type 0 where
@@ -96,26 +96,26 @@ Finished (Kind.Inner e) c g allowance l steps aside = RunFinished e true c g all
 Finished Kind.Fast c g allowance l steps aside = (l ≡ fastCoveringFor c (boundOf g)) × (steps ≡ 0) × (aside ≡ 0)
 
 module _ (c : RegionCoverer) (g : Region) (allowance room : ℕ) where
-  data Comes (k : Kind) : Result → Type 0 where
-    stopped : {n : ℕ} → Stopped k c g allowance n → Comes k (refused n)
-    finished : (l : List ℕ) (steps aside : ℕ) → Finished k c g allowance l steps aside → Comes k (fitted room l steps aside)
+  data Way (k : Kind) : Result → Type 0 where
+    stopped : {n : ℕ} → RunRefused k c g allowance n → Way k (refused n)
+    finished : (l : List ℕ) (steps aside : ℕ) → Finished k c g allowance l steps aside → Way k (fitted room l steps aside)
 
   -- a run comes to a refusal or to a finished list
-  module _ (e : Ending) (inner : Bool) (k : Kind) (late : (n : ℕ) → ranOf inner c g allowance ≡ Run.refused n → Stopped k c g allowance n)
+  module _ (e : Ending) (inner : Bool) (k : Kind) (late : (n : ℕ) → ranOf inner c g allowance ≡ Run.refused n → RunRefused k c g allowance n)
       (end : (l : List ℕ) (steps aside : ℕ) → RunFinished e inner c g allowance l steps aside → Finished k c g allowance l steps aside) where
-    run-comes : (o : Outcome) → ranOf inner c g allowance ≡ o → Comes k (endedAs e c room o)
+    run-comes : (o : Outcome) → ranOf inner c g allowance ≡ o → Way k (endedAs e c room o)
     unfolding endedAs
     run-comes (Run.refused n) f = stopped (late n f)
     run-comes (Run.going s) f = finished _ _ _ (end _ _ _ (record { state = s; ran = f; list = refl; taken = refl; total = refl }))
 
-  comes-is : (k : Kind) → Comes k (comesTo k c g allowance room)
-  unfolding comesTo Stopped Finished
+  comes-is : (k : Kind) → Way k (comesTo k c g allowance room)
+  unfolding comesTo RunRefused Finished
   comes-is (Kind.Outer e) = run-comes e false (Kind.Outer e) (λ n f. f) (λ l steps aside F. F) _ refl
   comes-is (Kind.Inner e) = run-comes e true (Kind.Inner e) (λ n f. f) (λ l steps aside F. F) _ refl
   comes-is Kind.Fast = finished _ 0 0 (refl, refl, refl)
 
-  stopped-comes : (k : Kind) (n : ℕ) → Stopped k c g allowance n → comesTo k c g allowance room ≡ refused n
-  unfolding comesTo Stopped endedAs
+  stopped-comes : (k : Kind) (n : ℕ) → RunRefused k c g allowance n → comesTo k c g allowance room ≡ refused n
+  unfolding comesTo RunRefused endedAs
   stopped-comes (Kind.Outer e) n f = ap (endedAs e c room) f
   stopped-comes (Kind.Inner e) n f = ap (endedAs e c room) f
   stopped-comes Kind.Fast n f = absurd f
@@ -134,8 +134,8 @@ module _ (c : RegionCoverer) (g : Region) (allowance room : ℕ) where
   unfolding ranOf outcomeOf
   run-late inner n f = run-refuses _ _ _ allowance n f
 
-  stopped-late : (k : Kind) (n : ℕ) → Stopped k c g allowance n → (7 ≤ n) × (n ≤ 9)
-  unfolding Stopped
+  stopped-late : (k : Kind) (n : ℕ) → RunRefused k c g allowance n → (7 ≤ n) × (n ≤ 9)
+  unfolding RunRefused
   stopped-late (Kind.Outer e) n f = run-late false n f
   stopped-late (Kind.Inner e) n f = run-late true n f
   stopped-late Kind.Fast n f = absurd f
@@ -146,14 +146,14 @@ module _ (k : Kind) (c : RegionCoverer) (g : Region) (allowance memory room : �
 
   data Given : ℕ → Type 0 where
     first : {n : ℕ} → Early c g memory (Bar.Barred n) → Given n
-    late : {n : ℕ} → Early c g memory Bar.Open → Stopped k c g allowance n → Given n
+    late : {n : ℕ} → Early c g memory Bar.Open → RunRefused k c g allowance n → Given n
     ended : {n : ℕ} {l : List ℕ} {steps aside : ℕ} → Early c g memory Bar.Open → Finished k c g allowance l steps aside → Fitted room l steps aside n → Given n
 
   given-is : Given number
   unfolding resultOf answerOf
   given-is = from (first-is c g memory (comesTo k c g allowance room))
     where
-      then : Early c g memory Bar.Open → {R : Result} → Comes c g allowance room k R → Given (numberOf R)
+      then : Early c g memory Bar.Open → {R : Result} → Way c g allowance room k R → Given (numberOf R)
       then E (stopped S) = late E S
       then E (finished l steps aside F) = ended E F (fitted-is room l steps aside)
 
@@ -179,34 +179,34 @@ module _ (k : Kind) (c : RegionCoverer) (g : Region) (allowance memory room : �
       of n h p (ended E F (fits q)) = absurd (omega arith)
 
   -- 7 to 9: none of these, and the defined run is refused with the number
-  pub when-late : (n : ℕ) → 7 ≤ n → n ≤ 9 → (number ≡ n) ↔ (Early c g memory Bar.Open × Stopped k c g allowance n)
+  pub when-late : (n : ℕ) → 7 ≤ n → n ≤ 9 → (number ≡ n) ↔ (Early c g memory Bar.Open × RunRefused k c g allowance n)
   when-late n h p = (λ x. of n h p (subst Given x given-is), λ w. given-number n (late (w .0) (w .1)))
     where
-      of : (n : ℕ) → 7 ≤ n → n ≤ 9 → Given n → Early c g memory Bar.Open × Stopped k c g allowance n
+      of : (n : ℕ) → 7 ≤ n → n ≤ 9 → Given n → Early c g memory Bar.Open × RunRefused k c g allowance n
       of n h p (first E) = absurd (omega (arith, early-low c g memory E .1))
       of n h p (late E S) = (E, S)
       of n h p (ended E F (long q)) = absurd (omega arith)
       of n h p (ended E F (fits q)) = absurd (omega arith)
 
   -- a finished list, its steps and its set-aside total, of which Q is true
-  abbrev pub Ended : (List ℕ → Type 0) → Type 0
-  Ended Q = Early c g memory Bar.Open × ((l : List ℕ) × (steps : ℕ) × (aside : ℕ) × Finished k c g allowance l steps aside × Q l)
+  abbrev pub FinishedWith : (List ℕ → Type 0) → Type 0
+  FinishedWith Q = Early c g memory Bar.Open × ((l : List ℕ) × (steps : ℕ) × (aside : ℕ) × Finished k c g allowance l steps aside × Q l)
 
   -- 10: the list is finished, and longer than the output
-  pub when-long : (number ≡ 10) ↔ Ended (λ l. room < length l)
+  pub when-long : (number ≡ 10) ↔ FinishedWith (λ l. room < length l)
   when-long = (λ x. of 10 refl (subst Given x given-is), λ w. given-number 10 (ended (w .0) (w .1 .3) (long (w .1 .4))))
     where
-      of : (n : ℕ) → n ≡ 10 → Given n → Ended (λ l. room < length l)
+      of : (n : ℕ) → n ≡ 10 → Given n → FinishedWith (λ l. room < length l)
       of n z (first E) = absurd (omega (arith, early-low c g memory E .1))
       of n z (late E S) = absurd (omega (arith, stopped-late c g allowance room k n S .1))
       of n z (ended E F (long q)) = (E, (_, _, _, F, q))
       of n z (ended E F (fits q)) = absurd (omega arith)
 
   -- a success: none of the ten
-  pub when-done : (number ≡ 0) ↔ Ended (λ l. length l ≤ room)
+  pub when-done : (number ≡ 0) ↔ FinishedWith (λ l. length l ≤ room)
   when-done = (λ x. of 0 refl (subst Given x given-is), λ w. given-number 0 (ended (w .0) (w .1 .3) (fits (w .1 .4))))
     where
-      of : (n : ℕ) → n ≡ 0 → Given n → Ended (λ l. length l ≤ room)
+      of : (n : ℕ) → n ≡ 0 → Given n → FinishedWith (λ l. length l ≤ room)
       of n z (first E) = absurd (omega (arith, early-low c g memory E .0))
       of n z (late E S) = absurd (omega (arith, stopped-late c g allowance room k n S .0))
       of n z (ended E F (long q)) = absurd (omega arith)
@@ -224,7 +224,7 @@ module _ (k : Kind) (c : RegionCoverer) (g : Region) (allowance memory room : �
 
 -- "`fast_covering` gives only 1 to 6 and 10"
 pub fast-numbers : (c : RegionCoverer) (g : Region) (allowance memory room n : ℕ) → 7 ≤ n → n ≤ 9 → numberOf (resultOf Kind.Fast c g allowance memory room) ≡ n → ⊥
-unfolding Stopped
+unfolding RunRefused
 fast-numbers c g allowance memory room n h p x = when-late Kind.Fast c g allowance memory room n h p .0 x .1
 
 -- ---- what any result is: a refusal's number is not 0, and a list is no longer than the output has places
@@ -239,7 +239,7 @@ unfolding fitted Sound
 fitted-sound room l steps aside = if-ok (Sound room) (leb (length l) room) _ _ (λ t. leb-true _ _ t) (λ t. omega arith)
 
 module _ (k : Kind) (c : RegionCoverer) (g : Region) (allowance memory room : ℕ) where
-  comes-sound : {R : Result} → Comes c g allowance room k R → Sound room R
+  comes-sound : {R : Result} → Way c g allowance room k R → Sound room R
   unfolding Sound
   comes-sound (stopped {n} S) = omega (arith, stopped-late c g allowance room k n S .0)
   comes-sound (finished l steps aside F) = fitted-sound room l steps aside
@@ -266,7 +266,7 @@ module _ (k : Kind) (c : RegionCoverer) (g : Region) (allowance memory room : �
   unfolding fitted memoryAfter
   fitted-cleared l steps aside = if-ok (λ (W : Result). memoryAfter W m ≡ cleared 0 memoryWords m) (leb (length l) room) _ _ (λ t. refl) (λ t. refl)
 
-  comes-cleared : {R : Result} → Comes c g allowance room k R → memoryAfter R m ≡ cleared 0 memoryWords m
+  comes-cleared : {R : Result} → Way c g allowance room k R → memoryAfter R m ≡ cleared 0 memoryWords m
   unfolding memoryAfter
   comes-cleared (stopped S) = refl
   comes-cleared (finished l steps aside F) = fitted-cleared l steps aside
@@ -290,6 +290,7 @@ determined R r r′ m m₁ m₂ o o₁ o₂ a b = (a .answer ∙ sym (b .answer)
 
 pub record Done (k : Kind) (c : RegionCoverer) (g : Region) (allowance memory : ℕ) (r : Answer) (out : List ℕ) : Type 0 where
   pub valid : Valid c g memory
+  pub counted : r .count ≡ length (take (r .count) out)
   pub finished : Finished k c g allowance (take (r .count) out) (r .steps) (r .aside)
 
 fitted-done : (room : ℕ) (l : List ℕ) (steps aside : ℕ) (out : List ℕ) → length l ≤ room
@@ -314,5 +315,6 @@ answered-done k c g allowance r mem mem′ out out′ A z =
     let t : l ≡ take (r .count) out′ = sym (ap (λ (a : Answer). take (a .count) out′) d ∙ ap (take (length l)) (A .output ∙ ap (λ (W : Result). outputAfter W out) e) ∙ f .1) in
     record {
       valid = early-none c g (length mem) (early-given c g (length mem) Bar.Open (w .0));
+      counted = ap (λ (a : Answer). a .count) d ∙ ap length t;
       finished = finished-as k c g allowance l _ (w .1 .1) _ (w .1 .2) _ t (sym (ap (λ (a : Answer). a .steps) d)) (sym (ap (λ (a : Answer). a .aside) d)) (w .1 .3);
     }

@@ -2,7 +2,6 @@
 // caller: levels, region, memory and allowance are checked here. A refusal is one of paper 01's numbers; it leaves the output unchanged.
 ghost use Prim.Native.Nat.{_≤_, _<_};
 ghost use mathlib.Core.Path.{_≡_};
-ghost use mathlib.Core.Bool.{true, false};
 ghost use lib.ListN.{length, take};
 ghost use Rattle.cellid.specs.CellId.{Cell};
 ghost use Rattle.order.specs.Order.{All};
@@ -11,7 +10,7 @@ ghost use Rattle.bars.specs.declared.Bar.{Bar};
 ghost use Rattle.bars.specs.Bars.{barOf};
 ghost use Rattle.covering.specs.declared.Kind.{Kind};
 ghost use Rattle.covering.specs.declared.Ending.{Ending};
-ghost use Rattle.covering.specs.Covering.{refusal, fitted, listOf, ranOf, endedAs, leftBy, answerLaid, checked, resultOf, Answered};
+ghost use Rattle.covering.specs.Covering.{refusal, fitted, listOf, ranOf, endedAs, leftBy, answerLaid, comesTo, resultOf, Answered};
 ghost use Rattle.fast.specs.Memory.{fastCoveringFor};
 ghost use Rattle.region.specs.Region.{boundOf};
 ghost use Rattle.run.specs.Run.{rawMost, queueWords, memoryWords};
@@ -157,25 +156,6 @@ fn run_and_finish(
     }
 }
 
-// Answers an outer or inner request with the list that it asks for.
-fn respond_run(
-    e: Ending,
-    inner: bool,
-    c: RegionCoverer,
-    g: Region,
-    allowance: u32,
-    mem: &mut [u64],
-    out: &mut [u64],
-) -> Answer
-    ensures { λ r. ⌜ Answered (checked (barOf c g (length (now (mem .entry)))) (endedAs e c (length (now (out .entry))) (ranOf inner c g allowance))) r (now (mem .entry)) (now (mem .exit)) (now (out .entry)) (now (out .exit)) ⌝ }
-{
-    let first = bars::first_refusal(c, g, mem.len());
-    match first {
-        Bar::Open => run_and_finish(e, inner, c, g, allowance, mem, out),
-        Bar::Barred(number) => refuse(number),
-    }
-}
-
 // The quick covering of a request that is not barred.
 fn lay_fast(c: RegionCoverer, g: Region, mem: &mut [u64], out: &mut [u64]) -> Answer
     requires { ⌜ barOf c g (length (now mem)) ≡ Bar.Open ⌝ }
@@ -186,14 +166,22 @@ fn lay_fast(c: RegionCoverer, g: Region, mem: &mut [u64], out: &mut [u64]) -> An
     laid_answer(laid, 0, 0)
 }
 
-// Answers a request for the quick covering.
-fn respond_fast(c: RegionCoverer, g: Region, mem: &mut [u64], out: &mut [u64]) -> Answer
-    ensures { λ r. ⌜ Answered (checked (barOf c g (length (now (mem .entry)))) (fitted (length (now (out .entry))) (fastCoveringFor c (boundOf g)) 0 0)) r (now (mem .entry)) (now (mem .exit)) (now (out .entry)) (now (out .exit)) ⌝ }
+// What a request that is not barred comes to, by its kind.
+fn come_to(
+    kind: Kind,
+    c: RegionCoverer,
+    g: Region,
+    allowance: u32,
+    mem: &mut [u64],
+    out: &mut [u64],
+) -> Answer
+    requires { ⌜ barOf c g (length (now mem)) ≡ Bar.Open ⌝ }
+    ensures { λ r. ⌜ Answered (comesTo kind c g allowance (length (now (out .entry)))) r (now (mem .entry)) (now (mem .exit)) (now (out .entry)) (now (out .exit)) ⌝ }
 {
-    let first = bars::first_refusal(c, g, mem.len());
-    match first {
-        Bar::Open => lay_fast(c, g, mem, out),
-        Bar::Barred(number) => refuse(number),
+    match kind {
+        Kind::Outer(e) => run_and_finish(e, false, c, g, allowance, mem, out),
+        Kind::Inner(e) => run_and_finish(e, true, c, g, allowance, mem, out),
+        Kind::Fast => lay_fast(c, g, mem, out),
     }
 }
 
@@ -208,10 +196,10 @@ pub fn respond(
 ) -> Answer
     ensures { λ r. ⌜ Answered (resultOf kind c g allowance (length (now (mem .entry))) (length (now (out .entry)))) r (now (mem .entry)) (now (mem .exit)) (now (out .entry)) (now (out .exit)) ⌝ }
 {
-    match kind {
-        Kind::Outer(e) => respond_run(e, false, c, g, allowance, mem, out),
-        Kind::Inner(e) => respond_run(e, true, c, g, allowance, mem, out),
-        Kind::Fast => respond_fast(c, g, mem, out),
+    let first = bars::first_refusal(c, g, mem.len());
+    match first {
+        Bar::Open => come_to(kind, c, g, allowance, mem, out),
+        Bar::Barred(number) => refuse(number),
     }
 }
 

@@ -11,10 +11,10 @@ use Rattle.cellid.specs.CellId.{Cell, holds}
 use Rattle.cellid.proofs.Laws.{cell-pos}
 use Rattle.order.specs.Order.{All}
 use Rattle.cellunion.specs.CellUnion.{lo, Apart, clearOf, rev}
-use Rattle.cellunion.specs.Stack.{Down, down, Gives}
+use Rattle.cellunion.specs.Stack.{Down, topFirst, Gives}
 use Rattle.cellunion.specs.Memory.{zeros, laid}
 use Rattle.cellunion.proofs.Memory.{next-read, no-more, drop-more, length-zeros, zeros-add, zeros-replicate}
-use Rattle.cellunion.proofs.Runs.{HeadFree, down-pop, down-push, rev-down}
+use Rattle.cellunion.proofs.Runs.{HeadFree, top-pop, top-push, rev-top}
 use Rattle.fast.specs.Fast.{mergedCovering, keepStart, keepStarts, adjustedCells, startsOf}
 use Rattle.fast.specs.Memory.{NextStart, inPlace}
 use Rattle.fast.proofs.StartLaws.{clear-without, not-around, keep-in, keep-out, KeptStart, keep-start-laws, Begun, begun-none, begun-on, raised, next-start, adjusted-cells, rough-laws, starts-rough, starts-adjusted}
@@ -23,32 +23,32 @@ use Rattle.fast.proofs.Turns.{in-place-again, take-in-place, length-in-
 
 -- ---- one more cell
 
-pub head-pos : (m : List ℕ) (k c : ℕ) → NextStart (down k m) c → 0 < k → 0 < getD m (k - 1) 0
+pub head-pos : (m : List ℕ) (k c : ℕ) → NextStart (topFirst k m) c → 0 < k → 0 < getD m (k - 1) 0
 unfolding All
 head-pos m k c N h =
-    let C = subst (λ (s : List ℕ). All Cell s) (down-pop k m h) (N .cells) .0 in
+    let C = subst (λ (s : List ℕ). All Cell s) (top-pop k m h) (N .cells) .0 in
     cell-pos _ _ _ (C .2)
 
-pub start-skip : (m : List ℕ) (k c : ℕ) (b : Bool) → 0 < k → b ≡ holds (getD m (k - 1) 0) c → b ≡ true → Gives (keepStart (down k m) c) k m m k
+pub start-skip : (m : List ℕ) (k c : ℕ) (b : Bool) → 0 < k → b ≡ holds (getD m (k - 1) 0) c → b ≡ true → Gives (keepStart (topFirst k m) c) k m m k
 start-skip m k c b h e t = record {
-  is = down-pop k m h ∙ sym (ap (λ (s : List ℕ). keepStart s c) (down-pop k m h) ∙ keep-in (getD m (k - 1) 0) (down (k - 1) m) c (sym e ∙ t));
+  is = top-pop k m h ∙ sym (ap (λ (s : List ℕ). keepStart s c) (top-pop k m h) ∙ keep-in (getD m (k - 1) 0) (topFirst (k - 1) m) c (sym e ∙ t));
   within = omega arith;
   rest = refl;
 }
 
 -- none is skipped: what is kept is c and what it does not hold
-start-go : (m : List ℕ) (k c : ℕ) → NextStart (down k m) c → HeadFree m k c → keepStart (down k m) c ≡ c ∷ clearOf c (down k m)
-unfolding keepStart clearOf down
+start-go : (m : List ℕ) (k c : ℕ) → NextStart (topFirst k m) c → HeadFree m k c → keepStart (topFirst k m) c ≡ c ∷ clearOf c (topFirst k m)
+unfolding keepStart clearOf topFirst
 start-go m k c N (inl h) = let e : k ≡ 0 = omega arith in rw e
 start-go m k c N (inr h) =
-    let e = down-pop k m (h .0) in
-    let N′ : NextStart (getD m (k - 1) 0 ∷ down (k - 1) m) c = subst (λ (s : List ℕ). NextStart s c) e N in
-    let f = clear-without (getD m (k - 1) 0 ∷ down (k - 1) m) c N′ (not-around (getD m (k - 1) 0) (down (k - 1) m) c N′ (h .1)) .0 in
-    ap (λ (s : List ℕ). keepStart s c) e ∙ keep-out (getD m (k - 1) 0) (down (k - 1) m) c (h .1) ∙ ap (λ (s : List ℕ). c ∷ s) (sym f ∙ ap (clearOf c) (sym e))
+    let e = top-pop k m (h .0) in
+    let N′ : NextStart (getD m (k - 1) 0 ∷ topFirst (k - 1) m) c = subst (λ (s : List ℕ). NextStart s c) e N in
+    let f = clear-without (getD m (k - 1) 0 ∷ topFirst (k - 1) m) c N′ (not-around (getD m (k - 1) 0) (topFirst (k - 1) m) c N′ (h .1)) .0 in
+    ap (λ (s : List ℕ). keepStart s c) e ∙ keep-out (getD m (k - 1) 0) (topFirst (k - 1) m) c (h .1) ∙ ap (λ (s : List ℕ). c ∷ s) (sym f ∙ ap (clearOf c) (sym e))
 
-pub start-done : (m : List ℕ) (k c j : ℕ) → k < length m → NextStart (down k m) c → HeadFree m k c → j ≤ k → down j m ≡ clearOf c (down k m) → Gives (keepStart (down k m) c) k m (set m j c) (j + 1)
+pub start-done : (m : List ℕ) (k c j : ℕ) → k < length m → NextStart (topFirst k m) c → HeadFree m k c → j ≤ k → topFirst j m ≡ clearOf c (topFirst k m) → Gives (keepStart (topFirst k m) c) k m (set m j c) (j + 1)
 start-done m k c j h N f l e = record {
-  is = down-push j c m (omega arith) ∙ ap (λ (s : List ℕ). c ∷ s) e ∙ sym (start-go m k c N f);
+  is = top-push j c m (omega arith) ∙ ap (λ (s : List ℕ). c ∷ s) e ∙ sym (start-go m k c N f);
   within = omega arith;
   rest = drop-set-lt (k + 1) m j c (omega arith);
 }
@@ -62,28 +62,28 @@ module _ (low step : ℕ) where
     pub room : n ≤ length m₀
     pub len : length m ≡ length m₀
     pub rest : drop i m ≡ drop i m₀
-    pub kept : All Cell (down k m)
-    pub order : Down (down k m)
-    pub begun : Begun (down k m) (drop i (take n m₀))
+    pub kept : All Cell (topFirst k m)
+    pub order : Down (topFirst k m)
+    pub begun : Begun (topFirst k m) (drop i (take n m₀))
     pub cells : All Cell (drop i (take n m₀))
     pub apart : Apart (drop i (take n m₀))
-    pub same : keepStarts low step (down k m) (drop i (take n m₀)) ≡ keepStarts low step [] (take n m₀)
+    pub same : keepStarts low step (topFirst k m) (drop i (take n m₀)) ≡ keepStarts low step [] (take n m₀)
 
   pub adjusting-start : (m₀ : List ℕ) (n : ℕ) → n ≤ length m₀ → All Cell (take n m₀) → Apart (take n m₀) → Adjusting m₀ n m₀ 0 0
-  unfolding All Down down
+  unfolding All Down topFirst
   adjusting-start m₀ n h C P = record { few = omega arith; within = omega arith; room = h; len = refl; rest = refl; kept = tt; order = tt; begun = begun-none (take n m₀); cells = C; apart = P; same = refl }
 
-  pub adjusting-next : (m₀ : List ℕ) (n : ℕ) (m : List ℕ) (k i up : ℕ) → Adjusting m₀ n m k i → i < n → up ≡ raised low step (getD m i 0) → (k < length m) × NextStart (down k m) up
+  pub adjusting-next : (m₀ : List ℕ) (n : ℕ) (m : List ℕ) (k i up : ℕ) → Adjusting m₀ n m k i → i < n → up ≡ raised low step (getD m i 0) → (k < length m) × NextStart (topFirst k m) up
   unfolding All
   adjusting-next m₀ n m k i up A h u =
       let e = next-read m₀ m n i (A .room) h (A .rest) in
       let l = drop (i + 1) (take n m₀) in (
         omega (arith, A .few, A .room, A .len),
-        rw u (next-start low step (down k m) (getD m i 0) l (A .kept) (A .order) (subst (Begun (down k m)) e (A .begun)) (subst (λ (s : List ℕ). All Cell s) e (A .cells) .0)),
+        rw u (next-start low step (topFirst k m) (getD m i 0) l (A .kept) (A .order) (subst (Begun (topFirst k m)) e (A .begun)) (subst (λ (s : List ℕ). All Cell s) e (A .cells) .0)),
       )
 
   pub adjusting-turn : (m₀ : List ℕ) (n : ℕ) (m : List ℕ) (k i up : ℕ) (m′ : List ℕ) (r : ℕ) → Adjusting m₀ n m k i → i < n → up ≡ raised low step (getD m i 0) → length m′ ≡ length m
-      → Gives (keepStart (down k m) up) k m m′ r → Adjusting m₀ n m′ r (i + 1)
+      → Gives (keepStart (topFirst k m) up) k m m′ r → Adjusting m₀ n m′ r (i + 1)
   unfolding All Apart keepStarts next-start
   adjusting-turn m₀ n m k i up m′ r A h u q G =
       let e = next-read m₀ m n i (A .room) h (A .rest) in
@@ -91,9 +91,9 @@ module _ (low step : ℕ) where
       let l = drop (i + 1) (take n m₀) in
       let C = subst (λ (s : List ℕ). All Cell s) e (A .cells) in
       let P = subst Apart e (A .apart) in
-      let is : down r m′ ≡ keepStart (down k m) (raised low step x) = G .is ∙ ap (keepStart (down k m)) u in
-      let K : KeptStart (down k m) (raised low step x) (lo x) (keepStart (down k m) (raised low step x)) =
-      keep-start-laws (down k m) (raised low step x) (next-start low step (down k m) x l (A .kept) (A .order) (subst (Begun (down k m)) e (A .begun)) (C .0)) in
+      let is : topFirst r m′ ≡ keepStart (topFirst k m) (raised low step x) = G .is ∙ ap (keepStart (topFirst k m)) u in
+      let K : KeptStart (topFirst k m) (raised low step x) (lo x) (keepStart (topFirst k m) (raised low step x)) =
+      keep-start-laws (topFirst k m) (raised low step x) (next-start low step (topFirst k m) x l (A .kept) (A .order) (subst (Begun (topFirst k m)) e (A .begun)) (C .0)) in
       record {
         few = omega (arith, G .within, A .few);
         within = omega arith;
@@ -102,10 +102,10 @@ module _ (low step : ℕ) where
         rest = drop-more (k + 1) (i + 1) m′ m (omega (arith, A .few)) (G .rest) ∙ drop-more i (i + 1) m m₀ (omega arith) (A .rest);
         kept = subst (λ (s : List ℕ). All Cell s) (sym is) (K .cells);
         order = subst Down (sym is) (K .down);
-        begun = subst (λ (s : List ℕ). Begun s l) (sym is) (begun-on x l (keepStart (down k m) (raised low step x)) (C .0) (C .1) (P .0) (K .begun));
+        begun = subst (λ (s : List ℕ). Begun s l) (sym is) (begun-on x l (keepStart (topFirst k m) (raised low step x)) (C .0) (C .1) (P .0) (K .begun));
         cells = C .1;
         apart = P .1;
-        same = ap (λ (s : List ℕ). keepStarts low step s l) is ∙ sym (ap (keepStarts low step (down k m)) e) ∙ A .same;
+        same = ap (λ (s : List ℕ). keepStarts low step s l) is ∙ sym (ap (keepStarts low step (topFirst k m)) e) ∙ A .same;
       }
 
   pub adjusting-done : (m₀ : List ℕ) (n : ℕ) (m : List ℕ) (k i : ℕ) (out : List ℕ) → Adjusting m₀ n m k i → n ≤ i → out ≡ laid k (zeros (n - k)) m
@@ -113,8 +113,8 @@ module _ (low step : ℕ) where
   unfolding adjustedCells keepStarts inPlace laid
   adjusting-done m₀ n m k i out A h e =
       let z = no-more m₀ n i (A .room) h in
-      let s : down k m ≡ keepStarts low step [] (take n m₀) = sym (ap (keepStarts low step (down k m)) z) ∙ A .same in
-      let f : take k m ≡ rev (keepStarts low step [] (take n m₀)) = rev-down k m (omega (arith, A .few, A .within, A .len, A .room)) ∙ ap rev s in
+      let s : topFirst k m ≡ keepStarts low step [] (take n m₀) = sym (ap (keepStarts low step (topFirst k m)) z) ∙ A .same in
+      let f : take k m ≡ rev (keepStarts low step [] (take n m₀)) = rev-top k m (omega (arith, A .few, A .within, A .len, A .room)) ∙ ap rev s in
       let q : k ≡ length (rev (keepStarts low step [] (take n m₀))) = sym (length-take-le k m (omega (arith, A .few, A .within, A .len, A .room))) ∙ ap length f in
       let w : k + length (zeros (n - k)) ≡ n = omega (arith, length-zeros (n - k), A .few, A .within) in (
         q,

@@ -7,7 +7,7 @@ ghost use lib.ListN.{length, take, drop};
 ghost use Rattle.cellid.specs.CellId.{Cell};
 ghost use Rattle.cellunion.specs.CellUnion.{Apart};
 ghost use Rattle.cellunion.specs.Memory.{zeros, roomFor, laidOver};
-ghost use Rattle.cellunion.specs.Stack.{down, Gives};
+ghost use Rattle.cellunion.specs.Stack.{topFirst, Gives};
 ghost use Rattle.region.specs.Region.{inDomain, boundOf};
 ghost use Rattle.fast.specs.Fast.{adjusted, pairDepth, keepStart};
 ghost use Rattle.fast.specs.Memory.{NumbersFit, liftedFor, mergedFor, mergedCoveringFor, fastCoveringFor, adjustedFor, startsFor, inPlace, Cells, NextStart};
@@ -137,8 +137,8 @@ pub fn fast_covering(c: RegionCoverer, g: region::Region, out: &mut [u64]) -> ce
 
 // One more start cell on the first k, the last kept on top: skipped if that one contains it; those that it contains go.
 fn keep_start(mem: &mut [u64], k: usize, id: u64) -> usize
-    requires { ⌜ (k < length (now mem)) × NextStart (down k (now mem)) id ⌝ }
-    ensures { λ r. ⌜ Gives (keepStart (down k (now (mem .entry))) id) k (now (mem .entry)) (now (mem .exit)) r ⌝ }
+    requires { ⌜ (k < length (now mem)) × NextStart (topFirst k (now mem)) id ⌝ }
+    ensures { λ r. ⌜ Gives (keepStart (topFirst k (now (mem .entry))) id) k (now (mem .entry)) (now (mem .exit)) r ⌝ }
 {
     if 0 < k {
         if cellid::contains(mem[k - 1], id) {

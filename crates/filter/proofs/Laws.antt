@@ -13,7 +13,7 @@ use Rattle.tokens.specs.declared.Answer.{Answer}
 use Rattle.tokens.specs.Tokens.{linesOf, idsOf, Result, malformed, noRoom, done, writeResult, readResult, tokenAnswer, outputAfter, Answered}
 use Rattle.tokens.specs.Texts.{Readable, BadLine}
 use Rattle.tokens.proofs.Laws.{readable, bad-line, lines-short}
-use Rattle.tokens.proofs.Answers.{Told, is-11, is-12, is-0, read-when, write-when, written}
+use Rattle.tokens.proofs.Answers.{Due, is-11, is-12, is-0, read-when, write-when, written}
 use Rattle.filter.specs.declared.Reply.{Reply}
 use Rattle.filter.specs.Filter.{onward, turnedResult, Turned, isDone, malformedText, overText, replyText, Replied}
 
@@ -54,7 +54,7 @@ pub data Outcome (from to : Form) (text : List ℕ) (places : ℕ) : Result → 
   is-over : Readable from text → places < length (idsOf from text) → Outcome from to text places noRoom
   is-turned : Readable from text → length (idsOf from text) ≤ places → Outcome from to text places (done (linesOf to (idsOf from text)))
 
-onward-is : (from to : Form) (text : List ℕ) (places room : ℕ) (R : Result) → 17 * places ≤ room → Told (idsOf from text) (idsOf from text) places R → Outcome from to text places (onward to room R)
+onward-is : (from to : Form) (text : List ℕ) (places room : ℕ) (R : Result) → 17 * places ≤ room → Due (idsOf from text) (idsOf from text) places R → Outcome from to text places (onward to room R)
 unfolding onward
 onward-is from to text places room _ h (is-11 n f) = is-bad n (bad-line from text n .0 f)
 onward-is from to text places room _ h (is-12 a g) = is-over (readable from text .0 a) g

@@ -61,7 +61,3 @@ unfolding faceIj
 walk-square id L h =
     let e : 30 - L + L ≡ 30 = omega arith in
     subst (λ (n : ℕ). (walk id n .i / 2 ^ (30 - L) ≡ walk id L .i) × (walk id n .j / 2 ^ (30 - L) ≡ walk id L .j)) e (walk-on id L (30 - L))
-
--- the leaf in a cell's middle lies in the cell's square
-pub face-ij-square : (id L p : ℕ) → IsCell id L p → (faceIj id .i / 2 ^ (30 - L) ≡ walk id L .i) × (faceIj id .j / 2 ^ (30 - L) ≡ walk id L .j)
-face-ij-square id L p c = walk-square id L (c .level)

@@ -7,7 +7,7 @@ use native.Mathlib.Nat.{mul-comm, div-div-eq-div-mul}
 use native.Mathlib.Omega.{arith}
 use lib.Pow.{pow-add}
 use Rattle.cellid.specs.CellId.{IsCell, bitAt, placeAt, faceOf, hasLeaf}
-use Rattle.cellid.proofs.Parts.{upper, upper-step, upper-place}
+use Rattle.cellid.proofs.Parts.{upper, upper-step, upper-place, face-same}
 use Rattle.cellid.proofs.Leaves.{has-leaf→, has-leaf←}
 use Rattle.hilbert.specs.Curve.{ijAt, posOf, posAt, turnOf, walk, faceIj}
 use Rattle.hilbert.proofs.Laws.{ij-lt, walk-in}
@@ -19,12 +19,6 @@ upper-leaf : (n L : ℕ) → upper (2 * n + 1) L ≡ n / bitAt L
 upper-leaf n L =
     let half : (2 * n + 1) / 2 ≡ n = omega arith in
     rw (pow-add 2 (placeAt L) 1, mul-comm (bitAt L) 2, ← div-div-eq-div-mul (2 * n + 1) 2 (bitAt L), half)
-
--- the same bits down to a level: the same face
-same-face : (a b n : ℕ) → n ≤ 30 → upper a n ≡ upper b n → faceOf a ≡ faceOf b
-same-face a b zero h e = e
-same-face a b (suc n) h e =
-    same-face a b n (omega arith) (upper-step a n (omega arith) ∙ ap (λ (x : ℕ). x / 4) e ∙ sym (upper-step b n (omega arith)))
 
 -- one quarter of a row stands at one position
 one-pos : (r s p q : ℕ) → r ≡ s → r < 4 → s < 4 → p < 4 → q < 4 → ijAt r p / 2 ≡ ijAt s q / 2 → ijAt r p % 2 ≡ ijAt s q % 2 → p ≡ q
@@ -56,7 +50,7 @@ leaves-in-square {id} {L} {p} n c =
     let s = walk-square id L (c .level) in (
       λ t. let u : upper (2 * n + 1) L ≡ upper id L = upper-leaf n L ∙ has-leaf→ n c t ∙ sym (upper-place id L p c) in
           let w = walk-same (2 * n + 1) id L (c .level) u in
-          (same-face (2 * n + 1) id L (c .level) u, r .0 ∙ ap (λ v. v .i) w ∙ sym (s .0), r .1 ∙ ap (λ v. v .j) w ∙ sym (s .1)),
+          (face-same (2 * n + 1) id L (c .level) u, r .0 ∙ ap (λ v. v .i) w ∙ sym (s .0), r .1 ∙ ap (λ v. v .j) w ∙ sym (s .1)),
       λ (f, x, y). let u = same-upper (2 * n + 1) id L (c .level) f (sym (r .0) ∙ x ∙ s .0) (sym (r .1) ∙ y ∙ s .1) in
           has-leaf← n c (sym (upper-leaf n L) ∙ u ∙ upper-place id L p c),
     )

@@ -30,7 +30,7 @@ use Rattle.sets.specs.declared.Op.{Op}
 use Rattle.sets.specs.Sets.{combined, isPickList, setResult}
 use Rattle.lines.specs.declared.ListRead.{ListRead}
 use Rattle.lines.specs.declared.ListsRead.{ListsRead}
-use Rattle.lines.specs.Lines.{wordAfter, isAt, asksList, secondAfter, listsAfter, ReadLists, Question, questionOf, ReadQuestion, opOf, resultFor, resultIn, resultOf, resultText, AnsweredIn, answerText, textAt, memoryWith, outputAt, Told, textOf, memoryOf, outputOf, Replied}
+use Rattle.lines.specs.Lines.{wordAfter, isAt, asksList, secondAfter, listsAfter, ReadLists, Question, questionOf, ReadQuestion, opOf, resultFor, resultIn, resultOf, resultText, AnsweredIn, answerText, textAt, memoryWith, outputAt, ListReplied, textOf, memoryOf, outputOf, Replied}
 
 -- ---- reading
 
@@ -234,8 +234,8 @@ module _ (number : ℕ) (q : Question) (asked : ListRead) (mem mem' out page : L
   place-is : (p : Place) → asked .after ≡ p → q .after ≡ p
   place-is p e = sym (ap (λ (a : ListRead). a .after) (R .read)) ∙ e
 
-  pub told-bad : (f : Fault) → asked .after ≡ Place.Bad f → Wrote 0 (errorText number f) page r page' → Told number q mem mem' out out page r page'
-  told-bad f e w =
+  pub list-bad : (f : Fault) → asked .after ≡ Place.Bad f → Wrote 0 (errorText number f) page r page' → ListReplied number q mem mem' out out page r page'
+  list-bad f e w =
       let p : q .after ≡ Place.Bad f = place-is (Place.Bad f) e in
       record {
         wrote = rw (text-bad number q out (q .after) f p) (wrote-whole (omega (arith, error-length number f)) w);
@@ -243,10 +243,10 @@ module _ (number : ℕ) (q : Question) (asked : ListRead) (mem mem' out page : L
         output = rw (output-bad number q out (q .after) f p);
       }
 
-  pub told-asked : (end : ℕ) (a : Answer) (out' : List ℕ) → asked .after ≡ Place.At end
+  pub list-asked : (end : ℕ) (a : Answer) (out' : List ℕ) → asked .after ≡ Place.At end
       → AnsweredIn (asked .kind) (take (asked .first) (take (asked .both) mem')) (drop (asked .first) (take (asked .both) mem')) (asked .out) a out out' → Wrote 0 (answerText (asked .form) a out') page r page'
-      → Told number q mem mem' out out' page r page'
-  told-asked end a out' e B w =
+      → ListReplied number q mem mem' out out' page r page'
+  list-asked end a out' e B w =
       let p : q .after ≡ Place.At end = place-is (Place.At end) e in
       let A : AnsweredIn (q .kind) (q .first) (q .second) (q .out) a out out' =
       of-question q a out out' _ _ _ _ (ap (λ (a : ListRead). a .kind) (R .read)) (first-there q asked mem mem' R) (second-there q asked mem mem' R) (ap (λ (a : ListRead). a .out) (R .read)) B in
@@ -260,7 +260,7 @@ module _ (number : ℕ) (q : Question) (asked : ListRead) (mem mem' out page : L
 -- ---- a line
 
 module _ (number : ℕ) (line mem mem' out out' page : List ℕ) (r : ℕ) (page' : List ℕ) where
-  pub replied-list : asksList line ≡ true → Told number (questionOf (length mem) line) mem mem' out out' page r page' → Replied number line mem mem' out out' page r page'
+  pub replied-list : asksList line ≡ true → ListReplied number (questionOf (length mem) line) mem mem' out out' page r page' → Replied number line mem mem' out out' page r page'
   unfolding textOf memoryOf outputOf
   replied-list e T = record { wrote = rw (textOf, e) (T .wrote); memory = rw (memoryOf, e) (T .memory); output = rw (outputOf, e) (T .output) }
 

@@ -178,7 +178,7 @@ answerText form (Answer.Done count) out = listText form (take count out)
 answerText form (Answer.Refused n) out = refusedText n
 
 -- a question of some number was answered
-pub record Told (number : ℕ) (q : Question) (mem mem' out out' page : List ℕ) (r : ℕ) (page' : List ℕ) : Type 0 where
+pub record ListReplied (number : ℕ) (q : Question) (mem mem' out out' page : List ℕ) (r : ℕ) (page' : List ℕ) : Type 0 where
   pub wrote : Whole (textAt (q .after) number q out) page r page'
   pub memory : mem' ≡ memoryWith (q .first) (q .second) mem
   pub output : out' ≡ outputAt (q .after) q out

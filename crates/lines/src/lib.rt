@@ -6,7 +6,7 @@ ghost use lib.ListN.{length, take, drop};
 ghost use Rattle.text.specs.Text.{ReadList};
 ghost use Rattle.ranges.specs.Ranges.{wordsOf, Answered};
 ghost use Rattle.replies.specs.Write.{Wrote};
-ghost use Rattle.lines.specs.Lines.{wordAfter, asksList, secondAfter, listsAfter, ReadLists, questionOf, ReadQuestion, opOf, resultFor, AnsweredIn, answerText, Told, Replied};
+ghost use Rattle.lines.specs.Lines.{wordAfter, asksList, secondAfter, listsAfter, ReadLists, questionOf, ReadQuestion, opOf, resultFor, AnsweredIn, answerText, ListReplied, Replied};
 use ranges::Answer;
 use sets::Op;
 use text::Fault;
@@ -153,7 +153,7 @@ fn put_answer(form: Form, a: Answer, out: &[u64], page: &mut [u8]) -> usize
 // The answer to a line that asks about lists.
 fn answer_list(line: &[u8], number: u64, mem: &mut [u64], out: &mut [u64], page: &mut [u8]) -> usize
     requires { ⌜ 17 * length (now out) + 256 ≤ length (now page) ⌝ }
-    ensures { λ r. ⌜ Told number (questionOf (length (now (mem .entry))) (now (line .entry))) (now (mem .entry)) (now (mem .exit)) (now (out .entry)) (now (out .exit)) (now (page .entry)) r (now (page .exit)) ⌝ }
+    ensures { λ r. ⌜ ListReplied number (questionOf (length (now (mem .entry))) (now (line .entry))) (now (mem .entry)) (now (mem .exit)) (now (out .entry)) (now (out .exit)) (now (page .entry)) r (now (page .exit)) ⌝ }
 {
     let q = read_question(line, mem);
     let after = q.after;

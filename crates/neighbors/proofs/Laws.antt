@@ -111,15 +111,15 @@ bit-clear i p h =
     ne-eqb _ _ (λ z. let g : 1 * 2 ^ p ≡ 0 = ap (λ (x : ℕ). x * 2 ^ p) (sym z) ∙ e in absurd (omega (arith, g, pow-pos p)))
 
 -- where the cell beside lies: at most one past the face, and on the face where it says so
-pub record Within (t : Toward) : Type 0 where
+pub record TowardIn (t : Toward) : Type 0 where
   pub past : t .at ≤ 2 ^ 30 + 1
   pub on : t .same ≡ true → (0 < t .at) × (t .at ≤ 2 ^ 30)
 
-within : (b : Bool) (i s : ℕ) → i < 2 ^ 30
-    → Within (cond b (record { same = ltb (i + s) (2 ^ 30); at = min (i + s) (2 ^ 30) + 1 }) (record { same = leb s i; at = (i + 1) - s }))
-within true i s h = record { past = omega arith; on = λ e. let l : i + s < 2 ^ 30 = ltb-true _ _ e in (omega arith, omega (arith, l)) }
-within false i s h = record { past = omega (arith, h); on = λ e. let l : s ≤ i = leb-true _ _ e in (omega (arith, l), omega (arith, h)) }
+toward-on : (b : Bool) (i s : ℕ) → i < 2 ^ 30
+    → TowardIn (cond b (record { same = ltb (i + s) (2 ^ 30); at = min (i + s) (2 ^ 30) + 1 }) (record { same = leb s i; at = (i + 1) - s }))
+toward-on true i s h = record { past = omega arith; on = λ e. let l : i + s < 2 ^ 30 = ltb-true _ _ e in (omega arith, omega (arith, l)) }
+toward-on false i s h = record { past = omega (arith, h); on = λ e. let l : s ≤ i = leb-true _ _ e in (omega (arith, l), omega (arith, h)) }
 
-pub toward-within : (i half : ℕ) → i < 2 ^ 30 → Within (towardOf i half)
+pub toward-in : (i half : ℕ) → i < 2 ^ 30 → TowardIn (towardOf i half)
 unfolding towardOf
-toward-within i half h = within (eqb (i / half % 2) 1) i (2 * half) h
+toward-in i half h = toward-on (eqb (i / half % 2) 1) i (2 * half) h

@@ -1,8 +1,8 @@
 -- The sign of a difference is the order of its two terms: what the format holds lies on one grid, so that no difference but 0 is rounded to 0. Assumes nothing.
 use mathlib.Core.Path.{_≡_, refl, sym, ap, ap₂, _∙_, subst}
-use mathlib.Core.Bool.{Bool, true, false, cond, _&&_}
+use mathlib.Core.Bool.{Bool, true, false, cond, and-eq-true-iff}
 use Prim.Native.Nat.{ℕ, zero, suc, _+_, _-_, _*_, _^_, _≤_, _<_}
-use native.Mathlib.Nat.{add-mul, mul-sub, mul-comm, mul-assoc, mul-right-comm, mul-one, one-mul, mul-pos, zero-mul}
+use native.Mathlib.Nat.{add-mul, mul-comm, mul-assoc, mul-right-comm, mul-one, one-mul, mul-pos, zero-mul}
 use native.Mathlib.Omega.{arith}
 use lib.IntN.{ℤ}
 use lib.Dec.{T, ltb, eqb, ltb→lt}
@@ -12,10 +12,10 @@ use lib.Ieee.Fits.{up-pos, down-pos}
 use lib.Ieee.Order.{round-mono}
 use lib.Ieee.Positive.{positive, above, above-of-le, first-pos}
 use borrow.Author.Tests.{ltb-true, ltb-false, lt-ltb, le-ltb, eqb-true}
+use Rattle.root.proofs.Closest.{grid, fits-parts}
 use Rattle.point.specs.Floats.{_⊖_, zeroF}
-use Rattle.point.proofs.Exact.{parts, grid}
 use Rattle.point.proofs.Numbers.{Number, nought, round-zero}
-use Rattle.point.proofs.Laws.{never}
+use Rattle.point.proofs.Laws.{never, either, sub-mul, zero-of}
 
 -- ---- above zero
 
@@ -43,10 +43,6 @@ unfolding odd lt ofBits
 odd-minus d zero k l = refl
 odd-minus d (suc q) k l = refl
 
-either-minus : (b : Bool) (x y : Float) → lt zeroF x ≡ false → lt zeroF y ≡ false → lt zeroF (cond b x y) ≡ false
-either-minus true x y p q = p
-either-minus false x y p q = q
-
 inf-minus : lt zeroF (inf true) ≡ false
 unfolding lt ofBits
 inf-minus = refl
@@ -54,7 +50,7 @@ inf-minus = refl
 units-minus : (f : Format) (q k : ℕ) → lt zeroF (units f true q k) ≡ false
 unfolding units
 units-minus f q k =
-    either-minus (ltb (q * 2 ^ k) (2 ^ (low f + suc (emax f)))) (odd (suc (prec f)) true q k (low f)) (inf true) (odd-minus (suc (prec f)) q k (low f)) inf-minus
+    either (λ v. lt zeroF v ≡ false) (ltb (q * 2 ^ k) (2 ^ (low f + suc (emax f)))) (odd (suc (prec f)) true q k (low f)) (inf true) (odd-minus (suc (prec f)) q k (low f)) inf-minus
 
 round-minus : (f : Format) (a b : ℕ) → lt zeroF (round f true a b) ≡ false
 unfolding round
@@ -87,9 +83,6 @@ sum-grid l a b c p q = (p .0 + q .0, add-mul a b l ∙ ap₂ _+_ (p .1) (q .1) �
 
 less-grid : (l a b c : ℕ) → OnGrid l a c → OnGrid l b c → OnGrid l (a - b) c
 less-grid l a b c p q = (p .0 - q .0, sub-mul a b l ∙ ap₂ _-_ (p .1) (q .1) ∙ sym (sub-mul (p .0) (q .0) c))
-  where
-    sub-mul : (a b c : ℕ) → (a - b) * c ≡ a * c - b * c
-    sub-mul a b c = mul-comm (a - b) c ∙ mul-sub c a b ∙ ap₂ _-_ (mul-comm c a) (mul-comm c b)
 
 above-grid : (a c : ℕ) → 0 < c → OnGrid (2 ^ 1074) a c → 0 < a → lt zeroF (round binary64 false a c) ≡ true
 above-grid a c h p g = round-above a c h (at-least (2 ^ 1074) a c (p .0) (p .1) g (pow-pos 1074))
@@ -127,7 +120,7 @@ module _ (a b c : ℕ) (h : 0 < c) (p : OnGrid (2 ^ 1074) a c) (q : OnGrid (2 ^ 
 -- the size of a value that fits, over the product of its denominator with another
 first-grid : (s : Bool) (m : ℕ) (e : ℤ) (d : ℕ) → T (fits binary64 (fin s m e)) → OnGrid (2 ^ 1074) (m * up e * d) (down e * d)
 first-grid s m e d h =
-    let g = grid 1074 m e (parts binary64 s m e h .1) in
+    let g = grid 1074 m e (fits-parts binary64 s m e h .1) in
     (m * 2 ^ g .0, mul-right-comm (m * up e) d (2 ^ 1074) ∙ ap (λ (x : ℕ). x * d) (g .1) ∙ mul-assoc (m * 2 ^ g .0) (down e) d)
 
 order-is : (s t : Bool) (m n : ℕ) (e d : ℤ) → below t (n * up d * down e) s (m * up e * down d) ≡ lt (fin t n d) (fin s m e)
@@ -186,24 +179,19 @@ same-size a b c d C D h = go (ltb 0 a) (ltb 0 b) refl refl
 none-above : (m : ℕ) (e : ℤ) → m * up e ≡ 0 → lt zeroF (fin false m e) ≡ false
 none-above m e h = size-above m e ∙ le-ltb 0 (m * up e) (omega (arith, h))
 
-and-both : (a b : Bool) → (a && b) ≡ true → (a ≡ true) × (b ≡ true)
-and-both true true h = (refl, refl)
-and-both true false h = never h
-and-both false b h = never h
-
 -- of two values that are one number both are above zero, or neither
-pub same-above : (x y : Float) → eq x y ≡ true → lt zeroF x ≡ lt zeroF y
+pub equal-above : (x y : Float) → eq x y ≡ true → lt zeroF x ≡ lt zeroF y
 unfolding eq
-same-above nan y h = never h
-same-above (inf s) nan h = never h
-same-above (inf true) (inf true) h = refl
-same-above (inf true) (inf false) h = never h
-same-above (inf false) (inf true) h = never h
-same-above (inf false) (inf false) h = refl
-same-above (inf s) (fin t n d) h = never h
-same-above (fin s m e) nan h = never h
-same-above (fin s m e) (inf t) h = never h
-same-above (fin s m e) (fin t n d) h = go s t h
+equal-above nan y h = never h
+equal-above (inf s) nan h = never h
+equal-above (inf true) (inf true) h = refl
+equal-above (inf true) (inf false) h = never h
+equal-above (inf false) (inf true) h = never h
+equal-above (inf false) (inf false) h = refl
+equal-above (inf s) (fin t n d) h = never h
+equal-above (fin s m e) nan h = never h
+equal-above (fin s m e) (inf t) h = never h
+equal-above (fin s m e) (fin t n d) h = go s t h
   where
     a : ℕ
     a = m * up e * down d
@@ -211,19 +199,15 @@ same-above (fin s m e) (fin t n d) h = go s t h
     b : ℕ
     b = n * up d * down e
 
-    zero-of : (x y : ℕ) → 0 < y → x * y ≡ 0 → x ≡ 0
-    zero-of zero y h e = refl
-    zero-of (suc x) y h e = absurd (omega (arith, mul-pos {m = suc x} {n = y} (omega arith) h, e))
-
     go : (s t : Bool) → eq (fin s m e) (fin t n d) ≡ true → lt zeroF (fin s m e) ≡ lt zeroF (fin t n d)
     go true true h = minus-not m e ∙ sym (minus-not n d)
     go false false h =
         size-above m e
-        ∙ same-size (m * up e) (n * up d) (down e) (down d) (down-pos e) (down-pos d) (eqb-true a b (and-both (eqb a b) true h .0))
+        ∙ same-size (m * up e) (n * up d) (down e) (down d) (down-pos e) (down-pos d) (eqb-true a b (and-eq-true-iff (eqb a b) true .0 h .0))
         ∙ sym (size-above n d)
     go false true h =
-        none-above m e (zero-of (m * up e) (down d) (down-pos d) (eqb-true a 0 (and-both (eqb a b) (eqb a 0) h .1))) ∙ sym (minus-not n d)
+        none-above m e (zero-of (m * up e) (down d) (down-pos d) (eqb-true a 0 (and-eq-true-iff (eqb a b) (eqb a 0) .0 h .1))) ∙ sym (minus-not n d)
     go true false h =
-        let z : a ≡ 0 = eqb-true a 0 (and-both (eqb a b) (eqb a 0) h .1) in
-        let w : a ≡ b = eqb-true a b (and-both (eqb a b) (eqb a 0) h .0) in
+        let z : a ≡ 0 = eqb-true a 0 (and-eq-true-iff (eqb a b) (eqb a 0) .0 h .1) in
+        let w : a ≡ b = eqb-true a b (and-eq-true-iff (eqb a b) (eqb a 0) .0 h .0) in
         minus-not m e ∙ sym (none-above n d (zero-of (n * up d) (down e) (down-pos e) (sym w ∙ z)))

@@ -1,19 +1,20 @@
 -- Exact steps with finite floats: quotients by 1 and -1, products with 1, -1 and 0, and sums of three of which one is a zero. Assumes nothing.
 use mathlib.Core.Path.{_≡_, refl, sym, ap, ap₂, _∙_}
 use mathlib.Core.Bool.{Bool, true, false, Bool·beq, cond, _&&_}
-use Prim.Native.Nat.{ℕ, zero, suc, _+_, _-_, _*_, _^_, _<_, _≤_}
+use Prim.Native.Nat.{ℕ, zero, suc, _+_, _-_, _*_, _<_, _≤_}
 use native.Mathlib.Nat.{add-comm, mul-comm, mul-one, one-mul, zero-mul, mul-pos}
 use native.Mathlib.Omega.{arith}
 use lib.IntN.{ℤ, pos}
 use lib.Dec.{T, ltb}
-use lib.Ieee.{Float, nan, inf, fin, Format, binary64, prec, emax, low, up, down, unlike, size, units, odd, round, sum, add, sub, mul, div, neg, eq}
+use lib.Ieee.{Float, nan, inf, fin, Format, binary64, up, down, unlike, size, units, odd, round, sum, add, sub, mul, div, neg, eq}
 use lib.Ieee.{fits, isNan, ofBits}
 use lib.Ieee.Fits.{up-pos, down-pos, neg-fits, add-fits}
 use lib.Ieee.Scale.{finite, round-same}
 use borrow.Author.Tests.{ltb-true, ltb-false, lt-ltb, le-ltb, eq-eqb}
+use Rattle.root.proofs.Kept.{units-number}
 use Rattle.point.specs.Floats.{_⊕_, _⊖_, _⊗_, _⊘_, zeroF, oneF}
 use Rattle.point.proofs.Exact.{round-own, times-minus}
-use Rattle.point.proofs.Laws.{never}
+use Rattle.point.proofs.Laws.{never, either}
 
 -- a finite value of the format
 abbrev pub Number : Float → Type 0
@@ -22,6 +23,10 @@ Number x = T (finite x) × T (fits binary64 x)
 -- a zero, by its sign
 abbrev pub nought : Bool → Float
 nought s = fin s 0 (pos 0)
+
+pub one-fits : T (fits binary64 oneF)
+unfolding fits ofBits
+one-fits = tt
 
 -- ---- minus, quotients and products
 
@@ -63,7 +68,7 @@ unlike-comm false true = refl
 unlike-comm false false = refl
 
 -- a product's factors can change places
-pub times-comm : (x y : Float) → x ⊗ y ≡ y ⊗ x
+times-comm : (x y : Float) → x ⊗ y ≡ y ⊗ x
 unfolding mul
 times-comm nan nan = refl
 times-comm nan (inf t) = refl
@@ -208,20 +213,6 @@ number-same (fin true m e) h = rw (eq-eqb (m * up e * down e) (m * up e * down e
 number-same (fin false m e) h = rw (eq-eqb (m * up e * down e) (m * up e * down e) refl)
 
 -- neither a rounded fraction nor a sum of two finite values is a NaN
-odd-number : (d : ℕ) (s : Bool) (q k l : ℕ) → isNan (odd d s q k l) ≡ false
-unfolding odd isNan
-odd-number d s zero k l = refl
-odd-number d s (suc q) k l = refl
-
-either-number : (b : Bool) (x y : Float) → isNan x ≡ false → isNan y ≡ false → isNan (cond b x y) ≡ false
-either-number true x y p q = p
-either-number false x y p q = q
-
-units-number : (f : Format) (s : Bool) (q k : ℕ) → isNan (units f s q k) ≡ false
-unfolding units isNan
-units-number f s q k =
-    either-number (ltb (q * 2 ^ k) (2 ^ (low f + suc (emax f)))) (odd (suc (prec f)) s q k (low f)) (inf s) (odd-number (suc (prec f)) s q k (low f)) refl
-
 pub round-number : (f : Format) (s : Bool) (a b : ℕ) → isNan (round f s a b) ≡ false
 unfolding round
 round-number f s a b = units-number f s _ _
@@ -229,9 +220,9 @@ round-number f s a b = units-number f s _ _
 sum-number : (f : Format) (s t : Bool) (a b c : ℕ) → isNan (sum f s a t b c) ≡ false
 unfolding sum
 sum-number f s t a b c =
-    either-number (Bool·beq s t) (round f s (a + b) c) (cond (ltb a b) (round f t (b - a) c) (round f (s && ltb b a) (a - b) c))
+    either (λ v. isNan v ≡ false) (Bool·beq s t) (round f s (a + b) c) (cond (ltb a b) (round f t (b - a) c) (round f (s && ltb b a) (a - b) c))
     (round-number f s (a + b) c)
-    (either-number (ltb a b) (round f t (b - a) c) (round f (s && ltb b a) (a - b) c) (round-number f t (b - a) c) (round-number f (s && ltb b a) (a - b) c))
+    (either (λ v. isNan v ≡ false) (ltb a b) (round f t (b - a) c) (round f (s && ltb b a) (a - b) c) (round-number f t (b - a) c) (round-number f (s && ltb b a) (a - b) c))
 
 add-number : (x y : Float) → T (finite x) → T (finite y) → isNan (x ⊕ y) ≡ false
 unfolding add
@@ -245,7 +236,7 @@ inf-plus : (s t : Bool) → inf s ⊕ nought t ≡ inf s
 unfolding add
 inf-plus s t = refl
 
--- and it changes a zero to a zero
+-- a zero more leaves the number that it was
 zero-more : (x : Float) (t : Bool) → T (fits binary64 x) → isNan x ≡ false → eq (x ⊕ nought t) x ≡ true
 unfolding isNan
 zero-more nan t h n = never (sym n)

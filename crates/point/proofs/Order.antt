@@ -1,23 +1,24 @@
 -- The order of floats: it is transitive, and what is not below zero makes a difference no larger and a sum no smaller. Assumes nothing.
 use mathlib.Core.Path.{_≡_, refl, sym, ap, _∙_, subst}
-use mathlib.Core.Bool.{Bool, true, false, cond, _&&_, _||_, true≢false}
+use mathlib.Core.Bool.{Bool, true, false, _&&_, _||_, true≢false}
 use mathlib.Core.Logic.{inl, inr}
-use Prim.Native.Nat.{ℕ, zero, suc, _+_, _-_, _*_, _≤_, _<_}
+use Prim.Native.Nat.{ℕ, _+_, _-_, _*_, _≤_, _<_}
 use native.Mathlib.Nat.{zero-mul, mul-pos, mul-le-mul-right, eq-or-lt-of-le}
 use native.Mathlib.Omega.{arith}
 use lib.IntN.{ℤ}
 use lib.Dec.{T, ltb, eqb, lt→ltb, eqb→eq, ltb→lt}
+use denote.Floats.{passes}
 use lib.Ieee.{Float, nan, inf, fin, binary64, up, down, below, level, round, sum, add, sub, neg, lt, le, eq, fits, isNan}
 use lib.Ieee.Fits.{and-i, and-l, and-r, eq→eqb, down-pos, neg-fits}
 use lib.Ieee.Order.{round-mono}
 use lib.Ieee.Positive.{through}
 use lib.Ieee.Scale.{finite}
 use Rattle.point.specs.Floats.{_⊕_, _⊖_}
-use Rattle.point.proofs.Laws.{never}
+use Rattle.point.proofs.Laws.{never, either, zero-of}
 use Rattle.point.proofs.Signs.{Plus, round-plus}
 use Rattle.point.proofs.Exact.{round-own}
 use Rattle.point.proofs.Numbers.{Number, round-number}
-use Rattle.point.proofs.Sizes.{at-most, round-turned}
+use Rattle.point.proofs.Sizes.{le-cases, round-turned}
 
 -- ---- the order of two finite values, by their signs and sizes
 
@@ -32,7 +33,7 @@ abbrev leAt : Bool → ℕ → Bool → ℕ → Bool
 leAt s a t b = below s a t b || level s a t b
 
 pub signed : (s : Bool) (a : ℕ) (t : Bool) (b : ℕ) → T (leAt s a t b) → Signed s a t b
-signed false a false b h = at-most a b (ltb a b) (eqb a b) (ltb→lt a b) (eqb→eq a b) h
+signed false a false b h = le-cases a b (ltb a b) (eqb a b) (ltb→lt a b) (eqb→eq a b) h
 signed false a true b h = both (eqb→eq a b) (eqb→eq a 0) h
   where
     both : (T (eqb a b) → a ≡ b) → (T (eqb a 0) → a ≡ 0) → T (eqb a b && eqb a 0) → (a ≡ 0) × (b ≡ 0)
@@ -69,10 +70,6 @@ unsigned true a true b h = elim (eq-or-lt-of-le h) [
   | inl e ↦ or-right (ltb b a) (eqb a b && true) (and-i (eqb a b) true (eq→eqb (sym e)) tt)
   | inr l ↦ or-left (ltb b a) (eqb a b && true) (lt→ltb b a l)
 ]
-
-pub zero-of : (x y : ℕ) → 0 < y → x * y ≡ 0 → x ≡ 0
-zero-of zero y h e = refl
-zero-of (suc x) y h e = absurd (omega (arith, mul-pos {m = suc x} {n = y} (omega arith) h, e))
 
 le-zero : (x y z : ℕ) → 0 < y → z ≡ 0 → x * y ≤ z → x ≡ 0
 le-zero x y z h e l = zero-of x y h (omega (arith, l, e))
@@ -131,6 +128,11 @@ le-trans (fin s m e) (fin t n d) (fin r i c) h k =
     (trans-at s t r (m * up e) (n * up d) (i * up c) (down e) (down d) (down c) (down-pos e) (down-pos d) (down-pos c)
     (signed s (m * up e * down d) t (n * up d * down e) h) (signed t (n * up d * down c) r (i * up c * down d) k))
 
+-- what is less than another is at most that one
+pub lt-le : (x y : Float) → lt x y ≡ true → T (le x y)
+unfolding le
+lt-le x y h = or-left (lt x y) (eq x y) (passes _ h)
+
 -- a finite value is at most itself
 pub le-self : (x : Float) → T (finite x) → T (le x x)
 unfolding le lt eq
@@ -138,6 +140,39 @@ le-self nan h = absurd h
 le-self (inf s) h = absurd h
 le-self (fin true m e) h = unsigned true (m * up e * down e) true (m * up e * down e) (omega arith)
 le-self (fin false m e) h = unsigned false (m * up e * down e) false (m * up e * down e) (omega arith)
+
+-- what has a minus sign is at most what has none
+pub minus-le : (p q : Float) → Plus p → Plus q → isNan p ≡ false → isNan q ≡ false → T (le (neg p) q)
+unfolding le lt eq neg isNan
+minus-le nan q p r n i = never (sym n)
+minus-le (inf true) q p r n i = absurd (true≢false p)
+minus-le (inf false) nan p r n i = never (sym i)
+minus-le (inf false) (inf true) p r n i = tt
+minus-le (inf false) (inf false) p r n i = tt
+minus-le (inf false) (fin t b d) p r n i = tt
+minus-le (fin true a c) q p r n i = absurd (true≢false p)
+minus-le (fin false a c) nan p r n i = never (sym i)
+minus-le (fin false a c) (inf true) p r n i = absurd (true≢false r)
+minus-le (fin false a c) (inf false) p r n i = tt
+minus-le (fin false a c) (fin true b d) p r n i = absurd (true≢false r)
+minus-le (fin false a c) (fin false b d) p r n i = unsigned true (a * up c * down d) false (b * up d * down c) tt
+
+-- with both signs turned the order is turned round
+pub turned-le : (p q : Float) → Plus p → Plus q → T (le p q) → T (le (neg q) (neg p))
+unfolding le lt eq neg
+turned-le nan q p r h = absurd h
+turned-le (inf true) q p r h = absurd (true≢false p)
+turned-le (inf false) nan p r h = absurd h
+turned-le (inf false) (inf true) p r h = absurd h
+turned-le (inf false) (inf false) p r h = tt
+turned-le (inf false) (fin t b d) p r h = absurd h
+turned-le (fin true a c) q p r h = absurd (true≢false p)
+turned-le (fin false a c) nan p r h = absurd h
+turned-le (fin false a c) (inf true) p r h = absurd h
+turned-le (fin false a c) (inf false) p r h = tt
+turned-le (fin false a c) (fin true b d) p r h = absurd (true≢false r)
+turned-le (fin false a c) (fin false b d) p r h =
+    unsigned true (b * up d * down c) true (a * up c * down d) (signed false (a * up c * down d) false (b * up d * down c) h)
 
 -- ---- a difference and a sum beside their first term
 
@@ -153,48 +188,6 @@ own-ge : (m : ℕ) (e : ℤ) (a c : ℕ) → T (fits binary64 (fin false m e)) �
 own-ge m e a c h g l =
     subst (λ (y : Float). T (le y (round binary64 false a c))) (round-own binary64 false m e h)
     (round-mono binary64 (m * up e) (down e) a c (down-pos e) g l)
-
--- what has a minus sign, and what has none
-minus-plus : (p : Float) (m : ℕ) (e : ℤ) → Plus p → isNan p ≡ false → T (le (neg p) (fin false m e))
-unfolding le lt eq neg isNan
-minus-plus nan m e p n = never (sym n)
-minus-plus (inf true) m e p n = absurd (true≢false p)
-minus-plus (inf false) m e p n = tt
-minus-plus (fin true i d) m e p n = absurd (true≢false p)
-minus-plus (fin false i d) m e p n = unsigned true (i * up d * down e) false (m * up e * down d) tt
-
-under-plus : (p : Float) (m : ℕ) (e : ℤ) → Plus p → isNan p ≡ false → T (le (fin true m e) p)
-unfolding le lt eq isNan
-under-plus nan m e p n = never (sym n)
-under-plus (inf true) m e p n = absurd (true≢false p)
-under-plus (inf false) m e p n = tt
-under-plus (fin true i d) m e p n = absurd (true≢false p)
-under-plus (fin false i d) m e p n = unsigned true (m * up e * down d) false (i * up d * down e) tt
-
--- both signs turned
-neg-le : (p : Float) (m : ℕ) (e : ℤ) → Plus p → T (le (fin false m e) p) → T (le (neg p) (fin true m e))
-unfolding le lt eq neg
-neg-le nan m e p h = absurd h
-neg-le (inf true) m e p h = absurd (true≢false p)
-neg-le (inf false) m e p h = tt
-neg-le (fin true i d) m e p h = absurd (true≢false p)
-neg-le (fin false i d) m e p h = unsigned true (i * up d * down e) true (m * up e * down d) (signed false (m * up e * down d) false (i * up d * down e) h)
-
-neg-ge : (p : Float) (m : ℕ) (e : ℤ) → Plus p → T (le p (fin false m e)) → T (le (fin true m e) (neg p))
-unfolding le lt eq neg
-neg-ge nan m e p h = absurd h
-neg-ge (inf true) m e p h = absurd (true≢false p)
-neg-ge (inf false) m e p h = absurd h
-neg-ge (fin true i d) m e p h = absurd (true≢false p)
-neg-ge (fin false i d) m e p h = unsigned true (m * up e * down d) true (i * up d * down e) (signed false (i * up d * down e) false (m * up e * down d) h)
-
-either-le : (b : Bool) (x y z : Float) → T (le x z) → T (le y z) → T (le (cond b x y) z)
-either-le true x y z p q = p
-either-le false x y z p q = q
-
-either-ge : (b : Bool) (x y z : Float) → T (le z x) → T (le z y) → T (le z (cond b x y))
-either-ge true x y z p q = p
-either-ge false x y z p q = q
 
 -- x / p less y / q and x / p with y / q added, over p * q, beside x / p
 less-part : (x y p q : ℕ) → (x * q - y * p) * p ≤ x * (p * q)
@@ -230,31 +223,31 @@ module _ (m n : ℕ) (e d : ℤ) (h : T (fits binary64 (fin false m e))) where
   more-own = own-ge m e (a + b) c h some (more-part (m * up e) (n * up d) (down e) (down d))
 
   plus-less : T (le (fin false m e ⊖ fin false n d) (fin false m e))
-  unfolding sub add sum neg
+  unfolding sub add sum neg isNan
   plus-less =
-      either-le (ltb a b) (round binary64 true (b - a) c) (round binary64 false (a - b) c) (fin false m e)
+      either (λ v. T (le v (fin false m e))) (ltb a b) (round binary64 true (b - a) c) (round binary64 false (a - b) c)
       (rw (round-turned binary64 (b - a) c)
-      (minus-plus (round binary64 false (b - a) c) m e (round-plus binary64 (b - a) c) (round-number binary64 false (b - a) c)))
+      (minus-le (round binary64 false (b - a) c) (fin false m e) (round-plus binary64 (b - a) c) refl (round-number binary64 false (b - a) c) refl))
       less-own
 
   minus-less : T (le (fin true m e ⊖ fin false n d) (fin true m e))
   unfolding sub add sum neg
-  minus-less = rw (round-turned binary64 (a + b) c) (neg-le (round binary64 false (a + b) c) m e (round-plus binary64 (a + b) c) more-own)
+  minus-less = rw (round-turned binary64 (a + b) c) (turned-le (fin false m e) (round binary64 false (a + b) c) refl (round-plus binary64 (a + b) c) more-own)
 
   plus-more : T (le (fin false m e) (fin false m e ⊕ fin false n d))
   unfolding add sum
   plus-more = more-own
 
   minus-more : T (le (fin true m e) (fin true m e ⊕ fin false n d))
-  unfolding add sum
+  unfolding add sum neg isNan
   minus-more =
-      either-ge (ltb a b) (round binary64 false (b - a) c) (round binary64 (ltb b a) (a - b) c) (fin true m e)
-      (under-plus (round binary64 false (b - a) c) m e (round-plus binary64 (b - a) c) (round-number binary64 false (b - a) c))
+      either (λ v. T (le (fin true m e) v)) (ltb a b) (round binary64 false (b - a) c) (round binary64 (ltb b a) (a - b) c)
+      (minus-le (fin false m e) (round binary64 false (b - a) c) refl (round-plus binary64 (b - a) c) refl (round-number binary64 false (b - a) c))
       (go (ltb b a))
     where
       go : (t : Bool) → T (le (fin true m e) (round binary64 t (a - b) c))
-      go true = rw (round-turned binary64 (a - b) c) (neg-ge (round binary64 false (a - b) c) m e (round-plus binary64 (a - b) c) less-own)
-      go false = under-plus (round binary64 false (a - b) c) m e (round-plus binary64 (a - b) c) (round-number binary64 false (a - b) c)
+      go true = rw (round-turned binary64 (a - b) c) (turned-le (round binary64 false (a - b) c) (fin false m e) (round-plus binary64 (a - b) c) refl less-own)
+      go false = minus-le (fin false m e) (round binary64 false (a - b) c) refl (round-plus binary64 (a - b) c) refl (round-number binary64 false (a - b) c)
 
 -- what is not below zero makes a difference no larger than its first term
 pub difference-le : (x y : Float) → Number x → T (finite y) → Plus y → T (le (x ⊖ y) x)

@@ -1,61 +1,30 @@
 -- Steps that keep an order: of values that are not below zero, a difference rises with its first term and falls as its second rises, a product rises with
 -- each factor; a product with such a value rises with the other factor, whatever its sign. Assumes nothing.
-use mathlib.Core.Path.{_≡_, refl, sym, ap, ap₂, _∙_, subst}
+use mathlib.Core.Path.{_≡_, refl, ap, _∙_, subst}
 use mathlib.Core.Bool.{Bool, true, false, cond, true≢false}
 use Prim.Native.Nat.{ℕ, _-_, _*_, _≤_, _<_}
 use native.Mathlib.Nat.{zero-mul, lt-irrefl, le-trans, lt-of-lt-of-le, mul-lt-mul-of-pos-right}
-use native.Mathlib.Nat.{mul-comm, mul-pos, mul-sub, mul-le-mul, mul-le-mul-right, mul-mul-mul-comm}
+use native.Mathlib.Nat.{mul-comm, mul-pos, mul-le-mul, mul-le-mul-right, mul-mul-mul-comm}
 use native.Mathlib.Omega.{arith}
 use lib.IntN.{ℤ}
 use lib.Dec.{T, ltb}
-use lib.Ieee.{Float, nan, inf, fin, binary64, up, down, unlike, round, sum, add, sub, mul, neg, lt, le, eq, isNan}
+use lib.Ieee.{Float, nan, inf, fin, binary64, up, down, unlike, round, sum, add, sub, mul, neg, lt, le, eq}
 use lib.Ieee.Fits.{down-pos}
 use lib.Ieee.Order.{round-mono}
 use lib.Ieee.Scale.{finite}
 use borrow.Author.Tests.{ltb-true, ltb-false, le-ltb}
 use Rattle.point.specs.Floats.{_⊖_, _⊗_}
-use Rattle.point.proofs.Laws.{never}
+use Rattle.point.proofs.Laws.{sub-mul, zero-of}
 use Rattle.point.proofs.Signs.{Plus, round-plus}
 use Rattle.point.proofs.Numbers.{nought, round-zero, round-number}
 use Rattle.point.proofs.Sizes.{round-turned}
-use Rattle.point.proofs.Order.{Signed, signed, unsigned, zero-of}
+use Rattle.point.proofs.Order.{Signed, signed, unsigned, minus-le, turned-le}
 
 -- ---- rounded fractions with signs
 
 noughts : T (le (nought false) (nought true))
 unfolding le lt eq
 noughts = tt
-
-minus-le : (p q : Float) → Plus p → Plus q → isNan p ≡ false → isNan q ≡ false → T (le (neg p) q)
-unfolding le lt eq neg isNan
-minus-le nan q p r n i = never (sym n)
-minus-le (inf true) q p r n i = absurd (true≢false p)
-minus-le (inf false) nan p r n i = never (sym i)
-minus-le (inf false) (inf true) p r n i = tt
-minus-le (inf false) (inf false) p r n i = tt
-minus-le (inf false) (fin t b d) p r n i = tt
-minus-le (fin true a c) q p r n i = absurd (true≢false p)
-minus-le (fin false a c) nan p r n i = never (sym i)
-minus-le (fin false a c) (inf true) p r n i = absurd (true≢false r)
-minus-le (fin false a c) (inf false) p r n i = tt
-minus-le (fin false a c) (fin true b d) p r n i = absurd (true≢false r)
-minus-le (fin false a c) (fin false b d) p r n i = unsigned true (a * up c * down d) false (b * up d * down c) tt
-
-turned-le : (p q : Float) → Plus p → Plus q → T (le p q) → T (le (neg q) (neg p))
-unfolding le lt eq neg
-turned-le nan q p r h = absurd h
-turned-le (inf true) q p r h = absurd (true≢false p)
-turned-le (inf false) nan p r h = absurd h
-turned-le (inf false) (inf true) p r h = absurd h
-turned-le (inf false) (inf false) p r h = tt
-turned-le (inf false) (fin t b d) p r h = absurd h
-turned-le (fin true a c) q p r h = absurd (true≢false p)
-turned-le (fin false a c) nan p r h = absurd h
-turned-le (fin false a c) (inf true) p r h = absurd h
-turned-le (fin false a c) (inf false) p r h = tt
-turned-le (fin false a c) (fin true b d) p r h = absurd (true≢false r)
-turned-le (fin false a c) (fin false b d) p r h =
-    unsigned true (b * up d * down c) true (a * up c * down d) (signed false (a * up c * down d) false (b * up d * down c) h)
 
 round-order : (s t : Bool) (a c b d : ℕ) → 0 < c → 0 < d → Signed s (a * d) t (b * c) → T (le (round binary64 s a c) (round binary64 t b d))
 round-order false false a c b d C D h = round-mono binary64 a c b d C D h
@@ -84,8 +53,8 @@ any-cross : (s t : Bool) (m n : ℕ) (e d : ℤ) → T (le (fin s m e) (fin t n 
 unfolding le lt eq
 any-cross s t m n e d h = signed s (m * up e * down d) t (n * up d * down e) h
 
-pub cross : (m n : ℕ) (e d : ℤ) → T (le (fin false m e) (fin false n d)) → m * up e * down d ≤ n * up d * down e
-cross m n e d h = any-cross false false m n e d h
+pub le-cross : (m n : ℕ) (e d : ℤ) → T (le (fin false m e) (fin false n d)) → m * up e * down d ≤ n * up d * down e
+le-cross m n e d h = any-cross false false m n e d h
 
 total : (m n : ℕ) (e d : ℤ) → le (fin false n d) (fin false m e) ≡ false → T (le (fin false m e) (fin false n d))
 unfolding le lt eq
@@ -112,9 +81,6 @@ or-less x y p q h =
     rw (a .2, b .2) (total (a .0) (b .0) (a .1) (b .1) (rw (a .2, b .2) at h))
 
 -- ---- differences
-
-sub-mul : (a b c : ℕ) → (a - b) * c ≡ a * c - b * c
-sub-mul a b c = mul-comm (a - b) c ∙ mul-sub c a b ∙ ap₂ _-_ (mul-comm c a) (mul-comm c b)
 
 less-mul : (a b c i j k : ℕ) → a * k ≤ i * c → j * c ≤ b * k → (a - b) * k ≤ (i - j) * c
 less-mul a b c i j k h g = rw (sub-mul a b k, sub-mul i j c) (go (a * k) (b * k) (i * c) (j * c) h g)
@@ -151,8 +117,8 @@ unfolding sub add sum neg
 sub-fins m n i j e d f g h k =
     diff-order (m * up e * down d) (n * up d * down e) (down e * down d) (i * up f * down g) (j * up g * down f) (down f * down g)
     (mul-pos (down-pos e) (down-pos d)) (mul-pos (down-pos f) (down-pos g))
-    (wide (m * up e) (i * up f) (down e) (down f) (down d) (down g) (cross m i e f h))
-    (tall (n * up d) (j * up g) (down e) (down f) (down d) (down g) (cross j n g d k))
+    (wide (m * up e) (i * up f) (down e) (down f) (down d) (down g) (le-cross m i e f h))
+    (tall (n * up d) (j * up g) (down e) (down f) (down d) (down g) (le-cross j n g d k))
 
 -- a difference rises with its first term, and as its second falls
 pub sub-order : (x y v w : Float) → Size x → Size y → Size v → Size w → T (le x v) → T (le w y) → T (le (x ⊖ y) (v ⊖ w))
@@ -166,7 +132,7 @@ sub-order x y v w p q r s h k =
 sub-fins-plus : (m n : ℕ) (e d : ℤ) → T (le (fin false n d) (fin false m e)) → Plus (fin false m e ⊖ fin false n d)
 unfolding sub add sum neg
 sub-fins-plus m n e d h =
-    rw (le-ltb (m * up e * down d) (n * up d * down e) (cross n m d e h))
+    rw (le-ltb (m * up e * down d) (n * up d * down e) (le-cross n m d e h))
     (round-plus binary64 (m * up e * down d - n * up d * down e) (down e * down d))
 
 -- what is taken from something that is no smaller leaves a plus sign
@@ -185,7 +151,7 @@ mul-fins m n i j e d f g h k =
     round-order false false (m * up e * (n * up d)) (down e * down d) (i * up f * (j * up g)) (down f * down g)
     (mul-pos (down-pos e) (down-pos d)) (mul-pos (down-pos f) (down-pos g))
     (rw (mul-mul-mul-comm (m * up e) (n * up d) (down f) (down g), mul-mul-mul-comm (i * up f) (j * up g) (down e) (down d))
-    (mul-le-mul (cross m i e f h) (cross n j d g k)))
+    (mul-le-mul (le-cross m i e f h) (le-cross n j d g k)))
 
 -- a product rises with each factor
 pub mul-order : (x y v w : Float) → Size x → Size y → Size v → Size w → T (le x v) → T (le y w) → T (le (x ⊗ y) (v ⊗ w))

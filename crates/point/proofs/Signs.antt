@@ -1,6 +1,6 @@
 -- Squares, their sums and chord angles have no minus sign, so none is at most a number below zero. Assumes nothing.
 use mathlib.Core.Path.{_≡_, refl}
-use mathlib.Core.Bool.{Bool, true, false, cond, _&&_, true≢false}
+use mathlib.Core.Bool.{true, false, _&&_, true≢false, and-false}
 use Prim.Native.Nat.{ℕ, zero, suc, _*_, _+_, _^_, _<_}
 use native.Mathlib.Nat.{mul-pos}
 use native.Mathlib.Omega.{arith}
@@ -11,7 +11,7 @@ use borrow.Author.Tests.{ltb-true, ne-eqb}
 use Rattle.point.specs.Vector.{norm2Of, dotOf, subOf}
 use Rattle.point.specs.ChordAngle.{chordAngle, atMost4}
 use Rattle.point.specs.declared.Point.{Point}
-use Rattle.point.proofs.Laws.{never, and-no}
+use Rattle.point.proofs.Laws.{never, either}
 
 -- the float is no number, or its sign is plus
 abbrev pub Plus : Float → Type 0
@@ -24,13 +24,9 @@ unfolding odd
 odd-plus d zero k l = refl
 odd-plus d (suc q) k l = refl
 
-pub either : (b : Bool) (x y : Float) → Plus x → Plus y → Plus (cond b x y)
-either true x y p q = p
-either false x y p q = q
-
 units-plus : (f : Format) (q k : ℕ) → Plus (units f false q k)
 unfolding units
-units-plus f q k = either (ltb (q * 2 ^ k) (2 ^ (low f + suc (emax f)))) (odd (suc (prec f)) false q k (low f)) (inf false) (odd-plus (suc (prec f)) q k (low f)) refl
+units-plus f q k = either Plus (ltb (q * 2 ^ k) (2 ^ (low f + suc (emax f)))) (odd (suc (prec f)) false q k (low f)) (inf false) (odd-plus (suc (prec f)) q k (low f)) refl
 
 pub round-plus : (f : Format) (a b : ℕ) → Plus (round f false a b)
 unfolding round
@@ -64,7 +60,7 @@ some n u v h = let l : 0 < n * u * 1 + 0 * v = ltb-true _ _ h in omega (arith, l
 
 not-both : (a b : ℕ) → 0 < b → (eqb a b && eqb a 0) ≡ false
 not-both zero b h = rw (ne-eqb 0 b (λ e. omega arith))
-not-both (suc a) b h = rw (ne-eqb (suc a) 0 (λ e. omega arith)) (and-no (eqb (suc a) b))
+not-both (suc a) b h = rw (ne-eqb (suc a) 0 (λ e. omega arith)) (and-false (eqb (suc a) b))
 
 pub not-within : (x r : Float) → Plus x → lt r (ofBits binary64 0) ≡ true → le x r ≡ false
 unfolding lt le eq ofBits
@@ -89,4 +85,4 @@ norm2-plus a = add-plus binary64 _ _ (add-plus binary64 _ _ (square-plus binary6
 
 pub chord-plus : (a b : Point) → Plus (chordAngle a b)
 unfolding chordAngle atMost4 ofBits
-chord-plus a b = either (lt (norm2Of (subOf a b)) (ofBits binary64 0x4010_0000_0000_0000)) (norm2Of (subOf a b)) (ofBits binary64 0x4010_0000_0000_0000) (norm2-plus (subOf a b)) refl
+chord-plus a b = either Plus (lt (norm2Of (subOf a b)) (ofBits binary64 0x4010_0000_0000_0000)) (norm2Of (subOf a b)) (ofBits binary64 0x4010_0000_0000_0000) (norm2-plus (subOf a b)) refl

@@ -13,6 +13,7 @@ use lib.Ieee.Back.{round-whole}
 use lib.Ieee.Order.{round-mono}
 use lib.Ieee.Scale.{finite}
 use Rattle.point.specs.Floats.{_⊕_, _⊖_, _⊗_}
+use Rattle.point.proofs.Laws.{either}
 use Rattle.point.proofs.Signs.{Plus, round-plus}
 use Rattle.point.proofs.Numbers.{Number}
 
@@ -67,10 +68,10 @@ within-turned b nan h = h
 within-turned b (inf s) h = h
 within-turned b (fin s m e) h = h
 
-pub at-most : (a b : ℕ) (p q : Bool) → (T p → a < b) → (T q → a ≡ b) → T (p || (q && true)) → a ≤ b
-at-most a b true q f g t = let l : a < b = f tt in omega (arith, l)
-at-most a b false true f g t = let e : a ≡ b = g tt in omega (arith, e)
-at-most a b false false f g t = absurd t
+pub le-cases : (a b : ℕ) (p q : Bool) → (T p → a < b) → (T q → a ≡ b) → T (p || (q && true)) → a ≤ b
+le-cases a b true q f g t = let l : a < b = f tt in omega (arith, l)
+le-cases a b false true f g t = let e : a ≡ b = g tt in omega (arith, e)
+le-cases a b false false f g t = absurd t
 
 -- what is at most a value of the size b
 pub le-within : (b : ℕ) (x y : Float) → Plus x → T (le x y) → HasValue y false b 1 → Within b x
@@ -87,7 +88,7 @@ le-within b (fin false m e) (fin true n d) p h v = absurd (true≢false (v .0))
 le-within b (fin false m e) (fin false n d) p h v =
     le-of-mul-le-mul-right
     (subst (λ (x : ℕ). m * up e * down d ≤ x) (ap (λ (x : ℕ). x * down e) (sym (mul-one (n * up d)) ∙ v .1) ∙ mul-right-comm b (down d) (down e))
-    (at-most (m * up e * down d) (n * up d * down e) (ltb (m * up e * down d) (n * up d * down e)) (eqb (m * up e * down d) (n * up d * down e))
+    (le-cases (m * up e * down d) (n * up d * down e) (ltb (m * up e * down d) (n * up d * down e)) (eqb (m * up e * down d) (n * up d * down e))
     (ltb→lt (m * up e * down d) (n * up d * down e)) (eqb→eq (m * up e * down d) (n * up d * down e)) h))
     (down-pos d)
 
@@ -106,16 +107,12 @@ round-within b s a c h g l = go s
 
 -- ---- sums and products
 
-either-within : (k : ℕ) (b : Bool) (x y : Float) → Within k x → Within k y → Within k (cond b x y)
-either-within k true x y p q = p
-either-within k false x y p q = q
-
 sum-within : (k : ℕ) (s t : Bool) (a b c : ℕ) → k ≤ 2 ^ 53 → 0 < c → a + b ≤ k * c → Within k (sum binary64 s a t b c)
 unfolding sum
 sum-within k s t a b c h g l =
-    either-within k (Bool·beq s t) (round binary64 s (a + b) c) (cond (ltb a b) (round binary64 t (b - a) c) (round binary64 (s && ltb b a) (a - b) c))
+    either (Within k) (Bool·beq s t) (round binary64 s (a + b) c) (cond (ltb a b) (round binary64 t (b - a) c) (round binary64 (s && ltb b a) (a - b) c))
     (round-within k s (a + b) c h g l)
-    (either-within k (ltb a b) (round binary64 t (b - a) c) (round binary64 (s && ltb b a) (a - b) c)
+    (either (Within k) (ltb a b) (round binary64 t (b - a) c) (round binary64 (s && ltb b a) (a - b) c)
     (round-within k t (b - a) c h g (omega (arith, l)))
     (round-within k (s && ltb b a) (a - b) c h g (omega (arith, l))))
 
@@ -123,7 +120,7 @@ joined : (a b p q c d : ℕ) → p ≤ a * c → q ≤ b * d → p * d + q * c �
 joined a b p q c d h g = omega (arith, mul-le-mul-right d h, mul-le-mul-right c g)
 
 -- a sum is within the sum of its terms' bounds, and so is a difference
-pub add-within : (a b : ℕ) (x y : Float) → a + b ≤ 2 ^ 53 → Within a x → Within b y → Within (a + b) (x ⊕ y)
+add-within : (a b : ℕ) (x y : Float) → a + b ≤ 2 ^ 53 → Within a x → Within b y → Within (a + b) (x ⊕ y)
 unfolding add
 add-within a b nan y k h g = absurd h
 add-within a b (inf s) y k h g = absurd h

@@ -1,7 +1,9 @@
 // Points: three floats by value, with the vector operations of the Rust's r3/vector.rs and the chord
-// angle between two of them. Every operation is the Rust's, in its order, rounded once. Nothing is
-// required of a float anywhere: NaNs, infinities and subnormals have the answer that the Rust has.
+// angle between two of them; a float's size and its bit pattern. Every operation is the Rust's, in its
+// order, rounded once. Nothing is required of a float anywhere: NaNs, infinities and subnormals have
+// the answer that the Rust has.
 ghost use mathlib.Core.Path.{_≡_};
+ghost use lib.Ieee.{binary64, ofBits, toBits};
 ghost use Rattle.point.specs.Floats.{absOf};
 ghost use Rattle.point.specs.Vector.{subOf, mulOf, dotOf, crossOf, norm2Of, normOf, normalizeOf, isUnit};
 ghost use Rattle.point.specs.ChordAngle.{chordAngle, sin2Of};
@@ -32,6 +34,26 @@ pub fn abs(x: f64) -> f64
     x
 }
 
+// The float of a bit pattern. Every pattern of a NaN gives a NaN.
+pub fn float_of_bits(b: u64) -> f64
+    ensures { λ r. ⌜ r ≡ ofBits binary64 b ⌝ }
+{
+    if b % 0x8000_0000_0000_0000 > 0x7ff0_0000_0000_0000 {
+        return 0.0 / 0.0;
+    }
+    f64::from_bits(b)
+}
+
+// The bit pattern of a float, 0x7ff8000000000000 for a NaN.
+pub fn bits_of_float(x: f64) -> u64
+    ensures { λ r. ⌜ r ≡ toBits binary64 x ⌝ }
+{
+    if x != x {
+        return 0x7ff8_0000_0000_0000;
+    }
+    f64::to_bits(x)
+}
+
 fn sub(a: Point, b: Point) -> Point
     ensures { λ r. ⌜ r ≡ subOf a b ⌝ }
 {
@@ -53,12 +75,14 @@ pub fn mul(a: Point, m: f64) -> Point
     }
 }
 
+// The scalar product.
 pub fn dot(a: Point, b: Point) -> f64
     ensures { λ r. ⌜ r ≡ dotOf a b ⌝ }
 {
     a.x * b.x + a.y * b.y + a.z * b.z
 }
 
+// The vector product.
 pub fn cross(a: Point, b: Point) -> Point
     ensures { λ r. ⌜ r ≡ crossOf a b ⌝ }
 {

@@ -15,8 +15,8 @@ use Rattle.order.proofs.OrderLaws.{all-append}
 use Rattle.fast.specs.Memory.{Cells}
 
 -- an id that passed the test for valid ones is a cell's
-pub is-cell : (id : ℕ) {b : Bool} → b ≡ validId id → b ≡ true → Cell id
-is-cell id e t = valid-is id (sym e ∙ t)
+pub tested-cell : (id : ℕ) {b : Bool} → b ≡ validId id → b ≡ true → Cell id
+tested-cell id e t = valid-is id (sym e ∙ t)
 
 pub is-face : Cell 0x1000_0000_0000_0000
 unfolding faceCell
@@ -33,4 +33,4 @@ cells-none m = (omega arith, tt)
 
 pub cells-more : (m : List ℕ) (i : ℕ) {b : Bool} → i < length m → Cells i m → b ≡ validId (getD m i 0) → b ≡ true → Cells (i + 1) m
 unfolding All
-cells-more m i h a e t = (omega arith, rw (add-one i, take-suc m i 0 h) (all-append Cell (take i m) (getD m i 0 ∷ []) (a .1) (is-cell _ e t, tt)))
+cells-more m i h a e t = (omega arith, rw (add-one i, take-suc m i 0 h) (all-append Cell (take i m) (getD m i 0 ∷ []) (a .1) (tested-cell _ e t, tt)))

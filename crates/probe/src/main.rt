@@ -79,8 +79,8 @@ fn in_domain(k: u64, a: u64, g: Cap) -> bool {
 fn of_numbers(k: u64, a: u64, g: Cap) -> u64 {
     match k {
         0 => root::root_bits(a),
-        1 => text::bits_of_float(stuv::st_to_uv(g.center.x)),
-        2 => text::bits_of_float(stuv::uv_to_st(g.center.x)),
+        1 => point::bits_of_float(stuv::st_to_uv(g.center.x)),
+        2 => point::bits_of_float(stuv::uv_to_st(g.center.x)),
         3 => neighbors::cellid_from_point(g.center),
         4 => cellid::is_valid(a) as u64,
         5 => cap::level_for(g.center.x),
@@ -109,15 +109,15 @@ fn grid_number(g: FaceIj, i: u64) -> u64 {
 
 fn axis(p: Point, i: u64) -> u64 {
     match i {
-        0 => text::bits_of_float(p.x),
-        1 => text::bits_of_float(p.y),
-        _ => text::bits_of_float(p.z),
+        0 => point::bits_of_float(p.x),
+        1 => point::bits_of_float(p.y),
+        _ => point::bits_of_float(p.z),
     }
 }
 
 fn cap_number(c: Cap, i: u64) -> u64 {
     match i {
-        3 => text::bits_of_float(c.radius),
+        3 => point::bits_of_float(c.radius),
         _ => axis(c.center, i),
     }
 }

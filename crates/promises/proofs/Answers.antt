@@ -17,7 +17,7 @@ use Rattle.fast.proofs.Laws.{fast-apart, fast-leaves, fast-levels}
 use Rattle.run.specs.Run.{State, going, run, rawIds, sumOf, asideTotal}
 use Rattle.run.specs.Ground.{Fit}
 use Rattle.run.proofs.Steps.{run-ends, inner-aside}
-use Rattle.coverer.specs.Coverer.{outcomeOf}
+use Rattle.coverer.specs.Coverer.{courseOf, outcomeOf}
 use Rattle.covering.specs.declared.Answer.{Answer}
 use Rattle.covering.specs.declared.Ending.{Ending}
 use Rattle.covering.specs.declared.Kind.{Kind}
@@ -26,7 +26,7 @@ use Rattle.bars.proofs.Early.{Valid}
 use Rattle.covering.proofs.Starts.{starts-fit, run-domain}
 use Rattle.covering.proofs.Table.{RunFinished, Finished, answered-done}
 use Rattle.promises.specs.Promises.{OnLevels, Outer, Inner}
-use Rattle.promises.specs.Answers.{courseFor, OuterDone, InnerDone, FastDone, Promised}
+use Rattle.promises.specs.Answers.{OuterDone, InnerDone, FastDone, Promised}
 use Rattle.promises.proofs.Runs.{raw-same, normal-same, final-same, final-on, outer-keeps, inner-keeps}
 
 -- 1, 2 and 3 divide 30
@@ -44,7 +44,7 @@ module _ (inner : Bool) (c : RegionCoverer) (g : Region) (allowance memory : ℕ
   fit = starts-fit c g (v .«mod» .0) (v .region) inner
 
   module _ (s : State) (ran : ranOf inner c g allowance ≡ going s) where
-    run-is : run (courseFor inner c g) (startsFor c (boundOf g)) allowance ≡ going s
+    run-is : run (courseOf (askedOf c inner) g) (startsFor c (boundOf g)) allowance ≡ going s
     unfolding ranOf outcomeOf
     run-is = ran
 
@@ -65,10 +65,10 @@ module _ (inner : Bool) (c : RegionCoverer) (g : Region) (allowance memory : ℕ
       words-levels : e ≡ Ending.Covering → OnLevels (askedOf c inner) l
       words-levels f = subst (OnLevels (askedOf c inner)) (sym (is ∙ ap (λ (x : Ending). listOf x c (rawIds s)) f)) final-list
 
-      outer-list : inner ≡ false → Outer (courseFor inner c g) (startsFor c (boundOf g)) s l
+      outer-list : inner ≡ false → Outer (courseOf (askedOf c inner) g) (startsFor c (boundOf g)) s l
       outer-list o = outer-keeps _ (run-domain c g memory v inner) _ (startsFor c (boundOf g)) fit allowance s run-is l words-same o
 
-      inner-list : inner ≡ true → Inner (courseFor inner c g) (startsFor c (boundOf g)) s l
+      inner-list : inner ≡ true → Inner (courseOf (askedOf c inner) g) (startsFor c (boundOf g)) s l
       inner-list i = inner-keeps _ (run-domain c g memory v inner) _ (startsFor c (boundOf g)) fit allowance s run-is l words-same i
 
     none-aside : inner ≡ true → asideTotal s ≡ 0
@@ -79,13 +79,14 @@ module _ (inner : Bool) (c : RegionCoverer) (g : Region) (allowance memory : ℕ
 
 -- ---- a success of each kind
 
-module _ (c : RegionCoverer) (g : Region) (allowance memory : ℕ) (v : Valid c g memory) (r : Answer) (out : List ℕ) where
+module _ (c : RegionCoverer) (g : Region) (allowance memory : ℕ) (v : Valid c g memory) (r : Answer) (out : List ℕ) (counted : r .count ≡ length (take (r .count) out)) where
   outer-done : (e : Ending) → RunFinished e false c g allowance (take (r .count) out) (r .steps) (r .aside) → OuterDone e c g allowance r out
   outer-done e F = record {
     state = F .state;
     ran = F .ran;
     taken = F .taken;
     total = F .total;
+    counted = counted;
     list = F .list;
     keeps = outer-list false c g allowance memory v (F .state) (F .ran) e _ (F .list) refl;
     levels = words-levels false c g allowance memory v (F .state) (F .ran) e _ (F .list);
@@ -97,6 +98,7 @@ module _ (c : RegionCoverer) (g : Region) (allowance memory : ℕ) (v : Valid c 
     ran = F .ran;
     taken = F .taken;
     total = F .total ∙ none-aside true c g allowance memory v (F .state) (F .ran) refl;
+    counted = counted;
     list = F .list;
     keeps = inner-list true c g allowance memory v (F .state) (F .ran) e _ (F .list) refl;
     levels = words-levels true c g allowance memory v (F .state) (F .ran) e _ (F .list);
@@ -108,6 +110,7 @@ module _ (c : RegionCoverer) (g : Region) (allowance memory : ℕ) (v : Valid c 
       record {
         taken = t;
         total = a;
+        counted = counted;
         list = w;
         missing = λ n h. subst (λ (l : List ℕ). covers l n ≡ true) (sym w) (fast-leaves (c .«min_level») (c .«max_level») (c .«level_mod») (c .«max_cells») (boundOf g) (v .order) C n h);
         apart = subst Apart (sym w) (fast-apart (c .«min_level») (c .«max_level») (c .«level_mod») (c .«max_cells») (boundOf g) (v .order) C);
@@ -127,4 +130,4 @@ pub keeps : (k : Kind) (c : RegionCoverer) (g : Region) (allowance : ℕ) (r : A
     → Answered (resultOf k c g allowance (length mem) (length out)) r mem mem′ out out′ → r .number ≡ 0 → Promised k c g allowance r out′
 keeps k c g allowance r mem mem′ out out′ A z =
     let d = answered-done k c g allowance r mem mem′ out out′ A z in
-    done c g allowance (length mem) (d .valid) r out′ k (d .finished)
+    done c g allowance (length mem) (d .valid) r out′ (d .counted) k (d .finished)

@@ -11,7 +11,7 @@ use Rattle.order.specs.Order.{insert, sort}
 use Rattle.order.specs.Lex.{lexb, first}
 use Rattle.cellunion.specs.CellUnion.{normalise, denormalise, pass, collapse, clearOf, isFour, rev, goal, below, cellsFrom}
 use Rattle.cellunion.specs.CellUnion as Union
-use Rattle.run.specs.Run.{Task, _by_, Outcome, refused, going, then, isEmpty, look, part, expand, reached, join, fourOf, expansionOf, depth, full, ending, lifts, cost, costOf, byId, keep, enqueue, setAside, isFull, isHandedOn, add, addAll, stepWith, stepOn, step, startAs, startAll, placed, after, loop, run, rawIds}
+use Rattle.run.specs.Run.{Task, byCost, Outcome, refused, going, then, isEmpty, look, part, expand, reached, join, fourOf, expansionOf, depth, full, ending, lifts, cost, costOf, byId, keep, enqueue, setAside, isFull, isHandedOn, add, addAll, stepWith, stepOn, step, startAs, startAll, placed, after, loop, run, rawIds}
 
 abbrev pub face0 : ℕ
 face0 = 0x1000000000000000
@@ -28,11 +28,11 @@ rawOf (refused n) = []
 rawOf (going s) = rawIds s
 
 pub raw : List ℕ
-raw = rawOf (run (task by byId task) (face0 ∷ []) 10)
+raw = rawOf (run (byCost task) (face0 ∷ []) 10)
 
 pub parent-fails :
     (raw ≡ 0x0400000000000000 ∷ 0x0c00000000000000 ∷ 0x1400000000000000 ∷ 0x1c00000000000000 ∷ [])
     × (denormalise 0 1 (normalise raw) ≡ face0 ∷ [])
     × (within face0 ≡ false)
-unfolding raw rawOf task within run after loop step stepOn stepWith startAll startAs add addAll isFull isHandedOn lifts keep enqueue setAside byId cost costOf expansionOf expand part reached look depth full fourOf join ending isEmpty then placed rawIds insert sort lexb first levelOf placeOf idOf childOf parentAt holds lowBit firstLeaf lastLeaf trailingZeros normalise denormalise pass Union.keep collapse clearOf isFour rev goal below cellsFrom
+unfolding raw rawOf task within run after loop step stepOn stepWith startAll startAs add addAll isFull isHandedOn lifts keep enqueue setAside byId cost costOf expansionOf expand part reached look depth full fourOf join ending isEmpty then placed rawIds insert sort lexb first levelOf placeOf idOf childOf parentAt holds lowBit firstLeaf lastLeaf trailingZeros normalise denormalise pass Union.keepCell collapse clearOf isFour rev goal below cellsFrom
 parent-fails = (refl, refl, refl)

@@ -1,7 +1,7 @@
 -- From the defined run's laws and those of lists to the promises, for every list with the raw list's leaves; the three lists that are handed back are such.
 use mathlib.Core.Path.{_≡_, refl, sym, ap, _∙_}
 use mathlib.Core.Bool.{Bool, true, false, true≢false}
-use mathlib.Core.Logic.{_⊎_, inl, inr, ⊎-elim}
+use mathlib.Core.Logic.{inl, inr, ⊎-elim}
 use mathlib.Core.List.{List, [], _∷_}
 use Prim.Native.Nat.{ℕ, suc, _%_, _<_}
 use native.Mathlib.Omega.{arith}
@@ -19,7 +19,7 @@ use Rattle.run.specs.Ground.{Domain, Fit, Passes, timesCovered}
 use Rattle.run.proofs.Lists.{all-map}
 use Rattle.run.proofs.Ground.{Kept}
 use Rattle.run.proofs.Steps.{run-ends}
-use Rattle.run.proofs.Demand3.{no-ground-missing, leaf-kept, raw-kept, aside-after}
+use Rattle.run.proofs.Demand3.{no-ground-missing, leaf-kept, raw-kept, raw-cells, aside-after, beneath-after}
 use Rattle.promises.specs.Promises.{OnLevels, Ended, Outer, Inner}
 
 -- ---- leaves of lists, in both crates' words
@@ -32,7 +32,7 @@ times-covers (x ∷ l) n h = ⊎-elim
     (λ (t : hasLeaf x n ≡ false). true-or (hasLeaf x n) (covers l n) (inr (times-covers l n (let e : one (hasLeaf x n) ≡ 0 = ap one t in omega arith))))
     (which (hasLeaf x n))
 
--- a leaf hasLeaf a list lies hasLeaf the cell at some place
+-- a leaf that a list covers lies under the cell at some place of it
 covers-place : (l : List ℕ) (n : ℕ) → covers l n ≡ true → (i : ℕ) × (i < length l) × (hasLeaf (getD l i 0) n ≡ true)
 unfolding covers
 covers-place [] n t = absurd (true≢false (sym t))
@@ -56,8 +56,8 @@ module _ (T : Task) (D : Domain (T .asked)) (lt : Grown → Grown → Bool) (sta
   unfolding rawIds
   kept = all-map (λ (c : Grown). c .id) (Kept T) (s .raw) (raw-kept T D lt starts ok a s done)
 
-  pub raw-cells : All Cell (rawIds s)
-  raw-cells = all-weak (Kept T) Cell (rawIds s) (λ id k. (_, _, k .fit .cell)) kept
+  cells : All Cell (rawIds s)
+  cells = raw-cells T D lt starts ok a s done
 
   raw-levels : OnLevels (T .asked) (rawIds s)
   raw-levels = all-weak (Kept T) (λ id. OnStep (minLevel (T .asked)) (maxLevel (T .asked)) (levelMod (T .asked)) (levelOf id)) (rawIds s) (λ id k. record { from = k .low; to = k .fit .high; on = k .fit .on }) kept
@@ -83,6 +83,7 @@ module _ (T : Task) (D : Domain (T .asked)) (lt : Grown → Grown → Bool) (sta
         let passed : All (λ id. T .within id ≡ true) (rawIds s) = all-weak (Kept T) (λ id. T .within id ≡ true) (rawIds s) (λ id k. k .inside i) kept in
         record {
           ended = ended;
+          beneath = beneath-after T D lt starts ok (s .steps) s (ended .last);
           passed = passed;
           inside = λ n t.
               let r = covers-member (rawIds s) n (sym (same n) ∙ t) in
@@ -97,14 +98,14 @@ module _ (T : Task) (D : Domain (T .asked)) (lt : Grown → Grown → Bool) (sta
   raw-same n = refl
 
   pub normal-same : SameLeaves (normalise (rawIds s)) (rawIds s)
-  normal-same = normalise-leaves (rawIds s) raw-cells
+  normal-same = normalise-leaves (rawIds s) cells
 
   pub final-same : SameLeaves (denormalise (minLevel (T .asked)) (levelMod (T .asked)) (normalise (rawIds s))) (rawIds s)
-  final-same = final-leaves (minLevel (T .asked)) (levelMod (T .asked)) (rawIds s) raw-cells
+  final-same = final-leaves (minLevel (T .asked)) (levelMod (T .asked)) (rawIds s) cells
 
   -- level_mod divides 30: true of 1, 2 and 3
   pub final-on : 30 % levelMod (T .asked) ≡ 0 → OnLevels (T .asked) (denormalise (minLevel (T .asked)) (levelMod (T .asked)) (normalise (rawIds s)))
-  final-on m = final-levels (minLevel (T .asked)) (maxLevel (T .asked)) (levelMod (T .asked)) (rawIds s) m (D .deep) raw-cells raw-levels
+  final-on m = final-levels (minLevel (T .asked)) (maxLevel (T .asked)) (levelMod (T .asked)) (rawIds s) m (D .deep) cells raw-levels
 
 -- ---- the paper's sentence
 

@@ -1,10 +1,10 @@
 -- The promises for the public functions: from "the function answered with the number 0" to demand 3 about the first `count` words of the output. What a function
 -- answered, and what stands in the output, is said by its contract (`Answered` of the crate covering).
 use mathlib.Core.Path.{_≡_}
-use mathlib.Core.Bool.{Bool, true, false}
+use mathlib.Core.Bool.{true, false}
 use mathlib.Core.List.{List}
 use Prim.Native.Nat.{ℕ}
-use lib.ListN.{take}
+use lib.ListN.{length, take}
 use Rattle.cellid.specs.CellId.{levelOf}
 use Rattle.order.specs.Order.{All}
 use Rattle.cellunion.specs.CellUnion.{covers, OnStep, Apart}
@@ -12,7 +12,7 @@ use Rattle.region.specs.declared.Region.{Region}
 use Rattle.region.specs.Region.{boundOf}
 use Rattle.run.specs.declared.RegionCoverer.{RegionCoverer}
 use Rattle.fast.specs.Memory.{startsFor, fastCoveringFor}
-use Rattle.run.specs.Run.{Course, State, going, rawIds, asideTotal}
+use Rattle.run.specs.Run.{State, going, rawIds, asideTotal}
 use Rattle.coverer.specs.Coverer.{courseOf}
 use Rattle.covering.specs.declared.Answer.{Answer}
 use Rattle.covering.specs.declared.Ending.{Ending}
@@ -20,18 +20,15 @@ use Rattle.covering.specs.declared.Kind.{Kind}
 use Rattle.covering.specs.Covering.{askedOf, ranOf, listOf}
 use Rattle.promises.specs.Promises.{OnLevels, Outer, Inner}
 
--- what a request's run goes by
-abbrev pub courseFor : Bool → RegionCoverer → Region → Course
-courseFor inner c g = courseOf (askedOf c inner) g
-
 -- an outer function answered r with success, with `out` as the output afterwards
 pub record OuterDone (e : Ending) (c : RegionCoverer) (g : Region) (allowance : ℕ) (r : Answer) (out : List ℕ) : Type 0 where
   pub state : State
   pub ran : ranOf false c g allowance ≡ going state  -- demand 2's run
   pub taken : r .steps ≡ state .steps
   pub total : r .aside ≡ asideTotal state  -- "the reported set-aside total is theirs"
+  pub counted : r .count ≡ length (take (r .count) out)  -- the output has so many words
   pub list : take (r .count) out ≡ listOf e c (rawIds state)  -- the raw list in the order kept, or the one that is made of it
-  pub keeps : Outer (courseFor false c g) (startsFor c (boundOf g)) state (take (r .count) out)
+  pub keeps : Outer (courseOf (askedOf c false) g) (startsFor c (boundOf g)) state (take (r .count) out)
   pub levels : e ≡ Ending.Covering → OnLevels (askedOf c false) (take (r .count) out)
 
 -- an inner function: the set-aside total is 0
@@ -40,14 +37,16 @@ pub record InnerDone (e : Ending) (c : RegionCoverer) (g : Region) (allowance : 
   pub ran : ranOf true c g allowance ≡ going state
   pub taken : r .steps ≡ state .steps
   pub total : r .aside ≡ 0
+  pub counted : r .count ≡ length (take (r .count) out)
   pub list : take (r .count) out ≡ listOf e c (rawIds state)
-  pub keeps : Inner (courseFor true c g) (startsFor c (boundOf g)) state (take (r .count) out)
+  pub keeps : Inner (courseOf (askedOf c true) g) (startsFor c (boundOf g)) state (take (r .count) out)
   pub levels : e ≡ Ending.Covering → OnLevels (askedOf c true) (take (r .count) out)
 
 -- the quick covering of the region's bound: its leaves are covered, by cells that don't overlap, of levels from min to max in whole steps
 pub record FastDone (c : RegionCoverer) (g : Region) (r : Answer) (out : List ℕ) : Type 0 where
   pub taken : r .steps ≡ 0
   pub total : r .aside ≡ 0
+  pub counted : r .count ≡ length (take (r .count) out)
   pub list : take (r .count) out ≡ fastCoveringFor c (boundOf g)
   pub missing : (n : ℕ) → covers (boundOf g) n ≡ true → covers (take (r .count) out) n ≡ true
   pub apart : Apart (take (r .count) out)

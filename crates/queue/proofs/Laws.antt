@@ -10,13 +10,13 @@ use Rattle.order.proofs.HeapSteps.{pushed-out, popped-out}
 use Rattle.order.proofs.Queues.{heap-queue}
 use Rattle.queue.specs.declared.Rec.{Rec}
 use Rattle.queue.specs.declared.Rule.{Rule}
-use Rattle.queue.specs.Queue.{getR, putR, capR, before, pushR, popR, Held, nextR}
+use Rattle.queue.specs.Queue.{getR, putR, capR, before, pushR, popR, InQueue, nextR}
 use Rattle.queue.proofs.Mem.{store, order}
 
 -- the records in memory are a queue: the sorted list of them by the rule's order, least first
-pub held : (w : Rule) → Queue (before w) getR capR (Held w) (pushR w) nextR (popR w)
-unfolding Held nextR
-held w = heap-queue getR putR (before w) capR (order w) store
+pub in-queue : (w : Rule) → Queue (before w) getR capR (InQueue w) (pushR w) nextR (popR w)
+unfolding InQueue nextR
+in-queue w = heap-queue getR putR (before w) capR (order w) store
 
 -- words from 3 * bound on are as they were
 pub putR-out : (bound : ℕ) (m : List ℕ) (i : ℕ) (r : Rec) → i < bound → drop (3 * bound) (putR m i r) ≡ drop (3 * bound) m

@@ -49,10 +49,10 @@ popR w = popped getR putR (before w)
 abbrev pub lesserR : Rule → List ℕ → ℕ → ℕ → ℕ
 lesserR w = lesser getR putR (before w)
 
--- the n records of m are the queue q, the next one first. An engine knows no more of its queue than that it is one (proofs/Laws `held`): how the records
--- stand in memory is this definition's matter alone.
-unfoldable pub Held : Rule → List ℕ → ℕ → List Rec → Type 0
-Held w = Heap getR (before w)
+-- the n records of m are the queue q, the next one first. Of its queue an engine knows that it is one (proofs/Laws `in-queue`), that a record takes three of the
+-- first words, and that its moves leave the others alone (`push-out`, `pop-out`, `getR-out`); that it is a heap is this definition's matter alone.
+unfoldable pub InQueue : Rule → List ℕ → ℕ → List Rec → Type 0
+InQueue w = Heap getR (before w)
 
 -- the record that a step takes, of n + 1
 unfoldable pub nextR : List ℕ → ℕ → Rec

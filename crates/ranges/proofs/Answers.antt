@@ -98,10 +98,11 @@ answer-done good l out n r out' e h w =
     let q = looked-done good l n e in
     rw (result-good good l (length out) (q .0)) (answered-done 26 l out n r out' (q .1) h w)
 
--- the same by two tests: whether the input is good, and whether there is room
+-- an output of two places an id has room for a list's pairs
 pub room-sure : (ids : List ℕ) (room : ℕ) → length ids ≤ room / 2 → true ≡ leb (length (pairsOf ids)) room
 room-sure ids room h = sym (le-leb (length (pairsOf ids)) room (omega (arith, pairs-short ids)))
 
+-- the same by two tests: whether the input is good, and whether there is room
 module _ (b good : Bool) (l out : List ℕ) (e : b ≡ good) where
   pub tested-bad : b ≡ false → Answered (resultOf good l (length out)) (Answer.Refused 25) out out
   tested-bad t = rw (result-bad good l (length out) (sym e ∙ t)) (answered-refused 25 out)
@@ -115,21 +116,21 @@ module _ (b good : Bool) (l out : List ℕ) (e : b ≡ good) where
 
 -- ---- each answer exactly when paper 02 says so
 
-pub data Told (good : Bool) (l : List ℕ) (room : ℕ) : Result → Type 0 where
-  bad : good ≡ false → Told good l room (refused 25)
-  fine : {R : Result} → good ≡ true → Fitted 26 l room R → Told good l room R
+pub data Due (good : Bool) (l : List ℕ) (room : ℕ) : Result → Type 0 where
+  bad : good ≡ false → Due good l room (refused 25)
+  fine : {R : Result} → good ≡ true → Fitted 26 l room R → Due good l room R
 
-told : (good : Bool) (l : List ℕ) (room : ℕ) → Told good l room (resultOf good l room)
+due : (good : Bool) (l : List ℕ) (room : ℕ) → Due good l room (resultOf good l room)
 unfolding resultOf
-told false l room = bad refl
-told true l room = fine refl (fitted→ 26 l room)
+due false l room = bad refl
+due true l room = fine refl (fitted→ 26 l room)
 
-given : (good : Bool) (l : List ℕ) (room : ℕ) (R : Result) → Told good l room R → resultOf good l room ≡ R
+given : (good : Bool) (l : List ℕ) (room : ℕ) (R : Result) → Due good l room R → resultOf good l room ≡ R
 given good l room _ (bad e) = result-bad good l room e
 given good l room R (fine e F) = result-good good l room e ∙ fitted← 26 l room R F
 
-pub exactly-when : (good : Bool) (l : List ℕ) (room : ℕ) (R : Result) → (resultOf good l room ≡ R) ↔ Told good l room R
-exactly-when good l room R = (λ e. subst (Told good l room) e (told good l room), given good l room R)
+pub exactly-when : (good : Bool) (l : List ℕ) (room : ℕ) (R : Result) → (resultOf good l room ≡ R) ↔ Due good l room R
+exactly-when good l room R = (λ e. subst (Due good l room) e (due good l room), given good l room R)
 
 -- ---- what a caller may read
 

@@ -13,10 +13,6 @@ use Rattle.ranges.specs.declared.Answer.{Answer}
 abbrev pub leaves : ℕ
 leaves = 6 * 2 ^ 60
 
--- the six faces, which have them all
-abbrev pub faces : List ℕ
-faces = 0x1000000000000000 ∷ 0x3000000000000000 ∷ 0x5000000000000000 ∷ 0x7000000000000000 ∷ 0x9000000000000000 ∷ 0xb000000000000000 ∷ []
-
 -- ---- a list's pairs: one word after another, first, last, first, last
 
 -- "neighbouring pairs joined when the next first is the last plus 2"

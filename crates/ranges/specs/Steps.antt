@@ -1,4 +1,5 @@
--- The loops' own numbers and lists: what one look tells, a list's pairs one after another, and the largest cell that can begin at a leaf.
+-- What the loops count on: private contracts only, nothing here need be believed. What one look tells, a list's pairs one after another, and the largest cell
+-- that can begin at a leaf.
 use mathlib.Core.Bool.{Bool, true, false}
 use mathlib.Core.List.{List, [], _∷_}
 use Prim.Native.Nat.{ℕ, _/_, min}

@@ -1,5 +1,6 @@
 // Lists of cells as pairs of first and last leaf, and back. A stretch of leaves [s, e) is given by leaf numbers; leaf number n has the id 2n + 1.
-// Each way takes a pass that looks and one that writes: what is refused leaves the output as it was, so nothing is written before all is seen.
+// Each way takes a pass that looks and one that writes, and between them one that counts where a list's length doesn't tell that there is room: what is
+// refused leaves the output as it was, so nothing is written before all is seen.
 ghost use mathlib.Core.Path.{_≡_};
 ghost use mathlib.Core.Bool.{true};
 ghost use Prim.Native.Nat.{_+_, _-_, _*_, _^_, _≤_, _<_};

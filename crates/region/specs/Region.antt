@@ -3,8 +3,8 @@ use Prim.Native.Nat.{ℕ}
 use mathlib.Core.Bool.{Bool, _&&_, _||_}
 use mathlib.Core.List.{List}
 use lib.Ieee.{le}
+use lib.Ieee.Scale.{finite}
 use Rattle.cellid.specs.CellId.{validId, holds}
-use Rattle.point.specs.Floats.{isFinite}
 use Rattle.point.specs.Vector.{isUnit}
 use Rattle.point.specs.ChordAngle.{straight}
 use Rattle.cell.specs.Cell.{cellOf, capBound}
@@ -16,9 +16,9 @@ use Rattle.region.specs.declared.Region.{Region}
 -- "a cap's centre is finite and meets the crate's is_unit; its radius is finite and at most 4 (negative means empty, as in the crate; minus zero is zero)"
 unfoldable pub capInDomain : Cap → Bool
 capInDomain c =
-    isFinite (c .center .x)
-    && (isFinite (c .center .y)
-    && (isFinite (c .center .z) && (isUnit (c .center) && (isFinite (c .radius) && le (c .radius) straight))))
+    finite (c .center .x)
+    && (finite (c .center .y)
+    && (finite (c .center .z) && (isUnit (c .center) && (finite (c .radius) && le (c .radius) straight))))
 
 -- "a cell is a valid id"
 unfoldable pub inDomain : Region → Bool

@@ -4,9 +4,9 @@ ghost use mathlib.Core.Path.{_≡_};
 ghost use mathlib.Core.Bool.{true, _||_};
 ghost use mathlib.Core.List.{_++_};
 ghost use Prim.Native.Nat.{ℕ, _+_, _-_, _*_, _<_};
+ghost use lib.Ieee.Scale.{finite};
 ghost use lib.ListN.{length, replicate};
 ghost use Rattle.cellid.specs.CellId.{Cell, validId, levelOf, childOf, holds, one};
-ghost use Rattle.point.specs.Floats.{isFinite};
 ghost use Rattle.cell.specs.Cell.{cellOf, capBound};
 ghost use Rattle.cap.specs.Bound.{unionBound, inSix};
 ghost use Rattle.cap.specs.Siblings.{looksOf};
@@ -20,8 +20,9 @@ pub enum Region {
     Cell(u64),
 }
 
+// Neither an infinity nor a NaN.
 pub fn is_finite(x: f64) -> bool
-    ensures { λ r. ⌜ r ≡ isFinite x ⌝ }
+    ensures { λ r. ⌜ r ≡ finite x ⌝ }
 {
     let top = 1.0 / 0.0;
     if -top < x {

@@ -9,7 +9,6 @@ use native.Mathlib.Nat.{zero-min, min-zero, suc-min-suc}
 use lib.ListN.{length, take, drop, length-append, length-take}
 use lib.Seq.{take-append-seam}
 use borrow.Author.Tests.{eq-eqb, ne-eqb}
-use Rattle.run.specs.Run as Run
 use Rattle.covering.specs.declared.Answer.{Answer}
 use Rattle.covering.proofs.Table.{Sound, result-sound}
 use Rattle.covering.specs.Covering.{Result, barred, refused, done, resultOf, answerOf, memoryAfter, outputAfter, Answered}

@@ -42,6 +42,7 @@ fn answer_run(q: Asked, mem: &mut [u64], out: &mut [u64]) -> Answer
     covering::respond(kind, coverer, region, allowance_of(q.allowance), mem, out)
 }
 
+// The lesser of two lengths.
 pub fn lesser(a: usize, b: usize) -> usize
     ensures { λ r. ⌜ r ≡ min a b ⌝ }
 {

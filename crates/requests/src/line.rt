@@ -106,9 +106,9 @@ fn point_of(x: u64, y: u64, z: u64) -> Point
     ensures { λ r. ⌜ r ≡ pointOf x y z ⌝ }
 {
     Point {
-        x: text::float_of_bits(x),
-        y: text::float_of_bits(y),
-        z: text::float_of_bits(z),
+        x: point::float_of_bits(x),
+        y: point::float_of_bits(y),
+        z: point::float_of_bits(z),
     }
 }
 
@@ -119,7 +119,7 @@ pub fn cap_of(x: u64, y: u64, z: u64, r: u64) -> Cap
     let center = point_of(x, y, z);
     Cap {
         center,
-        radius: text::float_of_bits(r),
+        radius: point::float_of_bits(r),
     }
 }
 

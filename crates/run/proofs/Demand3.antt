@@ -1,9 +1,9 @@
 -- Demand 3, from what every state keeps (Ground).
 use mathlib.Core.Path.{_≡_, refl, sym, ap, _∙_, subst}
 use mathlib.Core.Bool.{Bool, true, false, true≢false}
-use mathlib.Core.Logic.{_≢_, ⊎-elim}
-use mathlib.Core.List.{List, [], _∷_, _++_, map}
-use Prim.Native.Nat.{ℕ, _+_, _-_, _*_, _≤_, _<_}
+use mathlib.Core.Logic.{⊎-elim}
+use mathlib.Core.List.{List, [], _∷_, _++_}
+use Prim.Native.Nat.{ℕ, _+_, _*_, _≤_, _<_}
 use native.Mathlib.Omega.{arith}
 use lib.Dec.{leb, eqb}
 use lib.ListN.{length, getD}
@@ -13,12 +13,12 @@ use Rattle.cellid.proofs.Laws.{no-true, one-le}
 use Rattle.cellid.proofs.Leaves.{contains-leaves, holds-level}
 use Rattle.order.specs.Order.{All}
 use Rattle.run.specs.Run.{Grown, State, after, going, placed, rawIds, run, sumOf, Task, _by_}
-use Rattle.run.specs.Ground.{Aside, Beneath, Step, Disjoint, Domain, Fit, RawCell, Tiles, cellsOf, grownFrom, timesCovered, PassesFrom}
+use Rattle.run.specs.Ground.{Aside, Beneath, Step, Disjoint, Domain, Fit, RawCell, Tiles, allCells, grownFrom, timesCovered, PassesFrom}
 use Rattle.order.proofs.OrderLaws.{all-append, which, all-weak, all-get}
-use Rattle.run.proofs.Lists.{Fares, sum-append, sum-map, all-map, all-drop, all-with, term-le, rel-le, rel-eq, Holds, Rel}
+use Rattle.run.proofs.Lists.{Fares, sum-append, sum-map, all-map, all-back, all-with, term-le, rel-le, rel-eq, Holds, Rel}
 use Rattle.run.proofs.Steps.{run-ends}
 use Rattle.run.proofs.Ground.{Additive, Kept, Inv, after-ok}
-use Rattle.run.proofs.Leaves.{leaves-add, leaves-pos, has-leaf-add, one-true, disjoint-of, disjoint-holding, parent-of-leaf}
+use Rattle.run.proofs.Leaves.{leaves-add, leaves-pos, has-leaf-add, one-true, disjoint-of, disjoint-once, parent-of-leaf}
 use Rattle.run.proofs.Starts.{sel, sel-add, sel-none, sel-zero, at-start, at-add, sum-from, sum-start, past-end, past-none, sum-placed, held-le, all-from}
 
 -- ---- one state
@@ -30,8 +30,8 @@ module _ (T : Task) (D : Domain (T .asked)) (lt : Grown → Grown → Bool) (sta
 
   measure : (n : ℕ) (s : State) → after (T by lt) starts n ≡ going s → (f : ℕ → ℕ)
       → ((id L p : ℕ) → IsCell id L p → L < 30 → f (childOf id 0) + (f (childOf id 1) + (f (childOf id 2) + f (childOf id 3))) ≡ f id)
-      → (i : ℕ) → i < length starts → Rel (T .asked .inner) (sumOf f (grownFrom i (cellsOf s))) (f (getD starts i 0))
-  unfolding cellsOf
+      → (i : ℕ) → i < length starts → Rel (T .asked .inner) (sumOf f (grownFrom i (allCells s))) (f (getD starts i 0))
+  unfolding allCells
   measure n s e f A i h =
       let w : Grown → ℕ = λ c. at-start i f (c .from) (c .id) in
       let I = sums n s e (at-start i f) (at-add i f A) in
@@ -42,16 +42,16 @@ module _ (T : Task) (D : Domain (T .asked)) (lt : Grown → Grown → Bool) (sta
       ap (λ (j : ℕ). sumOf (λ (c : Grown). at-start j f (c .from) (c .id)) (placed 0 starts)) z ∙ sum-start f 0 starts i h in
       rw (a, ← b) (I .sum)
 
-  ids : (n : ℕ) (s : State) → after (T by lt) starts n ≡ going s → All (λ (c : Grown). Cell (c .id)) (cellsOf s)
-  unfolding cellsOf
+  ids : (n : ℕ) (s : State) → after (T by lt) starts n ≡ going s → All (λ (c : Grown). Cell (c .id)) (allCells s)
+  unfolding allCells
   ids n s e =
       let I = sums n s e (λ i id. 0) (λ i id L p c l. refl) in
       all-append _ (s .raw) (s .queue ++ s .aside) (all-weak _ _ (s .raw) (λ c k. (_, _, k .fit .cell)) (I .raw))
       (all-append _ (s .queue) (s .aside) (all-weak _ _ (s .queue) (λ c k. (_, _, k .fit .cell)) (I .queue)) (all-weak _ _ (s .aside) (λ c k. (_, _, k .cell)) (I .aside)))
 
   -- the place that each cell carries is that of a start cell
-  places : (n : ℕ) (s : State) → after (T by lt) starts n ≡ going s → All (λ (c : Grown). c .from < length starts) (cellsOf s)
-  unfolding cellsOf
+  places : (n : ℕ) (s : State) → after (T by lt) starts n ≡ going s → All (λ (c : Grown). c .from < length starts) (allCells s)
+  unfolding allCells
   places n s e =
       let w : Grown → ℕ = λ c. past-end (length starts) leavesOf (c .from) (c .id) in
       let I = sums n s e (past-end (length starts) leavesOf) (λ j id L p c l. sel-add (leb (length starts) j) _ _ _ _ _ (leaves-add id L p c l)) in
@@ -62,30 +62,30 @@ module _ (T : Task) (D : Domain (T .asked)) (lt : Grown → Grown → Bool) (sta
 
   -- each leaf of a cell lies under the start cell that the cell grew from
   leaves-beneath : (n : ℕ) (s : State) → after (T by lt) starts n ≡ going s → (c : Grown) → c .from < length starts
-      → ((w : Grown → ℕ) → w c ≤ sumOf w (cellsOf s)) → (m : ℕ) → hasLeaf (c .id) m ≡ true → hasLeaf (getD starts (c .from) 0) m ≡ true
+      → ((w : Grown → ℕ) → w c ≤ sumOf w (allCells s)) → (m : ℕ) → hasLeaf (c .id) m ≡ true → hasLeaf (getD starts (c .from) 0) m ≡ true
   unfolding one sel
   leaves-beneath n s e c h t m k =
       let f : ℕ → ℕ = λ id. one (hasLeaf id m) in
       let r = rel-le (T .asked .inner) _ _ (measure n s e f (has-leaf-add m) (c .from) h) in
       let u = t (λ (d : Grown). at-start (c .from) f (d .from) (d .id)) in
       let v : sel (eqb (c .from) (c .from)) (one (hasLeaf (c .id) m)) ≡ 1 = rw (eq-eqb (c .from) (c .from) refl, k) in
-      one-true (hasLeaf (getD starts (c .from) 0) m) (omega (arith, sum-from (c .from) f (cellsOf s)))
+      one-true (hasLeaf (getD starts (c .from) 0) m) (omega (arith, sum-from (c .from) f (allCells s)))
 
-  pub beneath-after : (n : ℕ) (s : State) → after (T by lt) starts n ≡ going s → All (Beneath starts) (cellsOf s)
+  pub beneath-after : (n : ℕ) (s : State) → after (T by lt) starts n ≡ going s → All (Beneath starts) (allCells s)
   beneath-after n s e =
-      let all = all-with _ _ (cellsOf s) (places n s e) (all-with _ _ (cellsOf s) (ids n s e) (term-le (cellsOf s))) in
-      all-weak _ (Beneath starts) (cellsOf s) (λ c k. record {
+      let all = all-with _ _ (allCells s) (places n s e) (all-with _ _ (allCells s) (ids n s e) (term-le (allCells s))) in
+      all-weak _ (Beneath starts) (allCells s) (λ c k. record {
         from = k .0;
         inside = contains-leaves (getD starts (c .from) 0) (c .id) (_, _, all-get (Fit (T .asked)) starts 0 (c .from) (k .0) ok .cell) (k .1 .0) .1 (leaves-beneath n s e c (k .0) (k .1 .1));
       }) all
 
   -- inner and outer: what grew from one start cell does not overlap
-  pub disjoint-after : (n : ℕ) (s : State) → after (T by lt) starts n ≡ going s → (i : ℕ) → i < length starts → Disjoint (grownFrom i (cellsOf s))
+  pub disjoint-after : (n : ℕ) (s : State) → after (T by lt) starts n ≡ going s → (i : ℕ) → i < length starts → Disjoint (grownFrom i (allCells s))
   unfolding timesCovered
-  disjoint-after n s e i h = disjoint-of (grownFrom i (cellsOf s)) (all-from Cell i (cellsOf s) (ids n s e))
+  disjoint-after n s e i h = disjoint-of (grownFrom i (allCells s)) (all-from Cell i (allCells s) (ids n s e))
       (λ m. let r = rel-le (T .asked .inner) _ _ (measure n s e (λ id. one (hasLeaf id m)) (has-leaf-add m) i h) in omega (arith, one-le (hasLeaf (getD starts i 0) m)))
 
-  pub tiles-after : T .asked .inner ≡ false → (n : ℕ) (s : State) → after (T by lt) starts n ≡ going s → (i : ℕ) → i < length starts → Tiles (getD starts i 0) (grownFrom i (cellsOf s))
+  pub tiles-after : T .asked .inner ≡ false → (n : ℕ) (s : State) → after (T by lt) starts n ≡ going s → (i : ℕ) → i < length starts → Tiles (getD starts i 0) (grownFrom i (allCells s))
   unfolding timesCovered
   tiles-after o n s e i h = record {
     apart = disjoint-after n s e i h;
@@ -94,16 +94,20 @@ module _ (T : Task) (D : Domain (T .asked)) (lt : Grown → Grown → Bool) (sta
   }
 
   pub aside-after : (n : ℕ) (s : State) → after (T by lt) starts n ≡ going s → All (Aside T starts) (s .aside)
-  unfolding cellsOf
+  unfolding allCells
   aside-after n s e =
       let I = sums n s e (λ i id. 0) (λ i id L p c l. refl) in
-      let b = all-drop (Beneath starts) (s .queue) (s .aside) (all-drop (Beneath starts) (s .raw) (s .queue ++ s .aside) (beneath-after n s e)) in
+      let b = all-back (Beneath starts) (s .queue) (s .aside) (all-back (Beneath starts) (s .raw) (s .queue ++ s .aside) (beneath-after n s e)) in
       all-weak _ (Aside T starts) (s .aside) (λ c k. record { no = k .0 .no; high = k .0 .high; start = k .1 }) (all-with _ _ (s .aside) (I .aside) b)
 
   pub levels-after : (n : ℕ) (s : State) → after (T by lt) starts n ≡ going s → All (RawCell T) (s .raw)
   levels-after n s e =
       let I = sums n s e (λ i id. 0) (λ i id L p c l. refl) in
       all-weak _ _ (s .raw) (λ c k. record { low = k .low; high = k .fit .high; on = k .fit .on; inside = k .inside }) (I .raw)
+
+  pub raw-cells-after : (n : ℕ) (s : State) → after (T by lt) starts n ≡ going s → All Cell (rawIds s)
+  unfolding rawIds
+  raw-cells-after n s e = all-map (λ (c : Grown). c .id) Cell (s .raw) (all-weak _ _ (s .raw) (λ c k. (_, _, k .fit .cell)) (sums n s e (λ i id. 0) (λ i id L p c l. refl) .raw))
 
 -- ---- a leaf that is not lost
 
@@ -161,6 +165,9 @@ module _ (T : Task) (D : Domain (T .asked)) (lt : Grown → Grown → Bool) (sta
   pub raw-kept : All (λ (c : Grown). Kept T (c .id)) (s .raw)
   raw-kept = sums T D lt starts ok (s .steps) s (run-ends T lt starts a s done .last) (λ i id. 0) (λ i id L p c l. refl) .raw
 
+  pub raw-cells : All Cell (rawIds s)
+  raw-cells = raw-cells-after T D lt starts ok (s .steps) s (run-ends T lt starts a s done .last)
+
   pub raw-levels : All (RawCell T) (s .raw)
   raw-levels = levels-after T D lt starts ok (s .steps) s (run-ends T lt starts a s done .last)
 
@@ -170,10 +177,9 @@ module _ (T : Task) (D : Domain (T .asked)) (lt : Grown → Grown → Bool) (sta
   pub raw-disjoint : (n : ℕ) (s : State) → after (T by lt) starts n ≡ going s → Disjoint (rawIds s)
   unfolding rawIds timesCovered
   raw-disjoint n s e =
-      let J = sums T D lt starts ok n s e (λ i id. 0) (λ i id L p c l. refl) in
-      disjoint-of (map (λ (c : Grown). c .id) (s .raw)) (all-map (λ (c : Grown). c .id) Cell (s .raw) (all-weak _ _ (s .raw) (λ c k. (_, _, k .fit .cell)) (J .raw)))
+      disjoint-of (rawIds s) (raw-cells-after T D lt starts ok n s e)
       (λ m.
       let f : ℕ → ℕ = λ id. one (hasLeaf id m) in
       let I = sums T D lt starts ok n s e (λ i id. one (hasLeaf id m)) (λ i id L p c l. has-leaf-add m id L p c l) in
       let r = rel-le (T .asked .inner) _ _ (I .sum) in
-      omega (arith, sum-map (λ (c : Grown). c .id) f (s .raw), sum-placed f 0 starts, disjoint-holding starts (all-weak _ _ starts (λ x F. (_, _, F .cell)) ok) apart m))
+      omega (arith, sum-map (λ (c : Grown). c .id) f (s .raw), sum-placed f 0 starts, disjoint-once starts (all-weak _ _ starts (λ x F. (_, _, F .cell)) ok) apart m))

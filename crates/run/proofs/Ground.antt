@@ -7,15 +7,15 @@ use native.Mathlib.Nat.{add-mod-right, zero-mod, zero-add}
 use native.Mathlib.Omega.{arith}
 use lib.Dec.{leb, ltb, eqb}
 use lib.ListN.{length}
-use borrow.Author.Tests.{ltb-true, ltb-false, leb-true}
+use borrow.Author.Tests.{ltb-true, ltb-false, leb-true, not-true}
 use Rattle.cellid.specs.CellId.{IsCell, childOf, levelOf, placeOf}
 use Rattle.cellid.proofs.Laws.{level-cell, and-true, or-false}
 use Rattle.cellid.proofs.Leaves.{child-cell}
 use Rattle.order.specs.Order.{All}
 use Rattle.run.specs.Run.{Child, Expansion, Grown, Look, State, add, addAll, after, depth, divide, ending, enqueue, expand, fails, fourOf, full, isHandedOn, isEmpty, isFull, join, keep, lifts, look, none, nothing, placed, reached, setAside, startAll, startAs, step, stepOn, stepWith, sumOf, terminal, expansionOf, Task, minLevel, maxLevel, levelMod, maxCells, queueMost, rawMost, part, _by_, failing}
-use Rattle.run.specs.Ground.{Domain, Fit, wanted, ChildOk, Queued}
+use Rattle.run.specs.Ground.{Domain, Fit, lookFor, ChildOk, Queued}
 use Rattle.order.proofs.OrderLaws.{all-append}
-use Rattle.run.proofs.Lists.{Fares, sum-append, sum-map, sum-insert, all-map, all-insert, Holds, then-ok, if-ok, empty-nil, not-true, Rel, rel-refl, rel-trans, rel-add, rel-less, rel-same}
+use Rattle.run.proofs.Lists.{Fares, sum-append, sum-map, sum-insert, all-map, all-insert, Holds, then-ok, if-ok, empty-nil, Rel, rel-refl, rel-trans, rel-add, rel-less, rel-same}
 use Rattle.run.proofs.Looks.{MeansBy, Means, look-means, canon}
 
 -- a measure of cells, with the place of the start cell, that is the sum of its four children's
@@ -121,9 +121,9 @@ pub high-on : (L m k : ℕ) → m ≤ L → (L - m) % k ≡ 0 → ((L + k) - m) 
 high-on L m k h e = let s : (L + k) - m ≡ (L - m) + k = omega arith in rw s (add-mod-right (L - m) k ∙ e)
 
 module _ (T : Task) (D : Domain (T .asked)) (lt : Grown → Grown → Bool) (F : ℕ → ℕ → ℕ) (A : Additive F) where
-  pub under-ok : (i id : ℕ) → Queued T id → ExpOk T (F i) (expansionOf T id) (F i id)
+  pub expansion-ok : (i id : ℕ) → Queued T id → ExpOk T (F i) (expansionOf T id) (F i id)
   unfolding expansionOf depth MeansBy
-  under-ok i id Q =
+  expansion-ok i id Q =
       let m : Means T id divide = look-means T id divide (Q .seen) in
       let c = Q .fit .cell in
       if-ok (λ (n : ℕ). ExpOk T (F i) (expand T n id) (F i id)) (ltb (levelOf id) (minLevel (T .asked))) 1 (levelMod (T .asked))
@@ -203,7 +203,7 @@ module _ (T : Task) (D : Domain (T .asked)) (lt : Grown → Grown → Bool) (F :
   unfolding add Fares sumOf lifts
   add-open N w c s Q I =
       let e = expansionOf T (c .id) in
-      let x = under-ok (c .from) (c .id) Q in
+      let x = expansion-ok (c .from) (c .id) Q in
       if-ok (Holds (Inv N w)) (isEmpty (e .children)) _ _
       (λ t.
       let n : e .children ≡ [] = empty-nil (e .children) t in
@@ -217,7 +217,7 @@ module _ (T : Task) (D : Domain (T .asked)) (lt : Grown → Grown → Bool) (F :
       keep-ok N w c s (kept-parent (c .id) Q (not-true (T .asked .inner) (a .0)) (leb-true _ _ (b .0))) I)
       (λ u. enqueue-ok N w c s Q I))
 
-  add-ok : (N w : ℕ) (c : Grown) (b : Bool) (s : State) → Fit (T .asked) (c .id) → look T (c .id) ≡ wanted b → Inv N (weight c + w) s → Holds (Inv N w) (add (T by lt) c b s)
+  add-ok : (N w : ℕ) (c : Grown) (b : Bool) (s : State) → Fit (T .asked) (c .id) → look T (c .id) ≡ lookFor b → Inv N (weight c + w) s → Holds (Inv N w) (add (T by lt) c b s)
   unfolding add
   add-ok N w c true s f e I = keep-ok N w c s (kept-terminal (c .id) f e) I
   add-ok N w c false s f e I = add-open N w c s (record { fit = f; seen = e }) I
@@ -242,7 +242,7 @@ module _ (T : Task) (D : Domain (T .asked)) (lt : Grown → Grown → Bool) (F :
   unfolding stepWith Fares All sumOf isHandedOn
   step-with N c s Q I =
       let e = expansionOf T (c .id) in
-      let x = under-ok (c .from) (c .id) Q in
+      let x = expansion-ok (c .from) (c .id) Q in
       if-ok (Holds (Inv N 0)) (isFull (T .asked) s) _ _
       (λ t. record {
         sum = rel-less (T .asked .inner) _ _ N (full-inner s t) (omega arith) (I .sum);

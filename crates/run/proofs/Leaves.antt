@@ -1,7 +1,7 @@
 -- Leaves: the leaf count and "the leaf n lies under" are additive measures of cells; cells that share no leaf don't overlap.
 use mathlib.Core.Path.{_≡_, refl, sym, ap, _∙_}
 use mathlib.Core.Bool.{Bool, true, false, _&&_, true≢false}
-use mathlib.Core.Logic.{_⊎_, ⊎-elim, _≢_}
+use mathlib.Core.Logic.{⊎-elim}
 use mathlib.Core.List.{List, [], _∷_}
 use Prim.Native.Nat.{ℕ, zero, suc, _+_, _-_, _*_, _/_, _%_, _≤_, _<_}
 use native.Mathlib.Nat.{div-div-eq-div-mul, mul-comm, mul-left-comm}
@@ -104,10 +104,10 @@ none-else a n (b ∷ l) c k h d =
     let r : sumOf (λ y. one (hasLeaf y n)) l ≡ 0 = none-else a n l c (k .1) h (d .1) in
     rw z (omega arith)
 
-pub disjoint-holding : (l : List ℕ) → All Cell l → Disjoint l → (n : ℕ) → timesCovered l n ≤ 1
+pub disjoint-once : (l : List ℕ) → All Cell l → Disjoint l → (n : ℕ) → timesCovered l n ≤ 1
 unfolding timesCovered sumOf Disjoint All one
-disjoint-holding [] c d n = omega arith
-disjoint-holding (a ∷ l) c d n = ⊎-elim
+disjoint-once [] c d n = omega arith
+disjoint-once (a ∷ l) c d n = ⊎-elim
     (λ (t : hasLeaf a n ≡ true). let r : sumOf (λ y. one (hasLeaf y n)) l ≡ 0 = none-else a n l (c .0) (c .1) t (d .0) in rw (t, r) (omega arith))
-    (λ (t : hasLeaf a n ≡ false). let r : sumOf (λ y. one (hasLeaf y n)) l ≤ 1 = disjoint-holding l (c .1) (d .1) n in rw t (omega arith))
+    (λ (t : hasLeaf a n ≡ false). let r : sumOf (λ y. one (hasLeaf y n)) l ≤ 1 = disjoint-once l (c .1) (d .1) n in rw t (omega arith))
     (which (hasLeaf a n))

@@ -1,11 +1,10 @@
 -- Sums and facts over lists, and over outcomes.
 use mathlib.Core.Path.{_≡_, refl, sym, ap, _∙_}
-use mathlib.Core.Bool.{Bool, true, false, _||_, not, true≢false}
-use mathlib.Core.Logic.{_⊎_, ⊎-elim}
+use mathlib.Core.Bool.{Bool, true, false, true≢false}
+use mathlib.Core.Logic.{⊎-elim}
 use mathlib.Core.List.{List, [], _∷_, _++_, map}
-use Prim.Native.Nat.{ℕ, zero, suc, _+_, _-_, _≤_, _<_}
+use Prim.Native.Nat.{ℕ, _+_, _≤_}
 use native.Mathlib.Omega.{arith}
-use lib.ListN.{length, getD}
 use Rattle.order.specs.Order.{insert, All}
 use Rattle.order.proofs.OrderLaws.{which, insert-past, insert-front, all-weak}
 use Rattle.run.specs.Run.{Outcome, State, going, isEmpty, refused, sumOf, then}
@@ -68,10 +67,6 @@ unfolding isEmpty
 empty-nil [] e = refl
 empty-nil (x ∷ l) e = absurd (true≢false (sym e))
 
-pub not-true : (a : Bool) → not a ≡ true → a ≡ false
-not-true true e = absurd (true≢false (sym e))
-not-true false e = refl
-
 -- equal, and in an inner run at most
 unfoldable pub Rel : Bool → ℕ → ℕ → Type 0
 Rel true a b = a ≤ b
@@ -100,10 +95,10 @@ rel-less false a b c e h k = absurd (true≢false (sym e))
 pub rel-same : (i : Bool) (a b c : ℕ) → a ≡ b → Rel i b c → Rel i a c
 rel-same i a b c e h = rw e h
 
-pub all-drop : {A : Type 0} (P : A → Type 0) (l r : List A) → All P (l ++ r) → All P r
+pub all-back : {A : Type 0} (P : A → Type 0) (l r : List A) → All P (l ++ r) → All P r
 unfolding All
-all-drop P [] r a = a
-all-drop P (x ∷ l) r a = all-drop P l r (a .1)
+all-back P [] r a = a
+all-back P (x ∷ l) r a = all-back P l r (a .1)
 
 -- no term is more than the sum
 pub term-le : {A : Type 0} (l : List A) → All (λ c. (w : A → ℕ) → w c ≤ sumOf w l) l

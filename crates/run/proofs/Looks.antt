@@ -1,7 +1,7 @@
--- What the look at a cell says, and cells under cells.
+-- What the look at a cell says, how deep an expansion goes, and a cell by its own level and place.
 use mathlib.Core.Path.{_≡_, refl, sym, ap, _∙_, subst}
 use mathlib.Core.Bool.{Bool, true, false, true≢false}
-use Prim.Native.Nat.{ℕ, _+_, _-_, _≤_, _<_}
+use Prim.Native.Nat.{ℕ, _+_, _≤_, _<_}
 use lib.Dec.{ltb}
 use Rattle.cellid.specs.CellId.{IsCell, levelOf, placeOf}
 use Rattle.cellid.proofs.Laws.{level-cell, place-id}
@@ -92,7 +92,7 @@ pub depth-high : (q : Request) (id : ℕ) → minLevel q ≤ levelOf id → dept
 unfolding depth
 depth-high q id l = rw (le-ltb (levelOf id) (minLevel q) l, depth)
 
--- ---- cells under cells
+-- ---- a cell by its own level and place
 
 pub canon : (id L p : ℕ) → IsCell id L p → IsCell id (levelOf id) (placeOf id)
 canon id L p c = rw (level-cell id L p c, ap placeOf (c .is) ∙ place-id L p) c

@@ -5,6 +5,7 @@ use mathlib.Core.List.{List, [], _++_, append-assoc}
 use Prim.Native.Nat.{ℕ, zero, suc, _+_, _-_, _*_, _/_, _%_, _^_, _≤_, _<_}
 use native.Mathlib.Nat.{pow-suc, mul-assoc, mul-comm, mul-left-comm, add-mul, mul-div-cancel-left, mul-suc, mul-one, mul-zero, mul-add, one-mul, div-div-eq-div-mul}
 use native.Mathlib.Omega.{arith}
+use lib.Bits.{block-half, block-odd}
 use lib.Dec.{eqb}
 use lib.Pow.{pow-pos, pow-add}
 use lib.Arith.{digits-lt}
@@ -34,12 +35,6 @@ unfolding childrenIn consIf
 list-none g zero t b = refl
 list-none g (suc w) t b = list-none g w (t / 2) (suc b)
 
-half : (h w l : ℕ) → (h * 2 ^ suc w + l) / 2 ≡ h * 2 ^ w + l / 2
-half h w l = let e : h * 2 ^ suc w ≡ (h * 2 ^ w) * 2 = ap (λ (n : ℕ). h * n) (pow-suc 2 w) ∙ sym (mul-assoc h (2 ^ w) 2) in omega arith
-
-parity : (h w l : ℕ) → (h * 2 ^ suc w + l) % 2 ≡ l % 2
-parity h w l = let e : h * 2 ^ suc w ≡ (h * 2 ^ w) * 2 = ap (λ (n : ℕ). h * n) (pow-suc 2 w) ∙ sym (mul-assoc h (2 ^ w) 2) in omega arith
-
 cons-append : {A : Type 0} (b : Bool) (x : A) (l r : List A) → consIf b x l ++ r ≡ consIf b x (l ++ r)
 unfolding consIf
 cons-append true x l r = refl
@@ -58,7 +53,7 @@ list-append g (suc w) v p t p′ t′ b h k =
     let e : b + suc w ≡ suc b + w = omega arith in
     let r : childrenIn g (w + v) (p′ * 2 ^ w + p / 2) (t′ * 2 ^ w + t / 2) (suc b) ≡ childrenIn g w (p / 2) (t / 2) (suc b) ++ childrenIn g v p′ t′ (suc b + w) =
     list-append g w v (p / 2) (t / 2) p′ t′ (suc b) (omega (arith, pow-suc 2 w)) (omega (arith, pow-suc 2 w)) in
-    rw (d, e, childrenIn, parity p′ w p, parity t′ w t, half p′ w p, half t′ w t, r) (sym (cons-append (eqb (p % 2) 1) _ (childrenIn g w (p / 2) (t / 2) (suc b)) (childrenIn g v p′ t′ (suc b + w))))
+    rw (d, e, childrenIn, block-odd p′ w p, block-odd t′ w t, block-half p′ w p, block-half t′ w t, r) (sym (cons-append (eqb (p % 2) 1) _ (childrenIn g w (p / 2) (t / 2) (suc b)) (childrenIn g v p′ t′ (suc b + w))))
 
 -- one turn of the loop over the sets
 pub list-turn : (g : ℕ → ℕ) (W p t j : ℕ) → j < W

@@ -1,8 +1,8 @@
--- The run's equations, one for each way that the code goes. K is what comes after.
+-- The run's equations, one for each way that the code goes.
 use mathlib.Core.Path.{_≡_, refl, ap}
 use mathlib.Core.Bool.{Bool, true, false}
 use mathlib.Core.List.{[], _∷_, _++_}
-use Prim.Native.Nat.{ℕ, zero, suc, _+_, _-_, _≤_, _<_}
+use Prim.Native.Nat.{ℕ, zero, suc, _≤_, _<_}
 use lib.ListN.{length}
 use borrow.Author.Tests.{lt-ltb, le-ltb}
 use Rattle.order.specs.Order.{insert}
@@ -22,7 +22,7 @@ module _ (T : Task) (lt : Grown → Grown → Bool) where
   unfolding keep
   keep-stop c s h = rw (le-ltb (length (s .raw)) rawMost h, keep)
 
-  pub enqueue-go : (c : Grown) (s : State) → length (s .queue) < rawMost → enqueue lt c s ≡ going (record { raw = s .raw; queue = insert lt c (s .queue); aside = s .aside; steps = s .steps })
+  pub enqueue-go : (c : Grown) (s : State) → length (s .queue) < queueMost → enqueue lt c s ≡ going (record { raw = s .raw; queue = insert lt c (s .queue); aside = s .aside; steps = s .steps })
   unfolding enqueue
   enqueue-go c s h = rw (lt-ltb (length (s .queue)) queueMost h, enqueue)
 

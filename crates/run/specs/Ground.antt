@@ -23,14 +23,14 @@ pub record Fit (q : Request) (id : ℕ) : Type 0 where
   pub on : (levelOf id - minLevel q) % levelMod q ≡ 0
 
 -- what a look has to say of a child that is terminal, and of one that isn't
-abbrev pub wanted : Bool → Look
-wanted true = terminal
-wanted false = divide
+abbrev pub lookFor : Bool → Look
+lookFor true = terminal
+lookFor false = divide
 
 -- a child of an expansion: a cell at a level of the run, marked as the look at it says
 pub record ChildOk (T : Task) (k : Child) : Type 0 where
   pub fit : Fit (T .asked) (k .id)
-  pub seen : look T (k .id) ≡ wanted (k .ends)
+  pub seen : look T (k .id) ≡ lookFor (k .ends)
 
 -- a queued cell: to be expanded
 pub record Queued (T : Task) (id : ℕ) : Type 0 where
@@ -38,8 +38,8 @@ pub record Queued (T : Task) (id : ℕ) : Type 0 where
   pub seen : look T id ≡ divide
 
 -- all cells of a state: kept, queued and set aside
-unfoldable pub cellsOf : State → List Grown
-cellsOf s = s .raw ++ (s .queue ++ s .aside)
+unfoldable pub allCells : State → List Grown
+allCells s = s .raw ++ (s .queue ++ s .aside)
 
 -- those grown from the start cell i
 unfoldable pub grownFrom : ℕ → List Grown → List ℕ
@@ -78,8 +78,8 @@ pub record Step (C : Course) (starts : List ℕ) (k : ℕ) : Type 0 where
   pub state : State
   pub is : after C starts k ≡ going state
   pub count : state .steps ≡ k
-  pub beneath : All (Beneath starts) (cellsOf state)
-  pub tiles : (i : ℕ) → i < length starts → Tiles (getD starts i 0) (grownFrom i (cellsOf state))
+  pub beneath : All (Beneath starts) (allCells state)
+  pub tiles : (i : ℕ) → i < length starts → Tiles (getD starts i 0) (grownFrom i (allCells state))
   pub aside : All (Aside (C .task) starts) (state .aside)
 
 -- a raw cell: its level runs from min to max in whole steps of level_mod from min; in an inner run it passed the containment test

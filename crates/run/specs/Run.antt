@@ -33,7 +33,7 @@ queueMost = 1024
 abbrev pub rawMost : ℕ
 rawMost = 1024
 
--- the words of lent memory: the queue's, three for each candidate, and a run's, with one behind them for each raw cell
+-- words of working memory: the queue's, three a candidate; and all that a run uses, a word for each raw cell behind them
 abbrev pub queueWords : ℕ
 queueWords = 3072
 
@@ -162,7 +162,7 @@ module _ (T : Task) where
   part zero c = reached c (look T c)
   part (suc n) c = elim (T .hits c) [ true ↦ fourOf (part n) c | false ↦ failing c ]
 
-  -- "The expansion goes down the asked number of levels, one level inside another", at least one
+  -- "The expansion goes down the asked number of levels, one level inside another"; by no level, which no request asks for, it is the look at the cell
   unfoldable pub expand : ℕ → ℕ → Expansion
   expand zero id = part zero id
   expand (suc n) id = fourOf (part n) id
@@ -180,6 +180,10 @@ module _ (T : Task) where
   -- "the least cost; equal costs, the smaller id"
   unfoldable pub byId : Grown → Grown → Bool
   byId a b = lexb (cost (a .id) ∷ a .id ∷ []) (cost (b .id) ∷ b .id ∷ [])
+
+  -- what the task's run goes by, in that order
+  abbrev pub byCost : Course
+  byCost = T by byId
 
 -- ---- the run
 

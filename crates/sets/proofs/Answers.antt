@@ -82,14 +82,14 @@ module _ (op : Op) (a b out : List ℕ) (x : Bool) (ex : x ≡ isPickList a) whe
 
 -- ---- each answer exactly when paper 02 says so
 
-pub data Told (op : Op) (a b : List ℕ) (room : ℕ) : Result → Type 0 where
-  first : isPickList a ≡ false → Told op a b room (refused 15)
-  second : isPickList a ≡ true → isPickList b ≡ false → Told op a b room (refused 16)
-  both : {R : Result} → isPickList a ≡ true → isPickList b ≡ true → Fitted 17 (combined op a b) room R → Told op a b room R
+pub data Due (op : Op) (a b : List ℕ) (room : ℕ) : Result → Type 0 where
+  first : isPickList a ≡ false → Due op a b room (refused 15)
+  second : isPickList a ≡ true → isPickList b ≡ false → Due op a b room (refused 16)
+  both : {R : Result} → isPickList a ≡ true → isPickList b ≡ true → Fitted 17 (combined op a b) room R → Due op a b room R
 
 module _ (op : Op) (a b : List ℕ) (room : ℕ) where
-  told : Told op a b room (setResult op a b room)
-  told = ⊎-elim
+  due : Due op a b room (setResult op a b room)
+  due = ⊎-elim
       (λ (t : isPickList a ≡ true). ⊎-elim
       (λ (u : isPickList b ≡ true). rw (result-both op a b room t u) (both t u (fitted→ 17 (combined op a b) room)))
       (λ (u : isPickList b ≡ false). rw (result-second op a b room t u) (second t u))
@@ -97,13 +97,13 @@ module _ (op : Op) (a b : List ℕ) (room : ℕ) where
       (λ (t : isPickList a ≡ false). rw (result-first op a b room t) (first t))
       (which (isPickList a))
 
-  given : (R : Result) → Told op a b room R → setResult op a b room ≡ R
+  given : (R : Result) → Due op a b room R → setResult op a b room ≡ R
   given _ (first t) = result-first op a b room t
   given _ (second t u) = result-second op a b room t u
   given R (both t u F) = result-both op a b room t u ∙ fitted← 17 (combined op a b) room R F
 
-  pub exactly-when : (R : Result) → (setResult op a b room ≡ R) ↔ Told op a b room R
-  exactly-when R = (λ e. subst (Told op a b room) e told, given R)
+  pub exactly-when : (R : Result) → (setResult op a b room ≡ R) ↔ Due op a b room R
+  exactly-when R = (λ e. subst (Due op a b room) e due, given R)
 
 -- ---- what a caller may read from a list that was given
 
@@ -113,13 +113,13 @@ pub record Given (op : Op) (a b : List ℕ) (k : ℕ) (out' : List ℕ) : Type 0
   pub count : k ≡ length (combined op a b)
   pub is : take k out' ≡ combined op a b
 
-told-list : (op : Op) (a b l : List ℕ) (room : ℕ) (R : Result) → Told op a b room R → R ≡ done l → (isPickList a ≡ true) × (isPickList b ≡ true) × (l ≡ combined op a b)
-told-list op a b l room _ (first t) e = let z : _≡_ {A = ℕ} 0 1 = cc in absurd (omega arith)
-told-list op a b l room _ (second t u) e = let z : _≡_ {A = ℕ} 0 1 = cc in absurd (omega arith)
-told-list op a b l room R (both t u F) e = (t, u, fitted-list 17 (combined op a b) l room (fitted← 17 (combined op a b) room R F ∙ e))
+due-list : (op : Op) (a b l : List ℕ) (room : ℕ) (R : Result) → Due op a b room R → R ≡ done l → (isPickList a ≡ true) × (isPickList b ≡ true) × (l ≡ combined op a b)
+due-list op a b l room _ (first t) e = let z : _≡_ {A = ℕ} 0 1 = cc in absurd (omega arith)
+due-list op a b l room _ (second t u) e = let z : _≡_ {A = ℕ} 0 1 = cc in absurd (omega arith)
+due-list op a b l room R (both t u F) e = (t, u, fitted-list 17 (combined op a b) l room (fitted← 17 (combined op a b) room R F ∙ e))
 
 pub set-written : (op : Op) (a b : List ℕ) (k : ℕ) (out out' : List ℕ) → Answered (setResult op a b (length out)) (Answer.Done k) out out' → Given op a b k out'
 set-written op a b k out out' A =
     let W = written (setResult op a b (length out)) k out out' A in
-    let q = told-list op a b (W .list) (length out) (setResult op a b (length out)) (told op a b (length out)) (W .is) in
+    let q = due-list op a b (W .list) (length out) (setResult op a b (length out)) (due op a b (length out)) (W .is) in
     record { first = q .0; second = q .1; count = W .count ∙ ap length (q .2); is = W .there ∙ q .2 }

@@ -3,7 +3,7 @@
 use mathlib.Core.Bool.{Bool, true, false, _&&_, Bool·beq}
 use mathlib.Core.List.{List, [], _∷_}
 use Prim.Native.Nat.{ℕ}
-use Rattle.ranges.specs.Ranges.{faces}
+use Rattle.cellid.specs.CellId.{sixFaces}
 use Rattle.sets.specs.Sets.{wants, combined}
 use Rattle.sets.specs.declared.Op.{Op}
 use Rattle.sets.specs.declared.Op.the-variants.{Union, Common, Difference}
@@ -18,13 +18,13 @@ pub data Made : Type 0 where
   by : Op → Made → Made → Made
 
 -- the list that is made
-unfoldable pub listOf : List ℕ → List ℕ → List ℕ → Made → List ℕ
-listOf a b c first = a
-listOf a b c second = b
-listOf a b c third = c
-listOf a b c none = []
-listOf a b c whole = faces
-listOf a b c (by op s t) = combined op (listOf a b c s) (listOf a b c t)
+unfoldable pub madeList : List ℕ → List ℕ → List ℕ → Made → List ℕ
+madeList a b c first = a
+madeList a b c second = b
+madeList a b c third = c
+madeList a b c none = []
+madeList a b c whole = sixFaces
+madeList a b c (by op s t) = combined op (madeList a b c s) (madeList a b c t)
 
 -- whether it has a leaf, by whether the three have it
 unfoldable pub test : Made → Bool → Bool → Bool → Bool

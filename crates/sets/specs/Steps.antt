@@ -1,5 +1,5 @@
--- Where the sweep stands: at the leaf p, with the cells of each list that end after it, and the stretch [s, p) of wanted leaves just before it; and which answers
--- are short.
+-- What the sweep counts on: private contracts only, nothing here need be believed. It stands at the leaf p, with the cells of each list that end after it, and
+-- the stretch [s, p) of wanted leaves just before it; and which answers are short.
 use mathlib.Core.Bool.{Bool, true, false}
 use mathlib.Core.List.{List, [], _∷_}
 use Prim.Native.Nat.{ℕ, _+_}

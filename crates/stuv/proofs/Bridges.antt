@@ -14,15 +14,15 @@ use Rattle.point.specs.Floats.{_⊕_, _⊖_, _⊗_, zeroF, halfF, oneF, absOf}
 use Rattle.point.specs.Vector.{dotOf, mulOf}
 use Rattle.point.proofs.Laws.{never}
 use Rattle.point.proofs.Exact.{times-minus}
-use Rattle.point.proofs.Numbers.{Number, nought, neg-neg, neg-number, over-one, over-minus, times-one, one-times, minus-times}
+use Rattle.point.proofs.Numbers.{Number, nought, one-fits, neg-neg, neg-number, over-one, over-minus, times-one, one-times, minus-times}
 use Rattle.point.proofs.Numbers.{nought-times, zero-is, zero-minus, sum-comm, zero-last, zero-between, zero-first, minus-self}
-use Rattle.point.proofs.Differences.{above-difference, same-above}
+use Rattle.point.proofs.Differences.{above-difference, equal-above}
 use Rattle.stuv.specs.Projection.{stToUv, uvToSt, axisOf, alongAxis, faceToward, uvAt, faceUvToXyz, xyzToFaceUv, behind, faceXyzToUv, uNorm, vNorm}
 use Rattle.stuv.specs.declared.Side.{Side}
 
 -- ---- from a face's place to a vector and back
 
--- the place (u, v) of a face is where the line through its vector meets the face, whatever u and v are
+-- the place (u, v) of a face is where the line through its vector meets the face, whatever values of the format u and v are
 pub place-back : (face : ℕ) (u v : Float) → T (fits binary64 u) → T (fits binary64 v) → uvAt face (faceUvToXyz face u v) ≡ record { u = u; v = v }
 unfolding uvAt faceUvToXyz
 place-back zero u v p q = rw (over-one u p, over-one v q)
@@ -142,10 +142,6 @@ one-neg x h = one-times (neg x) (neg-fits binary64 x h)
 minus-neg : (x : Float) → T (fits binary64 x) → neg oneF ⊗ neg x ≡ x
 minus-neg x h = minus-times (neg x) (neg-fits binary64 x h) ∙ neg-neg x
 
-one-fits : T (fits binary64 oneF)
-unfolding fits ofBits
-one-fits = tt
-
 one-minus-one : oneF ⊗ neg oneF ≡ neg oneF
 one-minus-one = times-minus oneF one-fits
 
@@ -159,7 +155,7 @@ neg-finite (inf s) h = h
 neg-finite (fin s m e) h = h
 
 -- a place's vector times the normal of the line of u is that u less the place's own
-pub u-side : (face : ℕ) (u w v : Float) → Number u → Number w → T (finite v) → eq (dotOf (uNorm face u) (faceUvToXyz face w v)) (u ⊖ w) ≡ true
+u-side : (face : ℕ) (u w v : Float) → Number u → Number w → T (finite v) → eq (dotOf (uNorm face u) (faceUvToXyz face w v)) (u ⊖ w) ≡ true
 unfolding dotOf uNorm faceUvToXyz
 u-side zero u w v p q r =
     let z = nought-times false v r in
@@ -181,7 +177,7 @@ u-side (suc (suc (suc (suc (suc n))))) u w v p q r =
     rw (zero-is, z .1, minus-times w (q .1), neg-minus u (p .1)) (0-y-x u w p q (z .0))
 
 -- a place's vector times the normal of the line of v is the place's own v less that one
-pub v-side : (face : ℕ) (v u w : Float) → Number v → T (finite u) → Number w → eq (dotOf (vNorm face v) (faceUvToXyz face u w)) (w ⊖ v) ≡ true
+v-side : (face : ℕ) (v u w : Float) → Number v → T (finite u) → Number w → eq (dotOf (vNorm face v) (faceUvToXyz face u w)) (w ⊖ v) ≡ true
 unfolding dotOf vNorm faceUvToXyz
 v-side zero v u w p r q =
     let z = nought-times false u r in
@@ -258,23 +254,23 @@ v-normal face u v r p = rw (minus-self v (p .0)) at (v-side face v u v p r p)
 
 -- the normal of the line of u points to the places with a smaller u
 pub u-inside : (face : ℕ) (u w v : Float) → Number u → Number w → T (finite v) → lt zeroF (dotOf (uNorm face u) (faceUvToXyz face w v)) ≡ lt w u
-u-inside face u w v p q r = same-above (dotOf (uNorm face u) (faceUvToXyz face w v)) (u ⊖ w) (u-side face u w v p q r) ∙ above-difference u w p q
+u-inside face u w v p q r = equal-above (dotOf (uNorm face u) (faceUvToXyz face w v)) (u ⊖ w) (u-side face u w v p q r) ∙ above-difference u w p q
 
 -- the normal of the line of v points to the places with a larger v
 pub v-inside : (face : ℕ) (v u w : Float) → Number v → T (finite u) → Number w → lt zeroF (dotOf (vNorm face v) (faceUvToXyz face u w)) ≡ lt v w
-v-inside face v u w p r q = same-above (dotOf (vNorm face v) (faceUvToXyz face u w)) (w ⊖ v) (v-side face v u w p r q) ∙ above-difference w v q p
+v-inside face v u w p r q = equal-above (dotOf (vNorm face v) (faceUvToXyz face u w)) (w ⊖ v) (v-side face v u w p r q) ∙ above-difference w v q p
 
 -- the opposite of the normal of a line of u points to the places with a larger u
 pub u-back-inside : (face : ℕ) (u w v : Float) → Number u → Number w → T (finite v)
     → lt zeroF (dotOf (mulOf (uNorm face u) (neg oneF)) (faceUvToXyz face w v)) ≡ lt u w
 u-back-inside face u w v p q r =
-    same-above (dotOf (mulOf (uNorm face u) (neg oneF)) (faceUvToXyz face w v)) (w ⊖ u) (u-back-side face u w v p q r) ∙ above-difference w u q p
+    equal-above (dotOf (mulOf (uNorm face u) (neg oneF)) (faceUvToXyz face w v)) (w ⊖ u) (u-back-side face u w v p q r) ∙ above-difference w u q p
 
 -- the opposite of the normal of a line of v points to the places with a smaller v
 pub v-back-inside : (face : ℕ) (v u w : Float) → Number v → T (finite u) → Number w
     → lt zeroF (dotOf (mulOf (vNorm face v) (neg oneF)) (faceUvToXyz face u w)) ≡ lt w v
 v-back-inside face v u w p r q =
-    same-above (dotOf (mulOf (vNorm face v) (neg oneF)) (faceUvToXyz face u w)) (v ⊖ w) (v-back-side face v u w p r q) ∙ above-difference v w p q
+    equal-above (dotOf (mulOf (vNorm face v) (neg oneF)) (faceUvToXyz face u w)) (v ⊖ w) (v-back-side face v u w p r q) ∙ above-difference v w p q
 
 -- ---- the ends and the middle of a face's side: 0, 1/2 and 1 in (s, t) are -1, 0 and 1 in (u, v)
 

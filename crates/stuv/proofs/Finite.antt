@@ -1,9 +1,9 @@
 -- The lines of a face are finite: from what lies within 1 of zero in (s, t), the quadratic map makes a finite value.
-use mathlib.Core.Bool.{Bool, true, false, cond}
 use lib.Dec.{lit≤}
 use lib.Ieee.{Float, binary64, size, units, odd, round, div, le, ofBits}
 use lib.Ieee.Fits.{mul-fits}
 use Rattle.point.specs.Floats.{_⊖_, _⊗_, _⊘_, halfF, oneF, threeF, fourF}
+use Rattle.point.proofs.Laws.{either}
 use Rattle.point.proofs.Numbers.{Number}
 use Rattle.point.proofs.Sizes.{Within, within-number, sub-within, mul-within}
 use Rattle.stuv.specs.Projection.{stToUv}
@@ -16,7 +16,7 @@ pub four-within : Within 4 fourF
 unfolding ofBits
 four-within = lit≤ tt
 
-pub one-within : Within 1 oneF
+one-within : Within 1 oneF
 unfolding ofBits
 one-within = lit≤ tt
 
@@ -38,15 +38,11 @@ module _ (s : Float) (h : Within 1 s) where
   pub lower-within : Within 17 (oneF ⊖ fourF ⊗ (oneF ⊖ s) ⊗ (oneF ⊖ s))
   lower-within = sub-within 1 16 oneF (fourF ⊗ (oneF ⊖ s) ⊗ (oneF ⊖ s)) (lit≤ tt) one-within rest-square-within
 
-either : (b : Bool) (x y : Float) → Number x → Number y → Number (cond b x y)
-either true x y p q = p
-either false x y p q = q
-
 -- what is within 1 of zero in (s, t) is finite in (u, v)
 pub st-finite : (s : Float) → Within 1 s → Number (stToUv s)
 unfolding stToUv
 st-finite s h =
-    either (le halfF s) (oneF ⊘ threeF ⊗ (fourF ⊗ s ⊗ s ⊖ oneF)) (oneF ⊘ threeF ⊗ (oneF ⊖ fourF ⊗ (oneF ⊖ s) ⊗ (oneF ⊖ s)))
+    either Number (le halfF s) (oneF ⊘ threeF ⊗ (fourF ⊗ s ⊗ s ⊖ oneF)) (oneF ⊘ threeF ⊗ (oneF ⊖ fourF ⊗ (oneF ⊖ s) ⊗ (oneF ⊖ s)))
     (within-number 5 (oneF ⊘ threeF ⊗ (fourF ⊗ s ⊗ s ⊖ oneF))
     (mul-within 1 5 (oneF ⊘ threeF) (fourF ⊗ s ⊗ s ⊖ oneF) (lit≤ tt) third-within (upper-within s h))
     (mul-fits binary64 (oneF ⊘ threeF) (fourF ⊗ s ⊗ s ⊖ oneF)))

@@ -1,6 +1,7 @@
 -- The quadratic map keeps the order of what lies between 0 and 1: each of its two halves rises, and they meet at 1/2.
-use mathlib.Core.Path.{_≡_, refl, sym, subst}
+use mathlib.Core.Path.{_≡_, refl, subst}
 use mathlib.Core.Bool.{Bool, true, false, cond}
+use denote.Floats.{passes}
 use lib.Dec.{T, lit≤}
 use lib.Ieee.{Float, size, units, odd, round, sum, add, sub, mul, div, neg, lt, le, eq, ofBits}
 use Rattle.point.specs.Floats.{_⊖_, _⊗_, _⊘_, halfF, oneF, threeF, fourF}
@@ -37,11 +38,11 @@ within s h = le-within 1 s oneF (h .size .1) (h .most) (refl, refl)
 
 -- ---- the two halves
 
-abbrev upper : Float → Float
-upper s = oneF ⊘ threeF ⊗ (fourF ⊗ s ⊗ s ⊖ oneF)
+abbrev upperHalf : Float → Float
+upperHalf s = oneF ⊘ threeF ⊗ (fourF ⊗ s ⊗ s ⊖ oneF)
 
-abbrev lower : Float → Float
-lower s = oneF ⊘ threeF ⊗ (oneF ⊖ fourF ⊗ (oneF ⊖ s) ⊗ (oneF ⊖ s))
+abbrev lowerHalf : Float → Float
+lowerHalf s = oneF ⊘ threeF ⊗ (oneF ⊖ fourF ⊗ (oneF ⊖ s) ⊗ (oneF ⊖ s))
 
 -- four times x, and that times x again, for an x within 2 of zero
 four-times : (x : Float) → Size x → Within 2 x → Size (fourF ⊗ x)
@@ -62,7 +63,7 @@ more : (x : Float) → Within 1 x → Within 2 x
 more x h = within-more 1 2 x (lit≤ tt) h
 
 module _ (s t : Float) (p : InUnit s) (q : InUnit t) (h : T (le s t)) where
-  upper-order : T (le (upper s) (upper t))
+  upper-order : T (le (upperHalf s) (upperHalf t))
   upper-order =
       let a = within s p in
       let b = within t q in
@@ -74,7 +75,7 @@ module _ (s t : Float) (p : InUnit s) (q : InUnit t) (h : T (le s t)) where
   rest-size : (x : Float) → InUnit x → Size (oneF ⊖ x)
   rest-size x r = (within-finite 2 (oneF ⊖ x) (rest-within x (within x r)), sub-plus oneF x one-size (r .size) (r .most))
 
-  lower-order : T (le (lower s) (lower t))
+  lower-order : T (le (lowerHalf s) (lowerHalf t))
   lower-order =
       let a = within s p in
       let b = within t q in
@@ -91,7 +92,7 @@ module _ (s t : Float) (p : InUnit s) (q : InUnit t) (h : T (le s t)) where
       (square-order (oneF ⊖ t) (oneF ⊖ s) j i d c
       (sub-order oneF t oneF s one-size (q .size) one-size (p .size) (le-self oneF (one-size .0)) h)))
 
-halves-meet : T (le (lower halfF) (upper halfF))
+halves-meet : T (le (lowerHalf halfF) (upperHalf halfF))
 unfolding le lt eq ofBits neg div mul sub add sum round units odd size
 halves-meet = tt
 
@@ -100,10 +101,10 @@ pub st-rises : (s t : Float) → InUnit s → InUnit t → T (le s t) → T (le 
 unfolding stToUv
 st-rises s t p q h = go (le halfF s) (le halfF t) refl refl
   where
-    go : (a b : Bool) → le halfF s ≡ a → le halfF t ≡ b → T (le (cond a (upper s) (lower s)) (cond b (upper t) (lower t)))
+    go : (a b : Bool) → le halfF s ≡ a → le halfF t ≡ b → T (le (cond a (upperHalf s) (lowerHalf s)) (cond b (upperHalf t) (lowerHalf t)))
     go true true e f = upper-order s t p q h
-    go true false e f = absurd (subst T f (le-trans halfF s t (subst T (sym e) tt) h))
+    go true false e f = absurd (subst T f (le-trans halfF s t (passes _ e) h))
     go false true e f =
-        le-trans (lower s) (lower halfF) (upper t) (lower-order s halfF p half-in (or-less s halfF (p .size) (half-in .size) e))
-        (le-trans (lower halfF) (upper halfF) (upper t) halves-meet (upper-order halfF t half-in q (subst T (sym f) tt)))
+        le-trans (lowerHalf s) (lowerHalf halfF) (upperHalf t) (lower-order s halfF p half-in (or-less s halfF (p .size) (half-in .size) e))
+        (le-trans (lowerHalf halfF) (upperHalf halfF) (upperHalf t) halves-meet (upper-order halfF t half-in q (passes _ f)))
     go false false e f = lower-order s t p q h

@@ -28,6 +28,7 @@ pub enum Side {
     Behind,
 }
 
+// From (s, t) to (u, v): the quadratic map.
 pub fn st_to_uv(s: f64) -> f64
     ensures { λ r. ⌜ r ≡ stToUv s ⌝ }
 {
@@ -111,6 +112,7 @@ fn valid_face_xyz_to_uv(face: u64, r: Point) -> Uv
     }
 }
 
+// The face that a vector points to, and the place there.
 pub fn xyz_to_face_uv(r: Point) -> FaceUv
     ensures { λ f. ⌜ f ≡ xyzToFaceUv r ⌝ }
 {

@@ -17,7 +17,7 @@ use Rattle.text.specs.declared.Fault.{Fault}
 use Rattle.text.specs.declared.Field.{Field}
 use Rattle.text.specs.declared.Place.{Place}
 use Rattle.text.specs.declared.Read.{Read}
-use Rattle.text.specs.Text.{digitOf, allDigits, valueFrom, isBlank, leading, Spells, Stopped, fieldAs, isThere, until, startAt, fieldAt, fieldNo, bytesOf, same, placeAmong, faulty, limited, numberOf, numberIn, numberAfter, numbersAfter, listAfter, ReadList, chosen, choiceAfter, endAfter, isPlain, allPlain, isSilent}
+use Rattle.text.specs.Text.{digitOf, allDigits, valueFrom, isBlank, leading, Spells, Stopped, fieldAs, isThere, until, startAt, fieldAt, fieldNo, bytesOf, same, placeAmong, faulty, limited, numberAs, numberIn, numberAfter, numbersAfter, listAfter, ReadList, chosen, choiceAfter, endAfter, isPlain, allPlain, isSilent}
 use Rattle.text.proofs.Laws.{leading-end, leading-go, limited-over, limited-in}
 
 -- ---- bytes
@@ -222,18 +222,18 @@ module _ (base : ℕ) (l : List ℕ) (from : ℕ) where
 
 module _ (base fewest most limit : ℕ) (l : List ℕ) (at : ℕ) where
   module _ (f : Field) (e : f ≡ fieldAt l at) where
-    pub at-there : (r : Read) → f .start < f .end → r ≡ numberOf base fewest most limit (f .end) (bytesOf l f) → r ≡ fieldAs (numberOf base fewest most limit) l at
+    pub at-there : (r : Read) → f .start < f .end → r ≡ numberAs base fewest most limit (f .end) (bytesOf l f) → r ≡ fieldAs (numberAs base fewest most limit) l at
     unfolding fieldAs
     at-there r h d = rw (fieldAs, ← e, lt-ltb _ _ h, ← e) d
 
-    pub at-missing : f .end ≤ f .start → faulty Fault.MissingField ≡ fieldAs (numberOf base fewest most limit) l at
+    pub at-missing : f .end ≤ f .start → faulty Fault.MissingField ≡ fieldAs (numberAs base fewest most limit) l at
     unfolding fieldAs
     at-missing h = rw (fieldAs, ← e, le-ltb _ _ h)
 
   number-within : (next : ℕ) (b : List ℕ) (n : ℕ) → 0 < length b → allDigits base b ≡ true → fewest ≤ length b → length b ≤ most → valueFrom base 0 b ≡ n → n ≤ limit
-      → record { value = n; after = Place.At next } ≡ numberOf base fewest most limit next b
-  unfolding numberOf
-  number-within next b n z d f m v h = rw (numberOf, ne-eqb (length b) 0 (λ e. omega arith), d, le-ltb _ _ f, le-ltb _ _ m, v, limited-in limit next n h)
+      → record { value = n; after = Place.At next } ≡ numberAs base fewest most limit next b
+  unfolding numberAs
+  number-within next b n z d f m v h = rw (numberAs, ne-eqb (length b) 0 (λ e. omega arith), d, le-ltb _ _ f, le-ltb _ _ m, v, limited-in limit next n h)
 
   -- digits that a blank or the line's end follows are the next field
   module _ (start end n : ℕ) (S : Spells base l start end n) where
@@ -241,14 +241,14 @@ module _ (base fewest most limit : ℕ) (l : List ℕ) (at : ℕ) where
     unfolding fieldAt startAt
     short-field s e = let g : start + leading false (drop start l) ≡ end = S .parted ∙ e in rw (fieldAt, startAt, ← s, g)
 
-    short-number : 0 < fewest → 16 ≤ most → fewest ≤ end - start → n ≤ limit → record { value = n; after = Place.At end } ≡ numberOf base fewest most limit end (bytesOf l (record { start = start; end = end }))
+    short-number : 0 < fewest → 16 ≤ most → fewest ≤ end - start → n ≤ limit → record { value = n; after = Place.At end } ≡ numberAs base fewest most limit end (bytesOf l (record { start = start; end = end }))
     unfolding bytesOf
     short-number p q f h =
         let k : length (take (end - start) (drop start l)) ≡ end - start = length-take-le (end - start) (drop start l) (simp length-drop (omega (arith, S .within))) in
         number-within end (take (end - start) (drop start l)) n (omega (arith, k)) (S .digits) (omega (arith, k)) (omega (arith, k, S .few)) (S .value) h
 
     pub at-short : 0 < fewest → 16 ≤ most → start ≡ at + leading true (drop at l) → fewest ≤ end - start → end + leading false (drop end l) ≡ end → n ≤ limit
-        → record { value = n; after = Place.At end } ≡ fieldAs (numberOf base fewest most limit) l at
+        → record { value = n; after = Place.At end } ≡ fieldAs (numberAs base fewest most limit) l at
     at-short p q s f e h = at-there _ (short-field s e) _ (omega arith) (short-number p q f h)
 
 module _ (l : List ℕ) (p : Place) (at : ℕ) (f : Field) (here : p ≡ Place.At at) (e : f ≡ fieldAt l at) where
@@ -340,8 +340,8 @@ limited-most limit next n = by-cases (decLt limit n)
     let g : n ≤ limit = omega arith in
     rw (limited-in limit next n g) g)
 
-number-most : (base fewest most limit next : ℕ) (l : List ℕ) → Most limit (numberOf base fewest most limit next l)
-unfolding numberOf
+number-most : (base fewest most limit next : ℕ) (l : List ℕ) → Most limit (numberAs base fewest most limit next l)
+unfolding numberAs
 number-most base fewest most limit next l =
     let bad = faulty-most Fault.NotANumber limit in
     pick (eqb (length l) 0) _ _ limit bad

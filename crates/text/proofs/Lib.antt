@@ -1,3 +1,2 @@
 pub mod Fields
-mod Floats
 mod Laws

@@ -42,8 +42,8 @@ unfoldable pub limited : ℕ → ℕ → ℕ → Read
 limited limit next n = elim (ltb limit n) [ true ↦ faulty Fault.TooLarge | false ↦ record { value = n; after = Place.At next } ]
 
 -- what a run of bytes spells in a base, with so many digits and at most a limit
-unfoldable pub numberOf : ℕ → ℕ → ℕ → ℕ → ℕ → List ℕ → Read
-numberOf base fewest most limit next l = elim (eqb (length l) 0) [
+unfoldable pub numberAs : ℕ → ℕ → ℕ → ℕ → ℕ → List ℕ → Read
+numberAs base fewest most limit next l = elim (eqb (length l) 0) [
   | true ↦ faulty Fault.NotANumber
   | false ↦ elim (allDigits base l) [
     | false ↦ faulty Fault.NotANumber
@@ -56,8 +56,8 @@ numberOf base fewest most limit next l = elim (eqb (length l) 0) [
 
 -- decimal, one to twenty digits; hexadecimal, sixteen
 unfoldable pub numberIn : Base → ℕ → ℕ → List ℕ → Read
-numberIn Base.Ten limit next l = numberOf 10 1 20 limit next l
-numberIn Base.Sixteen limit next l = numberOf 16 16 16 limit next l
+numberIn Base.Ten limit next l = numberAs 10 1 20 limit next l
+numberIn Base.Sixteen limit next l = numberAs 16 16 16 limit next l
 
 -- ---- fields
 

@@ -5,9 +5,8 @@ ghost use mathlib.Core.Path.{_≡_};
 ghost use mathlib.Core.Bool.{true, false, cond};
 ghost use Prim.Native.Nat.{_+_, _*_, _≤_, _<_, min};
 ghost use lib.Dec.{ltb};
-ghost use lib.Ieee.{binary64, ofBits, toBits};
 ghost use lib.ListN.{length, drop};
-ghost use Rattle.text.specs.Text.{digitOf, allDigits, valueFrom, faulty, limited, numberOf, numberIn, isBlank, leading, until, fieldAt, fieldNo, same, bytesOf, placeAmong, Spells, Stopped, fieldAs, numberAfter, numbersAfter, listAfter, ReadList, choiceAfter, endAfter, isPlain, allPlain, isSilent, startOf};
+ghost use Rattle.text.specs.Text.{digitOf, allDigits, valueFrom, faulty, limited, numberAs, numberIn, isBlank, leading, until, fieldAt, fieldNo, same, bytesOf, placeAmong, Spells, Stopped, fieldAs, numberAfter, numbersAfter, listAfter, ReadList, choiceAfter, endAfter, isPlain, allPlain, isSilent, startOf};
 
 // What is wrong with a line.
 pub enum Fault {
@@ -125,7 +124,7 @@ fn value(s: &[u8], base: u64, limit: u64, next: usize) -> Read
 // The number that s spells in the base: `fewest` to `most` digits, at most `limit`. One pass for the digits, one for the value.
 fn number(s: &[u8], base: u64, fewest: usize, most: usize, limit: u64, next: usize) -> Read
     requires { ⌜ 0 < base ⌝ }
-    ensures { λ r. ⌜ r ≡ numberOf base fewest most limit next (now (s .entry)) ⌝ }
+    ensures { λ r. ⌜ r ≡ numberAs base fewest most limit next (now (s .entry)) ⌝ }
 {
     if s.len() == 0 {
         return bad(Fault::NotANumber);
@@ -150,26 +149,6 @@ pub fn read_bytes(s: &[u8], base: Base, limit: u64, next: usize) -> Read
         Base::Ten => number(s, 10, 1, 20, limit, next),
         Base::Sixteen => number(s, 16, 16, 16, limit, next),
     }
-}
-
-// The float of a bit pattern. Every pattern of a NaN gives a NaN.
-pub fn float_of_bits(b: u64) -> f64
-    ensures { λ r. ⌜ r ≡ ofBits binary64 b ⌝ }
-{
-    if b % 0x8000_0000_0000_0000 > 0x7ff0_0000_0000_0000 {
-        return 0.0 / 0.0;
-    }
-    f64::from_bits(b)
-}
-
-// The bit pattern of a float, 0x7ff8000000000000 for a NaN.
-pub fn bits_of_float(x: f64) -> u64
-    ensures { λ r. ⌜ r ≡ toBits binary64 x ⌝ }
-{
-    if x != x {
-        return 0x7ff8_0000_0000_0000;
-    }
-    f64::to_bits(x)
 }
 
 // ---- fields
@@ -333,7 +312,7 @@ pub fn read_digits(line: &[u8], start: usize, base: u64) -> Digits
 // value.
 fn read_at(line: &[u8], at: usize, base: u64, fewest: usize, most: usize, limit: u64) -> Read
     requires { ⌜ (0 < base) × (base ≤ 16) × (0 < fewest) × (16 ≤ most) ⌝ }
-    ensures { λ r. ⌜ r ≡ fieldAs (numberOf base fewest most limit) (now (line .entry)) at ⌝ }
+    ensures { λ r. ⌜ r ≡ fieldAs (numberAs base fewest most limit) (now (line .entry)) at ⌝ }
 {
     let start = past(line, at, true);
     if start < line.len() {

@@ -51,35 +51,35 @@ sight (id ∷ l) k = sight-by (validId id) k id l refl (sight l (k + 1))
 
 -- ---- each answer exactly when paper 02 says so; l is the text or the list
 
-pub data Told (ids l : List ℕ) (room : ℕ) : Result → Type 0 where
-  is-11 : (n : ℕ) → FirstBad ids n → Told ids l room (malformed n)
-  is-12 : AllValid ids → room < length l → Told ids l room noRoom
-  is-0 : AllValid ids → length l ≤ room → Told ids l room (done l)
+pub data Due (ids l : List ℕ) (room : ℕ) : Result → Type 0 where
+  is-11 : (n : ℕ) → FirstBad ids n → Due ids l room (malformed n)
+  is-12 : AllValid ids → room < length l → Due ids l room noRoom
+  is-0 : AllValid ids → length l ≤ room → Due ids l room (done l)
 
 module _ (ids l : List ℕ) (room : ℕ) where
-  told-by : (u : Bool) → leb (length l) room ≡ u → AllValid ids → Told ids l room (elim u [ true ↦ done l | false ↦ noRoom ])
-  told-by true e a = is-0 a (leb-true _ _ e)
-  told-by false e a = is-12 a (leb-false _ _ e)
+  due-by : (u : Bool) → leb (length l) room ≡ u → AllValid ids → Due ids l room (elim u [ true ↦ done l | false ↦ noRoom ])
+  due-by true e a = is-0 a (leb-true _ _ e)
+  due-by false e a = is-12 a (leb-false _ _ e)
 
-  told : (s : Seen) → Sight 0 ids s → Told ids l room (resultOf s l room)
+  due : (s : Seen) → Sight 0 ids s → Due ids l room (resultOf s l room)
   unfolding resultOf
-  told _ (all a) = told-by (leb (length l) room) refl a
-  told _ (some n f) = let e : 0 + n ≡ n = omega arith in rw e (is-11 n f)
+  due _ (all a) = due-by (leb (length l) room) refl a
+  due _ (some n f) = let e : 0 + n ≡ n = omega arith in rw e (is-11 n f)
 
-  given : (R : Result) → Told ids l room R → resultOf (seen 0 ids) l room ≡ R
+  given : (R : Result) → Due ids l room R → resultOf (seen 0 ids) l room ≡ R
   unfolding resultOf
   given _ (is-11 n f) = let e : 0 + n ≡ n = omega arith in rw (seen-first ids 0 n f, e)
   given _ (is-12 a h) = rw (seen-all ids 0 a, resultOf, lt-leb _ _ h)
   given _ (is-0 a h) = rw (seen-all ids 0 a, resultOf, le-leb _ _ h)
 
-  exactly : (R : Result) → (resultOf (seen 0 ids) l room ≡ R) ↔ Told ids l room R
-  exactly R = (λ e. subst (Told ids l room) e (told (seen 0 ids) (sight ids 0)), given R)
+  exactly : (R : Result) → (resultOf (seen 0 ids) l room ≡ R) ↔ Due ids l room R
+  exactly R = (λ e. subst (Due ids l room) e (due (seen 0 ids) (sight ids 0)), given R)
 
-pub write-when : (form : Form) (ids : List ℕ) (room : ℕ) (R : Result) → (writeResult form ids room ≡ R) ↔ Told ids (linesOf form ids) room R
+pub write-when : (form : Form) (ids : List ℕ) (room : ℕ) (R : Result) → (writeResult form ids room ≡ R) ↔ Due ids (linesOf form ids) room R
 unfolding writeResult
 write-when form ids room R = exactly ids (linesOf form ids) room R
 
-pub read-when : (form : Form) (text : List ℕ) (room : ℕ) (R : Result) → (readResult form text room ≡ R) ↔ Told (idsOf form text) (idsOf form text) room R
+pub read-when : (form : Form) (text : List ℕ) (room : ℕ) (R : Result) → (readResult form text room ≡ R) ↔ Due (idsOf form text) (idsOf form text) room R
 unfolding readResult
 read-when form text room R = exactly (idsOf form text) (idsOf form text) room R
 
@@ -90,7 +90,7 @@ malformed-line form text room n = (
   λ B. read-when form text room (malformed n) .1 (is-11 n (bad-line form text n .1 B)),
 )
   where
-    first : (R : Result) (n : ℕ) → R ≡ malformed n → Told (idsOf form text) (idsOf form text) room R → BadLine form text n
+    first : (R : Result) (n : ℕ) → R ≡ malformed n → Due (idsOf form text) (idsOf form text) room R → BadLine form text n
     first _ n e (is-11 m f) = let g : m ≡ n = cc in rw g at (bad-line form text m .0 f)
     first _ n e (is-12 a h) = let z : _≡_ {A = ℕ} 0 1 = cc in absurd (omega arith)
     first _ n e (is-0 a h) = let z : _≡_ {A = ℕ} 0 1 = cc in absurd (omega arith)
@@ -102,7 +102,7 @@ readable-when form text room = (
   λ p. read-when form text room (done (idsOf form text)) .1 (is-0 (readable form text .1 (p .0)) (p .1)),
 )
   where
-    whole : (R : Result) → R ≡ done (idsOf form text) → Told (idsOf form text) (idsOf form text) room R → Readable form text × (length (idsOf form text) ≤ room)
+    whole : (R : Result) → R ≡ done (idsOf form text) → Due (idsOf form text) (idsOf form text) room R → Readable form text × (length (idsOf form text) ≤ room)
     whole _ e (is-11 m f) = let z : _≡_ {A = ℕ} 0 1 = cc in absurd (omega arith)
     whole _ e (is-12 a h) = let z : _≡_ {A = ℕ} 0 1 = cc in absurd (omega arith)
     whole _ e (is-0 a h) = (readable form text .0 a, h)
@@ -134,7 +134,7 @@ written (done l) n out out' A =
     record { list = l; is = refl; count = k; there = rw (A .output) (take-at l _ n (sym k)); within = rw (A .output, outputAfter, length-append l (drop (length l) out)) (omega (arith, k)) }
 
 -- what is done tells that all ids are valid, and what was given
-is-done : (room : ℕ) (R : Result) {ids l list : List ℕ} → R ≡ done list → Told ids l room R → AllValid ids × (list ≡ l)
+is-done : (room : ℕ) (R : Result) {ids l list : List ℕ} → R ≡ done list → Due ids l room R → AllValid ids × (list ≡ l)
 is-done room _ e (is-11 n f) = let z : _≡_ {A = ℕ} 0 1 = cc in absurd (omega arith)
 is-done room _ e (is-12 a h) = let z : _≡_ {A = ℕ} 0 1 = cc in absurd (omega arith)
 is-done room _ e (is-0 a h) = (a, cc)

@@ -16,7 +16,7 @@ use Rattle.text.specs.Text.{digitOf, allDigits, valueFrom}
 use Rattle.text.proofs.Fields.{digits-then, value-then}
 use Rattle.cellid.proofs.Laws.{and-true}
 use Rattle.cellid.proofs.Puts.{sets-append}
-use Rattle.tokens.specs.Tokens.{before, trim}
+use Rattle.tokens.specs.Tokens.{digitBefore, trim}
 
 -- ---- one digit
 
@@ -139,31 +139,31 @@ digits-go d at n (suc k) g h e =
 -- ---- trailing zeros
 
 trim-zeros : (j : ℕ) → trim (replicate j 48) ≡ []
-unfolding trim before
+unfolding trim digitBefore
 trim-zeros zero = refl
 trim-zeros (suc j) = rw (trim-zeros j)
 
 pub trim-tail : (l : List ℕ) (j : ℕ) → trim (l ++ replicate j 48) ≡ trim l
 unfolding trim
 trim-tail [] j = trim-zeros j
-trim-tail (b ∷ l) j = ap (before b) (trim-tail l j)
+trim-tail (b ∷ l) j = ap (digitBefore b) (trim-tail l j)
 
 pub trim-whole : (l : List ℕ) → 0 < length l → (getD l (length l - 1) 0 ≡ 48 → ⊥) → trim l ≡ l
-unfolding trim before
+unfolding trim digitBefore
 trim-whole [] p h = absurd (omega arith)
-trim-whole (b ∷ []) p h = rw (before, ne-eqb b 48 h)
+trim-whole (b ∷ []) p h = rw (digitBefore, ne-eqb b 48 h)
 trim-whole (b ∷ c ∷ l) p h =
     let m : suc (length l) - 1 ≡ length l = omega arith in
     let n : suc (suc (length l)) - 1 ≡ suc (length l) = omega arith in
     rw (trim-whole (c ∷ l) (omega arith) (λ e. h (rw n (rw m at e))))
 
 -- a trim never lengthens
-before-length : (b : ℕ) (l : List ℕ) → length (before b l) ≤ suc (length l)
-unfolding before
-before-length b [] = by-cases (ℕ-discrete b 48) (λ e. rw (before, eq-eqb b 48 e) (omega arith)) (λ e. rw (before, ne-eqb b 48 e) (omega arith))
-before-length b (c ∷ l) = omega arith
+digit-length : (b : ℕ) (l : List ℕ) → length (digitBefore b l) ≤ suc (length l)
+unfolding digitBefore
+digit-length b [] = by-cases (ℕ-discrete b 48) (λ e. rw (digitBefore, eq-eqb b 48 e) (omega arith)) (λ e. rw (digitBefore, ne-eqb b 48 e) (omega arith))
+digit-length b (c ∷ l) = omega arith
 
 pub trim-length : (l : List ℕ) → length (trim l) ≤ length l
 unfolding trim
 trim-length [] = omega arith
-trim-length (b ∷ l) = omega (arith, before-length b (trim l), trim-length l)
+trim-length (b ∷ l) = omega (arith, digit-length b (trim l), trim-length l)

@@ -7,7 +7,7 @@ use Rattle.text.specs.Ascii.{ascii}
 use Rattle.text.specs.Text.{digitOf, allDigits, valueFrom}
 use Rattle.cellid.specs.CellId.{validId}
 use Rattle.tokens.specs.declared.Form.{Form}
-use Rattle.tokens.specs.Tokens.{hexText, before, trim, tokenOf, nameOf, isName, valueOf, named, nameLine, linesOf, unended, idsFrom, seen, done, resultOf, writeResult, readResult, tokenAnswer, numberOf, writtenOf, firstOf}
+use Rattle.tokens.specs.Tokens.{hexText, digitBefore, trim, tokenOf, nameOf, isName, valueOf, named, nameLine, linesOf, unended, idsFrom, seen, done, resultOf, writeResult, readResult, tokenAnswer, numberOf, writtenOf, firstOf}
 
 -- "The list 0x04.., 0x0c.., 0x14.. is the nine bytes `04`, newline, `0c`, newline, `14`, newline"
 abbrev three : List ℕ
@@ -17,7 +17,7 @@ abbrev nine : List ℕ
 nine = 48 ∷ 52 ∷ 10 ∷ 48 ∷ 99 ∷ 10 ∷ 49 ∷ 52 ∷ 10 ∷ []
 
 pub nine-bytes : writeResult Form.Token three 9 ≡ done nine
-unfolding writeResult resultOf seen validId trailingZeros linesOf nameLine nameOf tokenOf hexText trim before
+unfolding writeResult resultOf seen validId trailingZeros linesOf nameLine nameOf tokenOf hexText trim digitBefore
 nine-bytes = refl
 
 pub and-back : readResult Form.Token nine 3 ≡ done three
@@ -65,5 +65,5 @@ abbrev values : List ℕ → ℕ → List ℕ
 values ids room = let a = tokenAnswer (writeResult Form.Token ids room) in numberOf a ∷ writtenOf a ∷ firstOf a ∷ []
 
 pub values-given : (values three 9 ≡ 0 ∷ 9 ∷ 0 ∷ []) × (values three 8 ≡ 12 ∷ 0 ∷ 0 ∷ []) × (values (0x0400000000000000 ∷ 0 ∷ []) 0 ≡ 11 ∷ 0 ∷ 2 ∷ [])
-unfolding writeResult resultOf seen validId trailingZeros linesOf nameLine nameOf tokenOf hexText trim before tokenAnswer numberOf writtenOf firstOf
+unfolding writeResult resultOf seen validId trailingZeros linesOf nameLine nameOf tokenOf hexText trim digitBefore tokenAnswer numberOf writtenOf firstOf
 values-given = (refl, refl, refl)

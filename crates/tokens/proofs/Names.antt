@@ -19,7 +19,7 @@ use Rattle.text.proofs.Fields.{digits-then, value-then}
 use Rattle.cellid.specs.CellId.{validId}
 use Rattle.cellid.proofs.Laws.{and-true, odd-part, zeros-of, valid-fits}
 use Rattle.tokens.specs.declared.Form.{Form}
-use Rattle.tokens.specs.Tokens.{hexText, before, trim, tokenOf, nameOf, isName, valueOf, named}
+use Rattle.tokens.specs.Tokens.{hexText, digitBefore, trim, tokenOf, nameOf, isName, valueOf, named}
 use Rattle.tokens.specs.Steps.{ofDigits}
 use Rattle.tokens.proofs.Digits.{glyph-digit, glyph-some, digits-length, digits-all, value-digits, digits-value, digits-scaled, last-digit, trim-tail, trim-whole, trim-length}
 
@@ -64,7 +64,7 @@ parts-of id z m f e h =
     }
 
 token-zero : Parts 0 16 0
-unfolding tokenOf hexText trim before
+unfolding tokenOf hexText trim digitBefore
 token-zero = record { few = omega arith; is = refl; token = refl; last = λ h. absurd (omega arith); some = λ h. absurd (omega arith) }
 
 -- the zeros are told by the lowest set bit, and what is left by a shift

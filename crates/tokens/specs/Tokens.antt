@@ -19,14 +19,14 @@ unfoldable pub hexText : ℕ → List ℕ
 hexText id = digits 16 16 id
 
 -- a digit before what is left of those behind it: where nothing is left, a zero (48) goes too
-unfoldable pub before : ℕ → List ℕ → List ℕ
-before b [] = elim (eqb b 48) [ true ↦ [] | false ↦ b ∷ [] ]
-before b (c ∷ l) = b ∷ c ∷ l
+unfoldable pub digitBefore : ℕ → List ℕ → List ℕ
+digitBefore b [] = elim (eqb b 48) [ true ↦ [] | false ↦ b ∷ [] ]
+digitBefore b (c ∷ l) = b ∷ c ∷ l
 
 -- "with trailing zeros removed"
 unfoldable pub trim : List ℕ → List ℕ
 trim [] = []
-trim (b ∷ l) = before b (trim l)
+trim (b ∷ l) = digitBefore b (trim l)
 
 -- "the published token: 16 lowercase hex digits with trailing zeros removed"
 unfoldable pub tokenOf : ℕ → List ℕ

@@ -1,5 +1,4 @@
 -- `placed` meets its contract: an or of parts that don't overlap is their sum.
-use Prim.Native.Nat.{_<_}
 use native.Mathlib.Nat.{lt-trans}
 use lib.Dec.{lit<}
 use Rattle.run.specs.Masks.{placeIn}

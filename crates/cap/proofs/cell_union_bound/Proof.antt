@@ -1,10 +1,10 @@
 -- `cap::cell_union_bound` meets its contract.
-use Rattle.cap.specs.Bound.{sixFaces, boundAt, unionBound}
-use Rattle.cellid.specs.CellId.{idOf}
+use Rattle.cap.specs.Bound.{boundAt, unionBound}
+use Rattle.cellid.specs.CellId.{faceCell, sixFaces}
 use mathlib.Core.Path.{_≡_, sym, _∙_}
 use Prim.Native.Nat.{suc, _-_, _≤_}
 use native.Mathlib.Omega.{arith}
-use Rattle.cap.proofs.BoundLaws.{level-at-most, listed-six}
+use Rattle.cap.proofs.BoundLaws.{level-at-most, four-six}
 use borrow.Author.Needs.{needs}
 use Rattle.cap.proofs.cell_union_bound.Statement.{statement}
 use Rattle.cap.proofs.cell_union_bound.Tie as tie
@@ -13,7 +13,7 @@ level-for-requires : tie.Need-level-for-requires
 level-for-requires c κs = search needs
 
 returns : tie.Need-returns
-unfolding unionBound boundAt sixFaces idOf
+unfolding unionBound boundAt sixFaces faceCell
 returns c = rw (sym (c .before .level-for .ensures) ∙ c .if1 .taken)
 
 cellid-from-point-requires : tie.Need-cellid-from-point-requires
@@ -45,7 +45,7 @@ unfolding unionBound boundAt
 returns-2 c =
     let level = c .before .before .before .before .level-for .result in
     let up : level ≡ suc (level - 1) = omega arith in
-    rw (sym (c .before .before .before .before .level-for .ensures) ∙ up, ← c .before .before .cellid-from-point .ensures .0) (listed-six _ (c .before .before .cellid-from-point .result) (level - 1) (c .before .vertex-neighbors .ensures))
+    rw (sym (c .before .before .before .before .level-for .ensures) ∙ up, ← c .before .before .cellid-from-point .ensures .0) (four-six _ (c .before .before .cellid-from-point .result) (level - 1) (c .before .vertex-neighbors .ensures))
 
 pub cell-union-bound-spec : {M : Type 1} → statement M
 cell-union-bound-spec =

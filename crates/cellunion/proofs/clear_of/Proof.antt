@@ -2,13 +2,13 @@ use mathlib.Core.Path.{_≡_, refl, sym, _∙_}
 use Prim.Native.Nat.{_≤_}
 use native.Mathlib.Omega.{arith}
 use Rattle.cellunion.specs.CellUnion.{clearOf}
-use Rattle.cellunion.specs.Stack.{down}
+use Rattle.cellunion.specs.Stack.{topFirst}
 use Rattle.cellunion.proofs.Runs.{clear-go, clear-stop, clear-end, clear-left}
 use Rattle.cellunion.proofs.clear_of.Statement.{statement}
 use Rattle.cellunion.proofs.clear_of.Tie as tie
 
 abbrev Inv-loop : tie.InvT-loop
-Inv-loop mem k c left₀ left = (left ≤ k) × (clearOf c (down left mem) ≡ clearOf c (down k mem))
+Inv-loop mem k c left₀ left = (left ≤ k) × (clearOf c (topFirst left mem) ≡ clearOf c (topFirst k mem))
 
 abbrev μ-loop : tie.MeasureT-loop
 μ-loop mem k c left₀ left = left

@@ -1,7 +1,7 @@
 -- `lines::answer_list`: a question, or a fault.
 use mathlib.Core.Path.{sym}
 use lib.Seq.{length-take-le}
-use Rattle.lines.proofs.Laws.{lists-fit, first-fits, answer-fits, told-asked, told-bad}
+use Rattle.lines.proofs.Laws.{lists-fit, first-fits, answer-fits, list-asked, list-bad}
 use borrow.Author.Needs.{needs}
 use Rattle.lines.proofs.answer_list.Statement.{statement}
 use Rattle.lines.proofs.answer_list.Tie as tie
@@ -20,11 +20,11 @@ put-answer-requires c κs = answer-fits _ _ _ _ _ _ _ (c .before .before .before
 
 returns : tie.Need-returns
 returns c = let q = c .before .before .before .before .before .before .before .before .before .before .before .before .before .before in
-    told-asked _ _ (q .read-question .result) _ _ _ _ _ _ (q .before .before .before .before .before .before .pre) (q .read-question .ensures) _ (c .before .before .before .before .before .before .before .answer-in .result) _ (c .before .before .before .before .before .before .before .before .before .before .enum-told .given .1) (c .before .before .before .before .before .before .before .answer-in .ensures) (c .before .before .put-answer .ensures)
+    list-asked _ _ (q .read-question .result) _ _ _ _ _ _ (q .before .before .before .before .before .before .pre) (q .read-question .ensures) _ (c .before .before .before .before .before .before .before .answer-in .result) _ (c .before .before .before .before .before .before .before .before .before .before .enum-told .given .1) (c .before .before .before .before .before .before .before .answer-in .ensures) (c .before .before .put-answer .ensures)
 
 returns-2 : tie.Need-returns-2
 returns-2 c = let q = c .before .before .before .before .before .before .before .before .before in
-    told-bad _ _ (q .read-question .result) _ _ _ _ _ _ (q .before .before .before .before .before .before .pre) (q .read-question .ensures) _ (c .before .before .before .before .before .after .given .1) (c .before .before .put-error .ensures)
+    list-bad _ _ (q .read-question .result) _ _ _ _ _ _ (q .before .before .before .before .before .before .pre) (q .read-question .ensures) _ (c .before .before .before .before .before .after .given .1) (c .before .before .put-error .ensures)
 
 pub answer-list-spec : {M : Type 1} → statement M
 answer-list-spec =

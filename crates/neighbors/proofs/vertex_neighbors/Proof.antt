@@ -6,7 +6,7 @@ use Rattle.cellid.proofs.Laws.{and-true}
 use Rattle.hilbert.specs.declared.FaceIj.{FaceIj}
 use Rattle.hilbert.proofs.Laws.{face-ij-in}
 use Rattle.neighbors.specs.Neighbors.{vertexNeighbors}
-use Rattle.neighbors.proofs.Laws.{Within, toward-within}
+use Rattle.neighbors.proofs.Laws.{TowardIn, toward-in}
 use Rattle.neighbors.proofs.vertex_neighbors.Statement.{statement}
 use Rattle.neighbors.proofs.vertex_neighbors.Tie as tie
 
@@ -19,11 +19,11 @@ record Known (f : FaceIj) : Type 0 where
 known : (c : tie.After-face-ij-orientation) → Known (c .face-ij-orientation .result)
 known c = let k = face-ij-in (c .before .args .id) (c .before .pre .0) in rw (c .face-ij-orientation .ensures) (record { face = k .face; i = k .i; j = k .j })
 
-along-i : (c : tie.After-nearer) → Within (c .nearer .result)
-along-i c = rw (c .nearer .ensures) (toward-within _ _ (known (c .before) .i))
+along-i : (c : tie.After-nearer) → TowardIn (c .nearer .result)
+along-i c = rw (c .nearer .ensures) (toward-in _ _ (known (c .before) .i))
 
-along-j : (c : tie.After-nearer2) → Within (c .nearer2 .result)
-along-j c = rw (c .nearer2 .ensures) (toward-within _ _ (known (c .before .before) .j))
+along-j : (c : tie.After-nearer2) → TowardIn (c .nearer2 .result)
+along-j c = rw (c .nearer2 .ensures) (toward-in _ _ (known (c .before .before) .j))
 
 face-ij-orientation-requires : tie.Need-face-ij-orientation-requires
 face-ij-orientation-requires c κs = search needs

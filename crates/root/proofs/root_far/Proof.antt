@@ -2,6 +2,7 @@
 use borrow.Author.Needs.{needs}
 use mathlib.Core.Path.{_≡_, refl, sym, subst}
 use mathlib.Core.Bool.{false}
+use denote.Floats.{passes}
 use lib.Dec.{T}
 use lib.Ieee.{Float, nan, binary64, fits, isNan, ofBits, div}
 use lib.Ieee.Compare.{differs-from-itself}
@@ -12,7 +13,7 @@ use Rattle.root.proofs.root_far.Tie as tie
 
 -- what owning an `f64` tells: the format holds it
 held : (c : tie.Start) → T (fits binary64 (c .args .x))
-held c = subst T (sym (c .good .0 .1)) tt
+held c = passes _ (c .good .0 .1)
 
 root-nan : nan ≡ Root.root binary64 nan
 unfolding Root.root
@@ -23,7 +24,7 @@ number : (c : tie.Else2) → isNan (c .before .before .args .x) ≡ false
 number c = itself-number (c .before .before .args .x) (c .before .if1 .left)
 
 returns : tie.Need-returns
-returns c = subst (λ (v : Float). v ≡ Root.root binary64 v) (sym (differs-from-itself (c .before .args .x) (subst T (sym (c .if1 .taken)) tt))) root-nan
+returns c = subst (λ (v : Float). v ≡ Root.root binary64 v) (sym (differs-from-itself (c .before .args .x) (passes _ (c .if1 .taken)))) root-nan
 
 returns-2 : tie.Need-returns-2
 unfolding ofBits div
