@@ -1,7 +1,12 @@
-"""The ground of cells, for the tables and pictures of bin/order and bin/sets: levels, areas, a view from above. None of it is proved."""
+"""The ground of cells, for the tables, pictures and maps of bin/order and bin/sets: levels, areas, a view from above, GeoJSON. None of it is proved."""
 
+import collections
+import json
 import math
 import sys
+
+# ---- cells and discs
+
 
 EARTH_METRES = 6371010.0  # the mean radius that the published S2 uses
 EARTH_KM2 = (EARTH_METRES / 1000) ** 2
@@ -19,7 +24,7 @@ def level_of(cell):
 
 
 def token_of(cell):
-    """A cell's name in a picture."""
+    """A cell's name in a picture or on a map."""
     return f"{cell:016x}".rstrip("0")
 
 
@@ -44,8 +49,8 @@ def unit(p):
     return tuple(a / size for a in p)
 
 
-def border(cell, pieces):
-    """Points along the border of a cell."""
+def sides(cell):
+    """The four sides of a cell, counter-clockwise, each a curve: the point at every t from 0 to 1."""
     face, level = cell >> 61, level_of(cell)
     i = j = 0
     row = face & 1
@@ -57,11 +62,33 @@ def border(cell, pieces):
     u = st_to_uv(i * size), st_to_uv((i + 1) * size)
     v = st_to_uv(j * size), st_to_uv((j + 1) * size)
     corners = ((u[0], v[0]), (u[1], v[0]), (u[1], v[1]), (u[0], v[1]))
-    for k in range(4):
-        (a, b), (c, d) = corners[k], corners[(k + 1) % 4]
-        for n in range(pieces):
-            t = n / pieces
-            yield unit(face_uv_to_xyz(face, a + (c - a) * t, b + (d - b) * t))
+
+    def side(a, b, c, d):
+        return lambda t: unit(face_uv_to_xyz(face, a + (c - a) * t, b + (d - b) * t))
+
+    return [side(*corners[k], *corners[(k + 1) % 4]) for k in range(4)]
+
+
+def border(cell, pieces):
+    """Points along the border of a cell."""
+    return (side(n / pieces) for side in sides(cell) for n in range(pieces))
+
+
+def frame(centre):
+    """East and north at a point; at a pole any two directions."""
+    east = unit(cross((0.0, 0.0, 1.0) if abs(centre[2]) < 0.999 else (1.0, 0.0, 0.0), centre))
+    return east, cross(centre, east)
+
+
+def rim(centre, radius):
+    """The rim of a disc, counter-clockwise: the point at every angle."""
+    east, north = frame(centre)
+
+    def at(t):
+        a, b, c = math.sin(radius) * math.cos(t), math.sin(radius) * math.sin(t), math.cos(radius)
+        return tuple(a * e + b * f + c * g for e, f, g in zip(east, north, centre))
+
+    return at
 
 
 def area(cell):
@@ -86,13 +113,15 @@ def middle(cells):
     return unit(point) if math.hypot(*point) > 1e-9 * sum(size for size, _ in corners) else (1.0, 0.0, 0.0)
 
 
+# ---- pictures
+
+
 class View:
     """An orthographic view from above a centre, as wide as the cells and a disc around the centre ask for. Gives lines of SVG."""
 
     def __init__(self, centre, cells, radius=0.0):
         self.normal = centre
-        self.east = unit(cross((0.0, 0.0, 1.0) if abs(centre[2]) < 0.999 else (1.0, 0.0, 0.0), centre))
-        self.north = cross(centre, self.east)
+        self.east, self.north = frame(centre)
         reach = max((math.acos(max(-1, min(1, dot(p, centre)))) for c in cells for p in border(c, 1)), default=0)
         self.wide = max(math.sin(min(math.pi / 2, max(reach, radius))), 1e-9) * 1.08
         self.half = 400
@@ -127,12 +156,8 @@ class View:
 
     def ring(self, radius, style):
         """The rim of a disc around the centre."""
-        points = []
-        for n in range(360):
-            t = math.radians(n)
-            a, b, c = math.sin(radius) * math.cos(t), math.sin(radius) * math.sin(t), math.cos(radius)
-            points.append(tuple(a * e + b * f + c * g for e, f, g in zip(self.east, self.north, self.normal)))
-        return self.shape(points, style)
+        at = rim(self.normal, radius)
+        return self.shape([at(math.radians(n)) for n in range(360)], style)
 
 
 def text(x, words):
@@ -140,10 +165,192 @@ def text(x, words):
     return f'<text x="{x}" y="824" font-family="sans-serif" font-size="15" fill="#333">{words}</text>'
 
 
+def key(x, style, words):
+    """Lines of SVG below the view that say what is drawn in a style."""
+    return f'<rect x="{x}" y="811" width="16" height="16" {style}/>', text(x + 26, words)
+
+
 def save(who, path, lines):
     """Writes a picture; where it can't be written, the script, which is called who, ends with status 1."""
+    written(who, path, "\n".join(lines) + "</svg>\n")
+
+
+def written(who, path, text):
+    """Writes a file; where it can't be written, the script, which is called who, ends with status 1."""
     try:
         with open(path, "w", encoding="utf-8") as file:
-            file.write("\n".join(lines) + "</svg>\n")
+            file.write(text)
     except OSError as fault:
         sys.exit(f"{who}: {path} can't be written: {fault.strerror}")
+
+
+# ---- maps
+#
+# On a map, longitude to the right and latitude up, from -180 to 180 and from -90 to 90 degrees, lines between positions are straight. A shape is
+# given by its border on the sphere, its inside to the left. Where that meets the antimeridian it is cut, and the parts are joined along the edge of
+# the map, the edge's inside to the left too. So a border that goes round a pole is closed along the pole's edge, and one that both poles are inside of
+# is a hole in the map.
+
+
+Shape = collections.namedtuple("Shape", "size type coordinates properties")  # size in degrees; a Point's position, or a MultiPolygon's polygons
+
+FINE = 1e-4  # how far a line may run beside the border it stands for, as a part of the shape's size
+POINT = 1e-11  # radians; a disc that is smaller is a point on a map
+STOPS = [*((-180.0 + 90 * n, -90.0) for n in range(5)), *((180.0 - 90 * n, 90.0) for n in range(5))]  # along the edge of a map, the corners among them
+
+
+def place(p):
+    """Longitude and latitude of a point in degrees."""
+    return math.degrees(math.atan2(p[1], p[0])), math.degrees(math.atan2(p[2], math.hypot(p[0], p[1])))
+
+
+def is_pole(p):
+    return p[0] == p[1] == 0
+
+
+def bend(p, m, q):
+    """How far a point m between p and q lies beside the straight line that a map has from p to q; in radians."""
+    (a, b), (x, y), (c, d) = place(p), place(m), place(q)
+    a, c = c if is_pole(p) else a, a if is_pole(q) else c  # a pole is on every meridian
+    narrow = math.cos(math.radians(y))
+    wide, high, right, up = math.remainder(c - a, 360) * narrow, d - b, math.remainder(x - a, 360) * narrow, y - b
+    return math.radians(abs(wide * up - high * right) / (math.hypot(wide, high) or 1))
+
+
+def drawn(at, s, t, most):
+    """Points of a curve from s on, without that at t, so many that no straight line of a map runs further than most beside it."""
+    middle = (s + t) / 2
+    if t - s < 1e-6 or bend(at(s), at(middle), at(t)) <= most:
+        return [at(s)]
+    return drawn(at, s, middle, most) + drawn(at, middle, t, most)
+
+
+def positions(points):
+    """Longitude and latitude along a border; a pole has two positions, on the meridians of the points beside it."""
+    for k, p in enumerate(points):
+        lng, lat = place(p)
+        beside = points[k - 1], points[(k + 1) % len(points)]
+        yield from ((place(q)[0], lat) for q in beside) if is_pole(p) else [(lng, lat)]
+
+
+def cut(p, q):
+    """The steps from position to position. One over the antimeridian is cut there, one along it is left out; none is wider than 90 degrees."""
+    (a, b), (c, d) = p, q
+    if p == q or abs(a) == abs(c) == 180:
+        return
+    if abs(c - a) > 180:
+        edge = math.copysign(180.0, a)
+        share = (edge - a) / (c + 2 * edge - a)
+        y = b * (1 - share) + d * share
+        yield from (*cut(p, (edge, y)), *cut((-edge, y), q))
+    elif abs(c - a) > 90:
+        middle = (a + c) / 2, (b + d) / 2
+        yield from ((p, middle), (middle, q))
+    else:
+        yield p, q
+
+
+def parts_of(points):
+    """The parts of a border that lie between its meetings with the antimeridian; a single closed one if there are none."""
+    parts, places = [], list(positions(points))
+    for p, q in zip(places, places[1:] + places[:1]):
+        for start, end in cut(p, q):
+            if parts and parts[-1][-1] == start:
+                parts[-1].append(end)
+            else:
+                parts.append([start, end])
+    if len(parts) > 1 and parts[-1][-1] == parts[0][0]:
+        parts[0] = parts.pop() + parts[0][1:]
+    return parts
+
+
+def along(position):
+    """How far along the edge of a map, counter-clockwise from its lower left corner, a position on it is; each side counts 1."""
+    x, y = position
+    if abs(x) == 180:
+        return 1 + (y + 90) / 180 if x > 0 else 3 + (90 - y) / 180
+    return (x + 180) / 360 if y < 0 else 2 + (180 - x) / 360
+
+
+def joined(parts):
+    """Rings: each part, which ends at the edge of the map, goes on along it to the next one's start."""
+    parts, rings = list(parts), []
+    while parts:
+        ring = parts.pop()
+        following = None
+        while following is not ring:
+            end = along(ring[-1])
+            ahead = lambda position: (along(position) - end) % 4
+            following = min([ring, *parts], key=lambda part: ahead(part[0]))
+            ring += sorted((stop for stop in STOPS if 0 < ahead(stop) < ahead(following[0])), key=ahead)
+            if following is not ring:
+                parts.remove(following)
+                ring += following
+        rings.append(ring + ring[:1])
+    return rings
+
+
+def turn(ring):
+    """Twice the area of a closed ring on the map: above 0 if it runs counter-clockwise."""
+    x, y = ring[0]
+    return sum((a - x) * (d - y) - (c - x) * (b - y) for (a, b), (c, d) in zip(ring, ring[1:]))
+
+
+def polygons(points):
+    """The polygons of a shape, by its border: lists of rings, the outer one first and counter-clockwise."""
+    parts = parts_of(points)
+    if len(parts) > 1 or parts[0][0] != parts[0][-1]:
+        return [[ring] for ring in joined(parts)]
+    return [parts] if turn(parts[0]) > 0 else [[*whole_map(), *parts]]
+
+
+def whole_map():
+    """The edge of the map, as the rings of a polygon."""
+    return [STOPS + STOPS[:1]]
+
+
+def cell_shape(cell, kind):
+    """A cell on a map, and what part it has in the order."""
+    first, points = max(1, 4 >> level_of(cell) // 2), []
+    for side in sides(cell):
+        most = FINE * math.dist(side(0), side(1))
+        for n in range(first):
+            points += drawn(side, n / first, (n + 1) / first, most)
+    return Shape(90 * 0.5 ** level_of(cell), "MultiPolygon", polygons(points), {"kind": kind, "token": token_of(cell), "level": level_of(cell)})
+
+
+def disc_shape(centre, radius, properties):
+    """A disc on a map; one that is too small to be seen there is a point."""
+    size = math.sin(radius)
+    if size < POINT:
+        return Shape(180.0, *(("MultiPolygon", [whole_map()]) if radius > 1 else ("Point", place(centre))), properties)
+    at = rim(centre, radius)
+    points = [p for n in range(16) for p in drawn(at, n * math.pi / 8, (n + 1) * math.pi / 8, FINE * size)]
+    return Shape(math.degrees(size), "MultiPolygon", polygons(points), properties)
+
+
+def rounded(ring, digits):
+    """Positions with so many digits behind the point, none twice in a row."""
+    positions = [(round(x, digits) + 0.0, round(y, digits) + 0.0) for x, y in ring]
+    return positions[:1] + [position for before, position in zip(positions, positions[1:]) if position != before]
+
+
+def geometry(shape, digits):
+    """The geometry of a shape. Rings that have no area left are left out, and a single polygon is called one."""
+    if shape.type == "Point":
+        return {"type": "Point", "coordinates": rounded([shape.coordinates], digits)[0]}
+    found = []
+    for rings in shape.coordinates:
+        outer, *holes = (rounded(ring, digits) for ring in rings)
+        if turn(outer) > 0:
+            found.append([outer, *(hole for hole in holes if turn(hole) < 0)])
+    return {"type": "MultiPolygon", "coordinates": found} if len(found) > 1 else {"type": "Polygon", "coordinates": found[0]}
+
+
+def save_map(who, path, shapes):
+    """Writes shapes as GeoJSON (RFC 7946), a feature a line, with as many digits as the smallest needs. Where it can't be written, the script, which is
+    called who, ends with status 1."""
+    digits = max([7, *(4 - math.floor(math.log10(shape.size)) for shape in shapes)])
+    features = ({"type": "Feature", "properties": shape.properties, "geometry": geometry(shape, digits)} for shape in shapes)
+    lines = ",".join("\n" + json.dumps(feature, separators=(",", ":")) for feature in features)
+    written(who, path, '{"type":"FeatureCollection","features":[' + lines + "\n]}\n")

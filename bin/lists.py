@@ -5,6 +5,7 @@ for here, and none of that is proved.
 """
 
 import collections
+import itertools
 import math
 import os
 import re
@@ -13,6 +14,7 @@ import sys
 import asking
 
 ID = re.compile("[0-9a-f]{16}")
+MOST = 4096  # ids of a list that is an area
 MARKS = b"\xef\xbb\xbf", b"\xff\xfe", b"\xfe\xff"  # what some editors put before a text, in its three forms
 
 List = collections.namedtuple("List", "name cells lines")  # lines: number and word of each cell's line
@@ -49,6 +51,12 @@ def read(who, path):
     tokens = [(number, ended(number, word)) for number, word in lines if not ID.fullmatch(word)]
     ids = iter(turned(who, "read_tokens", called(path), tokens) if tokens else [])
     return List(called(path), [int(word if ID.fullmatch(word) else next(ids), 16) for _, word in lines], lines)
+
+
+def ascending(given):
+    """The same list in the order of its ids, each with its line."""
+    both = sorted(zip(given.cells, given.lines))
+    return List(given.name, [cell for cell, _ in both], [line for _, line in both])
 
 
 def tokens_of(who, given):
@@ -131,12 +139,29 @@ def wrong(id, before, where):
     return None
 
 
-def faults(given):
-    """The first line at which a list is not valid, ascending and free of overlap, and why."""
+def looked_over(both):
+    """Each line, of cells with their lines, that can't stand behind those before it, and why."""
     before, where = None, None
-    for id, (number, word) in zip(given.cells, given.lines):
+    for id, (number, word) in both:
         found = wrong(id, before, where)
         if found:
             yield f"on line {number}, {word} {found}"
-            return
-        before, where = id, f"{word} of line {number}"
+        else:
+            before, where = id, f"{word} of line {number}"
+
+
+def faults(given):
+    """The first line at which a list is not valid, ascending and free of overlap, and why."""
+    return itertools.islice(looked_over(zip(given.cells, given.lines)), 1)
+
+
+def area_faults(given, most=5):
+    """What keeps a list, in any order, from being an area: its length; the lines that are no cell, are there before or lie inside another. No more of
+    these are named than the most."""
+    if len(given.cells) > MOST:
+        yield f"it has {len(given.cells):,} ids, and {MOST:,} are the most"
+    first = lambda both: (both[0] - (both[0] & -both[0]), -both[0], both[1])  # by the first leaf, and what holds others before them
+    found = list(looked_over(sorted(zip(given.cells, given.lines), key=first)))
+    yield from found[:most]
+    if len(found) > most:
+        yield f"and {len(found) - most:,} more"

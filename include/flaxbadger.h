@@ -7,20 +7,23 @@
  *
  * REGION. A cap is given by its centre (x, y, z), a point of unit length as S2 tests it, and by its radius: the SQUARED CHORD from
  * the centre to the rim, 0 for a point, 2 for half of the sphere, 4 for all of it; negative for the empty cap. A cell is given by
- * its 64-bit S2 cell id.
+ * its 64-bit S2 cell id. A list is given by 0 to 4,096 cell ids, ascending, none inside another; it need not be normalised. The
+ * region is the ground of these cells: an outer answer covers every leaf under them, an inner one has no leaf outside them.
  *
  * ARGUMENTS
+ *   list, list_len         the ids of a region that is a list. They are only read
  *   min_level, max_level   levels of the cells of a covering, 0 <= min_level <= max_level <= 30
  *   level_mod              1, 2 or 3: levels are min_level plus whole steps of this
  *   max_cells              0 to 1,000: how many cells are aimed at. More are given where min_level or the start cells ask it
  *   allowance              how many steps the run may take, 0 to 4,294,967,295
  *   mem, mem_len           working memory, at least 4,096 words. What stands in it makes no difference to the answer. Words from
  *                          4,096 on are never touched
- *   out, out_len           the output, of any length. The list goes into its first places
- *   count, steps, aside    where the answer's values are written: how many ids are in the list; how many steps the run took; how
- *                          many leaf cells (of level 30) an outer run set aside as outside the region
- * Pointers must be valid for the lengths given, aligned as uint64_t is, and not null, not even for a length of 0; and no two of
- * mem, out, count, steps and aside may overlap. This is the caller's part: C passes no lengths that could be tested.
+ *   out, out_len           the output, of any length. The ids of the answer go into its first places
+ *   count, steps, aside    where the answer's values are written: how many ids it has; how many steps the run took; how many leaf
+ *                          cells (of level 30) an outer run set aside as outside the region
+ * Pointers must be valid for the lengths given, aligned as uint64_t is, and not null, not even for a length of 0, as of an empty
+ * list; and no two of list, mem, out, count, steps and aside may overlap. This is the caller's part: C passes no lengths that could
+ * be tested.
  *
  * RESULT. The number of the refusal, or 0 for success.
  *    1  max_level is over 30                                     mem unchanged
@@ -29,14 +32,15 @@
  *    4  max_cells is over 1,000                                  mem unchanged
  *    5  the region is outside the domain: a centre that is not   mem unchanged
  *       finite or not of unit length, a radius that is not
- *       finite or over 4, an id that is not a cell
+ *       finite or over 4, an id that is not a cell, a list
+ *       that descends or overlaps or has over 4,096 ids
  *    6  mem_len is under 4,096                                   mem unchanged
  *    7  the run's queue would hold 1,025 candidates at once      first 4,096 words of mem zero
  *    8  the run would keep a 1,025th raw cell                    first 4,096 words of mem zero
  *    9  the queue isn't empty and the allowance is used up       first 4,096 words of mem zero
- *   10  the finished list is longer than out_len                 first 4,096 words of mem zero
+ *   10  the answer is longer than out_len                        first 4,096 words of mem zero
  * 1 to 6 are tested in that order, before anything else; 7 to 9 come as the run meets them. A refusal leaves the output as it was
- * and writes 0 to count, steps and aside. A success leaves the list in the first `count` places of the output, the rest of the
+ * and writes 0 to count, steps and aside. A success leaves the ids in the first `count` places of the output, the rest of the
  * output as it was, and the first 4,096 words of mem zero.
  */
 #ifndef FLAXBADGER_H
@@ -53,6 +57,7 @@ extern "C" {
 
 #define FLAXBADGER_CAP double x, double y, double z, double radius
 #define FLAXBADGER_CELL uint64_t id
+#define FLAXBADGER_LIST const uint64_t *list, size_t list_len
 #define FLAXBADGER_LEVELS uint64_t min_level, uint64_t max_level, uint64_t level_mod, uint64_t max_cells
 #define FLAXBADGER_BUFFERS \
     uint64_t *mem, size_t mem_len, uint64_t *out, size_t out_len, uint64_t *count, uint64_t *steps, uint64_t *aside
@@ -60,28 +65,35 @@ extern "C" {
 /* A covering: cells that cover the region, of levels min_level to max_level in whole steps of level_mod, ascending. */
 uint64_t flaxbadger_covering_cap(FLAXBADGER_CAP, FLAXBADGER_LEVELS, uint32_t allowance, FLAXBADGER_BUFFERS);
 uint64_t flaxbadger_covering_cell(FLAXBADGER_CELL, FLAXBADGER_LEVELS, uint32_t allowance, FLAXBADGER_BUFFERS);
+uint64_t flaxbadger_covering_list(FLAXBADGER_LIST, FLAXBADGER_LEVELS, uint32_t allowance, FLAXBADGER_BUFFERS);
 
 /* The same ground, normalised: ascending, no cell inside another, four siblings replaced by their parent. Levels may be above min_level
  * and off step. */
 uint64_t flaxbadger_cellunion_cap(FLAXBADGER_CAP, FLAXBADGER_LEVELS, uint32_t allowance, FLAXBADGER_BUFFERS);
 uint64_t flaxbadger_cellunion_cell(FLAXBADGER_CELL, FLAXBADGER_LEVELS, uint32_t allowance, FLAXBADGER_BUFFERS);
+uint64_t flaxbadger_cellunion_list(FLAXBADGER_LIST, FLAXBADGER_LEVELS, uint32_t allowance, FLAXBADGER_BUFFERS);
 
 /* The run's own list, in the order in which it kept the cells. */
 uint64_t flaxbadger_raw_cap(FLAXBADGER_CAP, FLAXBADGER_LEVELS, uint32_t allowance, FLAXBADGER_BUFFERS);
 uint64_t flaxbadger_raw_cell(FLAXBADGER_CELL, FLAXBADGER_LEVELS, uint32_t allowance, FLAXBADGER_BUFFERS);
+uint64_t flaxbadger_raw_list(FLAXBADGER_LIST, FLAXBADGER_LEVELS, uint32_t allowance, FLAXBADGER_BUFFERS);
 
 /* The same three for cells inside the region: aside is 0. */
 uint64_t flaxbadger_interior_covering_cap(FLAXBADGER_CAP, FLAXBADGER_LEVELS, uint32_t allowance, FLAXBADGER_BUFFERS);
 uint64_t flaxbadger_interior_covering_cell(FLAXBADGER_CELL, FLAXBADGER_LEVELS, uint32_t allowance, FLAXBADGER_BUFFERS);
+uint64_t flaxbadger_interior_covering_list(FLAXBADGER_LIST, FLAXBADGER_LEVELS, uint32_t allowance, FLAXBADGER_BUFFERS);
 uint64_t flaxbadger_interior_cellunion_cap(FLAXBADGER_CAP, FLAXBADGER_LEVELS, uint32_t allowance, FLAXBADGER_BUFFERS);
 uint64_t flaxbadger_interior_cellunion_cell(FLAXBADGER_CELL, FLAXBADGER_LEVELS, uint32_t allowance, FLAXBADGER_BUFFERS);
+uint64_t flaxbadger_interior_cellunion_list(FLAXBADGER_LIST, FLAXBADGER_LEVELS, uint32_t allowance, FLAXBADGER_BUFFERS);
 uint64_t flaxbadger_interior_raw_cap(FLAXBADGER_CAP, FLAXBADGER_LEVELS, uint32_t allowance, FLAXBADGER_BUFFERS);
 uint64_t flaxbadger_interior_raw_cell(FLAXBADGER_CELL, FLAXBADGER_LEVELS, uint32_t allowance, FLAXBADGER_BUFFERS);
+uint64_t flaxbadger_interior_raw_list(FLAXBADGER_LIST, FLAXBADGER_LEVELS, uint32_t allowance, FLAXBADGER_BUFFERS);
 
 /* A quick, coarse covering from the region's bound alone: no run, no allowance; steps and aside are 0, and of the refusals only 1 to 6
  * and 10 come. */
 uint64_t flaxbadger_fast_covering_cap(FLAXBADGER_CAP, FLAXBADGER_LEVELS, FLAXBADGER_BUFFERS);
 uint64_t flaxbadger_fast_covering_cell(FLAXBADGER_CELL, FLAXBADGER_LEVELS, FLAXBADGER_BUFFERS);
+uint64_t flaxbadger_fast_covering_list(FLAXBADGER_LIST, FLAXBADGER_LEVELS, FLAXBADGER_BUFFERS);
 
 /* LISTS AS LEAF RANGES. Leaf cells (of level 30) have odd ids, and those under a cell are a stretch of them, so any list is a few pairs
  * of a first and a last leaf id: in an index sorted by leaf id each pair is one scan from its first to its last, both included.

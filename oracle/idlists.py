@@ -1,7 +1,7 @@
 """Lists of cell ids: the rules, the largest cells of some leaves, lists at random, and lists that break a rule.
 
-Used by oracle/ranges, oracle/sets and oracle/tokens. A leaf has a number n from 0 on, and the id 2n + 1; a stretch is (first leaf's number,
-number after the last's). A Picker with the same seed gives the same lists.
+Used by oracle/ranges, oracle/sets and oracle/tokens, and by oracle/listed.py for regions that are lists. A leaf has a number n from 0 on,
+and the id 2n + 1; a stretch is (first leaf's number, number after the last's). A Picker with the same seed gives the same lists.
 """
 
 import itertools

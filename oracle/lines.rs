@@ -7,13 +7,14 @@
 //! end of the input `end N` is written, N the number of answers: where it is missing, the output was cut.
 //!
 //!     KIND MIN MAX MOD MAX_CELLS REGION [OPTION...]
-//!                            KIND covering, cellunion, raw, interior, icellunion, iraw or fast; REGION cap X Y Z R or cell ID;
+//!                            KIND covering, cellunion, raw, interior, icellunion, iraw or fast; REGION cap X Y Z R, cell ID or
+//!                            list LIST, LIST COUNT NUMBER..., any numbers, at most 16,384, here and wherever a region stands;
 //!                            OPTION allow=N, out=N, mem=N or tokens=N, in any order, each at most once; with tokens=1 ids are
 //!                            written as tokens; answer ok STEPS ASIDE COUNT ID... or refused NUMBER
 //!     ranges LIST [OPTION...], cells LIST [OPTION...]
-//!                            LIST COUNT NUMBER..., any numbers, at most 16,384; answer ok COUNT NUMBER... or refused NUMBER
+//!                            lists as in a region; answer ok COUNT NUMBER... or refused NUMBER
 //!     union LIST LIST [OPTION...], common LIST LIST [OPTION...], difference LIST LIST [OPTION...]
-//!                            lists and answer as for ranges
+//!                            likewise
 //!     write_tokens ROOM LIST answer ok BYTES TEXT, a text as two hex digits a byte, refused 11 FIRST or refused 12
 //!     read_tokens ROOM [TEXT]
 //!                            no TEXT for an empty one; answer ok COUNT ID..., refused 11 FIRST or refused 12
@@ -23,18 +24,23 @@
 //!                            LIST COUNT ID..., at most 4,096 ids
 //!     valid, is_unit, cell_contains_point, cap_contains_cell, cap_intersects_cell, common_ancestor_level, level,
 //!     face_ij_orientation, cellid_from_point, vertices, edges, cell_cap_bound, sqrt, st_to_uv, uv_to_st, vertex_neighbors,
-//!     bound, starts
+//!     bound REGION, starts MIN MAX MOD MAX_CELLS REGION, region_contains_cell REGION ID, region_intersects_cell REGION ID
 //!
 //! The values are the Rust's. The papers' refusals 1 to 6, 10 to 12, 15 to 17, 25 and 26 are decided here, around it; 7, 8 and 9 by the hooks.
 //! The Rust has no function for ranges: first and last leaf are its range_min and range_max, joined here; a pair's cells are
 //! those of its max_tile, in the loop that stands in its comment. Of two lists it has union, intersection and difference; only the
 //! first gives a normalised list whatever comes in, so its normalize goes over each answer here. Of a text of tokens only the lines
 //! are told apart here: a line is well-formed if its from_token is valid and its to_token writes that as the same bytes.
+//! The Rust has no region that is a list: what such a region contains, what it intersects and what its bound is, paper 02 says,
+//! and it is given to the Rust's coverer as a region of these tests and this bound. The tests ask every listed cell, by the
+//! Rust's contains and intersects; in the build `quick` they are those of oracle/quick.rs. With level_mod above 1 the start
+//! cells are found by paper 01's rule in the build `byid`, in the others by the Rust's own (oracle/build).
 //! Domains: ids are valid; floats are finite (but for cover's regions and sqrt); a point is_unit (but for is_unit itself);
-//! a cap is in paper 01's domain, a radius at most 4; vertex_neighbors asks for a level above the id's own.
-//! The build with the unmodified region.rs has no steps, set-aside totals, raw lists and start cells: it writes `-` for
-//! these and never refuses with 7 to 10. It finds the normalised outer list by normalising the covering, which has the
-//! same leaves. Where a run asks too many tests, or fast covering might have too many cells, it answers `cut`.
+//! a cap is in paper 01's domain, a radius at most 4; a list as a region is in paper 02's: valid, ascending, no cell inside
+//! another, at most 4,096 ids; vertex_neighbors asks for a level above the id's own.
+//! The builds with the unmodified region.rs have no steps, set-aside totals, raw lists and start cells: they write `-` for
+//! these and never refuse with 7 to 10. They find the normalised outer list by normalising the covering, which has the
+//! same leaves. Where a run asks too many tests, or fast covering might have too many cells, they answer `cut`.
 //! `panic` answers a question at which the Rust panics.
 //!
 //! Bounds: a gigabyte of memory for the process, two minutes for a question; both end the program.
@@ -42,6 +48,7 @@
 mod consts;
 #[allow(dead_code)]
 mod hooks;
+mod quick;
 mod r1;
 mod r2;
 mod r3;
@@ -85,10 +92,11 @@ thread_local! {
     static ASKED: Counter<u64> = const { Counter::new(0) };
 }
 
-/// A region of paper 01: a cap or a cell. The tests are counted, so that every run ends.
+/// A region: a cap or a cell, as in paper 01, or a list of cells, as in paper 02. The tests are counted, so that every run ends.
 enum Asked {
     Cap(Cap),
     Cell(Cell),
+    List(Vec<CellID>),
 }
 
 impl Region for Asked {
@@ -96,6 +104,7 @@ impl Region for Asked {
         match self {
             Asked::Cap(cap) => cap.cap_bound(),
             Asked::Cell(cell) => cell.cap_bound(),
+            Asked::List(_) => unreachable!(),
         }
     }
 
@@ -103,6 +112,8 @@ impl Region for Asked {
         match self {
             Asked::Cap(cap) => cap.contains_cell(cell),
             Asked::Cell(own) => own.contains_cell(cell),
+            Asked::List(ids) if cfg!(quick) => quick::contains(ids, &cell.id),
+            Asked::List(ids) => ids.iter().any(|own| own.contains(&cell.id)),
         }
     }
 
@@ -115,6 +126,8 @@ impl Region for Asked {
         match self {
             Asked::Cap(cap) => cap.intersects_cell(cell),
             Asked::Cell(own) => own.intersects_cell(cell),
+            Asked::List(ids) if cfg!(quick) => quick::intersects(ids, &cell.id),
+            Asked::List(ids) => ids.iter().any(|own| own.intersects(&cell.id)),
         }
     }
 
@@ -122,6 +135,7 @@ impl Region for Asked {
         match self {
             Asked::Cap(cap) => cap.cell_union_bound(),
             Asked::Cell(cell) => cell.cell_union_bound(),
+            Asked::List(ids) => ids.clone(),
         }
     }
 }
@@ -259,6 +273,10 @@ impl<'a> Fields<'a> {
                 let id = CellID(self.bits()?);
                 Ok(if id.is_valid() { Some(Asked::Cell(Cell::from(id))) } else { None })
             }
+            "list" => {
+                let ids = CellUnion(self.numbers()?);
+                Ok(if taken(&ids) { Some(Asked::List(ids.0)) } else { None })
+            }
             _ => Err("region"),
         }
     }
@@ -266,6 +284,11 @@ impl<'a> Fields<'a> {
     fn end(&mut self) -> Result<(), Word> {
         if self.0.peek().is_some() { Err("more") } else { Ok(()) }
     }
+}
+
+/// Whether a list is taken as paper 02 says: valid, ascending, no cell inside another, and not too long.
+fn taken(list: &CellUnion) -> bool {
+    list.0.len() as u64 <= IDS && list.is_valid()
 }
 
 fn decimal(word: &str) -> Result<u64, Word> {
@@ -499,7 +522,6 @@ fn listed(make: fn(&[CellID]) -> Option<Vec<CellID>>, fields: &mut Fields) -> Re
 fn joined(make: fn(&CellUnion, &CellUnion) -> CellUnion, fields: &mut Fields) -> Result<String, Word> {
     let (first, second) = (CellUnion(fields.numbers()?), CellUnion(fields.numbers()?));
     let options = fields.options()?;
-    let taken = |list: &CellUnion| list.0.len() as u64 <= IDS && list.is_valid();
     if !taken(&first) {
         return Ok(String::from("refused 15"));
     }
@@ -603,6 +625,15 @@ fn probe(question: &str, fields: &mut Fields) -> Result<String, Word> {
                 return Err("level");
             }
             list(&id.vertex_neighbors(level))
+        }
+        "region_contains_cell" => {
+            let region = fields.region()?.ok_or("domain")?;
+            truth(region.contains_cell(&Cell::from(fields.id()?)))
+        }
+        "region_intersects_cell" => {
+            let region = fields.region()?.ok_or("domain")?;
+            ASKED.set(0);
+            truth(region.intersects_cell(&Cell::from(fields.id()?)))
         }
         "bound" => list(&fields.region()?.ok_or("domain")?.cell_union_bound()),
         "normalize" => {

@@ -1,7 +1,8 @@
 """Random and boundary questions over paper 01's whole domain, as lines of `cover` and `probe`, and how a program is asked.
 
-Used by the other scripts of this folder. A Picker with the same seed gives the same questions. What stands here only chooses
-questions; the little geometry that it has (corners of cells, distances) aims at boundaries and decides no answer.
+Used by the other scripts of this folder. A Picker with the same seed gives the same questions. Regions are caps and cells; those that
+are lists stand in oracle/listed.py. What stands here only chooses questions; the little geometry that it has (corners of cells,
+distances) aims at boundaries and decides no answer.
 """
 
 import math
@@ -195,6 +196,8 @@ def settle(ask, makers, most=4.0):
 
 
 class Picker:
+    malformed = MALFORMED
+
     def __init__(self, seed):
         self.r = random.Random(seed)
         self.side = random.Random(f"beside {seed}")  # for what oracle/lists doesn't ask, so that the stored questions stay
@@ -427,7 +430,7 @@ class Picker:
         """One `cover` line."""
         r = self.r
         if self.chance(0.01):
-            return r.choice(MALFORMED)
+            return r.choice(self.malformed)
         region, natural = self.region()
         numbers = self.numbers(natural)
         if self.chance(0.03):

@@ -1,5 +1,5 @@
-/* Coverings from C: a cap that is covered, a cell region, a list as leaf ranges and back, two lists as one, a list as tokens and back, and five
- * refusals. Writes what comes back; exits with 1 where it is not what papers 01 and 02 say. */
+/* Coverings from C: a cap that is covered, a cell and a list as regions, a list as leaf ranges and back, two lists as one, a list as tokens and
+ * back, and six refusals. Writes what comes back; exits with 1 where it is not what papers 01 and 02 say. */
 #include <inttypes.h>
 #include <stdio.h>
 #include <string.h>
@@ -75,6 +75,21 @@ int main(void) {
     number = flaxbadger_common(first, 3, second, 3, out, 64, &count);
     printf("shared: number %" PRIu64 ", %" PRIu64 " cells, %016" PRIx64 " and %016" PRIx64 "\n", number, count, out[0], out[1]);
     ok &= number == 0 && count == 2 && out[0] == quarters[1] && out[1] == quarters[2];
+
+    /* The first list as a region: its three cells cover it, and lie inside it. Where one cell is aimed at, it is the face; of levels from 1 on, the
+     * three again, and the face's last quarter, 4^29 leaves, is set aside. A list that descends is refused with 5. */
+    number = flaxbadger_covering_list(first, 3, 0, 30, 1, 8, 1000, mem, FLAXBADGER_MEMORY, out, 64, &count, &steps, &aside);
+    ok &= show("three quarters", number, count, steps, aside) && count == 3 && memcmp(out, first, 3 * sizeof *out) == 0 && steps == 0 && aside == 0;
+    number = flaxbadger_interior_covering_list(first, 3, 0, 30, 1, 8, 1000, mem, FLAXBADGER_MEMORY, out, 64, &count, &steps, &aside);
+    ok &= number == 0 && count == 3 && memcmp(out, first, 3 * sizeof *out) == 0;
+    number = flaxbadger_covering_list(first, 3, 0, 30, 1, 1, 1000, mem, FLAXBADGER_MEMORY, out, 64, &count, &steps, &aside);
+    ok &= show("as one cell", number, count, steps, aside) && count == 1 && out[0] == faces[0] && steps == 1 && aside == 0;
+    number = flaxbadger_covering_list(first, 3, 1, 30, 1, 1, 1000, mem, FLAXBADGER_MEMORY, out, 64, &count, &steps, &aside);
+    ok &= show("from level 1 on", number, count, steps, aside) && count == 3 && memcmp(out, first, 3 * sizeof *out) == 0 && steps == 1 && aside == UINT64_C(1) << 58;
+    const uint64_t descending[2] = {quarters[1], quarters[0]};
+    number = flaxbadger_covering_list(descending, 2, 0, 30, 1, 8, 1000, mem, FLAXBADGER_MEMORY, out, 64, &count, &steps, &aside);
+    show("descending", number, count, steps, aside);
+    ok &= number == 5;
 
     /* The first list as tokens, which survey crews type, a line each; and back. A text of eight bytes is too short; a capital is refused, with the
      * number of its line. */

@@ -1,9 +1,15 @@
-// Coverings from Rust: safe functions over the archive's, a covering of a cap, its leaf ranges, two coverings as one list, a list as tokens and back,
-// and refusals. Exits with 1 where an answer is not what papers 01 and 02 say.
+// Coverings from Rust: safe functions over the archive's, a covering of a cap, its leaf ranges, two coverings as one list, this list as a region, a
+// list as tokens and back, and refusals. Exits with 1 where an answer is not what papers 01 and 02 say.
 
 extern "C" {
     fn flaxbadger_covering_cap(
         x: f64, y: f64, z: f64, radius: f64,
+        min_level: u64, max_level: u64, level_mod: u64, max_cells: u64, allowance: u32,
+        mem: *mut u64, mem_len: usize, out: *mut u64, out_len: usize,
+        count: &mut u64, steps: &mut u64, aside: &mut u64,
+    ) -> u64;
+    fn flaxbadger_covering_list(
+        list: *const u64, list_len: usize,
         min_level: u64, max_level: u64, level_mod: u64, max_cells: u64, allowance: u32,
         mem: *mut u64, mem_len: usize, out: *mut u64, out_len: usize,
         count: &mut u64, steps: &mut u64, aside: &mut u64,
@@ -41,6 +47,20 @@ fn covering(c: Coverer, center: [f64; 3], radius: f64, allowance: u32, mem: &mut
     let number = unsafe {
         flaxbadger_covering_cap(
             center[0], center[1], center[2], radius,
+            c.min_level, c.max_level, c.level_mod, c.max_cells, allowance,
+            mem.as_mut_ptr(), mem.len(), out.as_mut_ptr(), out.len(),
+            &mut count, &mut steps, &mut aside,
+        )
+    };
+    if number == 0 { Ok(Done { count: count as usize, steps, aside }) } else { Err(number) }
+}
+
+/// Covers the ground of a list of cells, as above.
+fn covering_list(c: Coverer, list: &[u64], allowance: u32, mem: &mut [u64], out: &mut [u64]) -> Result<Done, u64> {
+    let (mut count, mut steps, mut aside) = (0, 0, 0);
+    let number = unsafe {
+        flaxbadger_covering_list(
+            list.as_ptr(), list.len(),
             c.min_level, c.max_level, c.level_mod, c.max_cells, allowance,
             mem.as_mut_ptr(), mem.len(), out.as_mut_ptr(), out.len(),
             &mut count, &mut steps, &mut aside,
@@ -120,10 +140,19 @@ fn main() {
     other.truncate(beside.map_or(0, |done| done.count));
     let both = union(list, &other);
     println!("with a cap beside it: {} and {} cells, as one list {:?}", list.len(), other.len(), both.as_ref().map(Vec::len));
-    ok &= both.is_ok_and(|ids| !ids.is_empty() && ids.len() < list.len() + other.len() && ids.windows(2).all(|w| w[0] < w[1]));
+    let ids = both.unwrap_or_default();
+    ok &= !ids.is_empty() && ids.len() < list.len() + other.len() && ids.windows(2).all(|w| w[0] < w[1]);
+
+    let mut few = vec![0u64; 64];
+    let covered = covering_list(Coverer { min_level: 0, max_cells: 4, ..c }, &ids, 1000, &mut mem, &mut few);
+    println!("this list as a region, in 4 cells: {covered:?}");
+    few.truncate(covered.map_or(0, |done| done.count));
+    let under = |cell: &u64, id: u64| cell.abs_diff(id) < cell & cell.wrapping_neg();
+    ok &= few.len() <= 4 && ids.iter().all(|id| few.iter().any(|cell| under(cell, *id)));
 
     list.reverse();
     ok &= ranges(list) == Err(25) && union(list, &other) == Err(15) && union(&other, list) == Err(16);
+    ok &= matches!(covering_list(c, list, 1000, &mut mem, &mut other), Err(5));
 
     let quarters = [0x0400000000000000, 0x0c00000000000000, 0x1400000000000000];
     let mut text = [0u8; 9];

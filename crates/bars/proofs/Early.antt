@@ -7,8 +7,7 @@ use native.Mathlib.Omega.{arith}
 use lib.Dec.{leb, ltb}
 use borrow.Author.Tests.{leb-true, leb-false, ltb-true, ltb-false, lt-ltb, le-ltb, le-leb}
 use Rattle.cellid.proofs.Laws.{and-true, no-true}
-use Rattle.region.specs.declared.Region.{Region}
-use Rattle.region.specs.Region.{inDomain}
+use Rattle.region.specs.Region.{Area, inDomain}
 use Rattle.run.specs.declared.RegionCoverer.{RegionCoverer}
 use Rattle.run.proofs.Lists.{if-ok}
 use Rattle.run.specs.Run.{memoryWords}
@@ -40,13 +39,13 @@ not-mod m h = no-true (isMod m) (λ t. let g = mod-true m t in ⊎-elim (λ x. o
 
 -- ---- each bar by its reason
 
-pub region-open : (g : Region) → inDomain g ≡ true → regionBar g ≡ Bar.Open
+pub region-open : (a : Area) → inDomain a ≡ true → regionBar a ≡ Bar.Open
 unfolding regionBar
-region-open g h = rw (h, regionBar)
+region-open a h = rw (h, regionBar)
 
-pub region-bad : (g : Region) → inDomain g ≡ false → regionBar g ≡ Bar.Barred 5
+pub region-bad : (a : Area) → inDomain a ≡ false → regionBar a ≡ Bar.Barred 5
 unfolding regionBar
-region-bad g h = rw (h, regionBar)
+region-bad a h = rw (h, regionBar)
 
 pub memory-short : (memory : ℕ) → memory < memoryWords → memoryBar memory ≡ Bar.Barred 6
 unfolding memoryBar
@@ -80,7 +79,7 @@ module _ (c : RegionCoverer) where
         unfolding numbersBar
         numbers-open f = rw (le-ltb 30 (c .«max_level») t, numbersBar, le-ltb (c .«max_level») (c .«min_level») l, is-mod (c .«level_mod») m, le-ltb 1000 (c .«max_cells») f)
 
-module _ (c : RegionCoverer) (g : Region) (memory : ℕ) where
+module _ (c : RegionCoverer) (a : Area) (memory : ℕ) where
   abbrev pub Top : Type 0
   Top = c .«max_level» ≤ 30
 
@@ -96,12 +95,12 @@ module _ (c : RegionCoverer) (g : Region) (memory : ℕ) where
     order : Top → c .«max_level» < c .«min_level» → Early (Bar.Barred 2)
     steps : Top → Low → NoMod (c .«level_mod») → Early (Bar.Barred 3)
     cells : Top → Low → Mod (c .«level_mod») → 1000 < c .«max_cells» → Early (Bar.Barred 4)
-    region : Top → Low → Mod (c .«level_mod») → Few → inDomain g ≡ false → Early (Bar.Barred 5)
-    short : Top → Low → Mod (c .«level_mod») → Few → inDomain g ≡ true → memory < memoryWords → Early (Bar.Barred 6)
-    none : Top → Low → Mod (c .«level_mod») → Few → inDomain g ≡ true → memoryWords ≤ memory → Early Bar.Open
+    region : Top → Low → Mod (c .«level_mod») → Few → inDomain a ≡ false → Early (Bar.Barred 5)
+    short : Top → Low → Mod (c .«level_mod») → Few → inDomain a ≡ true → memory < memoryWords → Early (Bar.Barred 6)
+    none : Top → Low → Mod (c .«level_mod») → Few → inDomain a ≡ true → memoryWords ≤ memory → Early Bar.Open
 
   -- the number that is given is given for its reason
-  pub early-is : Early (barOf c g memory)
+  pub early-is : Early (barOf c a memory)
   unfolding barOf numbersBar regionBar memoryBar firstBar
   early-is = if-ok numbers (ltb 30 (c .«max_level»)) _ _
       (λ t. deep (ltb-true _ _ t))
@@ -110,7 +109,7 @@ module _ (c : RegionCoverer) (g : Region) (memory : ℕ) where
       (λ t₂. if-ok numbers (isMod (c .«level_mod»)) _ _
       (λ t₃. if-ok numbers (ltb 1000 (c .«max_cells»)) _ _
       (λ t. cells (ltb-false _ _ t₁) (ltb-false _ _ t₂) (mod-true _ t₃) (ltb-true _ _ t))
-      (λ t₄. if-ok (λ (b : Bar). Early (firstBar b (memoryBar memory))) (inDomain g) _ _
+      (λ t₄. if-ok (λ (b : Bar). Early (firstBar b (memoryBar memory))) (inDomain a) _ _
       (λ t₅. if-ok Early (ltb memory memoryWords) _ _
       (λ t. short (ltb-false _ _ t₁) (ltb-false _ _ t₂) (mod-true _ t₃) (ltb-false _ _ t₄) t₅ (ltb-true _ _ t))
       (λ t. none (ltb-false _ _ t₁) (ltb-false _ _ t₂) (mod-true _ t₃) (ltb-false _ _ t₄) t₅ (ltb-false _ _ t)))
@@ -118,21 +117,21 @@ module _ (c : RegionCoverer) (g : Region) (memory : ℕ) where
       (λ t. steps (ltb-false _ _ t₁) (ltb-false _ _ t₂) (mod-false _ t))))
     where
       numbers : Bar → Type 0
-      numbers b = Early (firstBar b (firstBar (regionBar g) (memoryBar memory)))
+      numbers b = Early (firstBar b (firstBar (regionBar a) (memoryBar memory)))
 
   -- and where the reason is there, the number is given
-  pub early-given : (b : Bar) → Early b → barOf c g memory ≡ b
+  pub early-given : (b : Bar) → Early b → barOf c a memory ≡ b
   unfolding barOf firstBar
   early-given b (deep h) = rw (numbers-deep c h)
   early-given b (order t h) = rw (numbers-order c t h)
   early-given b (steps t l h) = rw (numbers-steps c t l h)
   early-given b (cells t l m h) = rw (numbers-cells c t l m h)
-  early-given b (region t l m f h) = rw (numbers-open c t l m f, region-bad g h)
-  early-given b (short t l m f r h) = rw (numbers-open c t l m f, region-open g r, memory-short memory h)
-  early-given b (none t l m f r h) = rw (numbers-open c t l m f, region-open g r, memory-open memory h)
+  early-given b (region t l m f h) = rw (numbers-open c t l m f, region-bad a h)
+  early-given b (short t l m f r h) = rw (numbers-open c t l m f, region-open a r, memory-short memory h)
+  early-given b (none t l m f r h) = rw (numbers-open c t l m f, region-open a r, memory-open memory h)
 
   -- each number is given exactly when
-  pub exactly-when : (b : Bar) → (barOf c g memory ≡ b) ↔ Early b
+  pub exactly-when : (b : Bar) → (barOf c a memory ≡ b) ↔ Early b
   exactly-when b = (λ e. subst Early e early-is, early-given b)
 
   -- 1 to 6 and no other
@@ -150,10 +149,10 @@ module _ (c : RegionCoverer) (g : Region) (memory : ℕ) where
     pub order : Low
     pub «mod» : Mod (c .«level_mod»)
     pub few : Few
-    pub region : inDomain g ≡ true
+    pub region : inDomain a ≡ true
     pub long : memoryWords ≤ memory
 
-  pub early-none : barOf c g memory ≡ Bar.Open → Valid
+  pub early-none : barOf c a memory ≡ Bar.Open → Valid
   early-none e = of (subst Early e early-is)
     where
       of : Early Bar.Open → Valid

@@ -2,8 +2,7 @@
 use mathlib.Core.Bool.{Bool, true, false, _&&_}
 use Prim.Native.Nat.{ℕ}
 use lib.Dec.{leb, ltb}
-use Rattle.region.specs.declared.Region.{Region}
-use Rattle.region.specs.Region.{inDomain}
+use Rattle.region.specs.Region.{Area, inDomain}
 use Rattle.run.specs.declared.RegionCoverer.{RegionCoverer}
 use Rattle.run.specs.Run.{memoryWords}
 use Rattle.bars.specs.declared.Bar.{Bar}
@@ -29,8 +28,8 @@ numbersBar c = elim (ltb 30 (c .«max_level»)) [
 ]
 
 -- 5: "region outside the domain"
-unfoldable pub regionBar : Region → Bar
-regionBar g = elim (inDomain g) [ true ↦ Bar.Open | false ↦ Bar.Barred 5 ]
+unfoldable pub regionBar : Area → Bar
+regionBar a = elim (inDomain a) [ true ↦ Bar.Open | false ↦ Bar.Barred 5 ]
 
 -- 6: "working memory under 4,096"
 unfoldable pub memoryBar : ℕ → Bar
@@ -42,5 +41,5 @@ firstBar Bar.Open b = b
 firstBar (Bar.Barred n) b = Bar.Barred n
 
 -- "1 to 6 are checked in that order"
-unfoldable pub barOf : RegionCoverer → Region → ℕ → Bar
-barOf c g memory = firstBar (numbersBar c) (firstBar (regionBar g) (memoryBar memory))
+unfoldable pub barOf : RegionCoverer → Area → ℕ → Bar
+barOf c a memory = firstBar (numbersBar c) (firstBar (regionBar a) (memoryBar memory))

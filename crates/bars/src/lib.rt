@@ -1,6 +1,7 @@
 // The refusals 1 to 6, which come before anything is touched: of a request's numbers, of its region and of the working memory, each by itself and joined in
 // paper 01's order.
 ghost use mathlib.Core.Path.{_≡_};
+ghost use Rattle.region.specs.Region.{areaOf};
 ghost use Rattle.bars.specs.Bars.{firstBar, numbersBar, regionBar, memoryBar, barOf};
 use region::Region;
 use run::MEMORY_WORDS;
@@ -45,10 +46,10 @@ pub fn numbers_bar(c: RegionCoverer) -> Bar
 }
 
 // 5: the region.
-pub fn region_bar(g: Region) -> Bar
-    ensures { λ r. ⌜ r ≡ regionBar g ⌝ }
+pub fn region_bar(g: Region, list: &[u64]) -> Bar
+    ensures { λ r. ⌜ r ≡ regionBar (areaOf g (now (list .entry))) ⌝ }
 {
-    if region::in_domain(g) {
+    if region::in_domain(g, list) {
         Bar::Open
     } else {
         Bar::Barred(5)
@@ -67,8 +68,11 @@ pub fn memory_bar(words: usize) -> Bar
 }
 
 // The first of the refusals 1 to 6 that is to be given, if any.
-pub fn first_refusal(c: RegionCoverer, g: Region, words: usize) -> Bar
-    ensures { λ r. ⌜ r ≡ barOf c g words ⌝ }
+pub fn first_refusal(c: RegionCoverer, g: Region, list: &[u64], words: usize) -> Bar
+    ensures { λ r. ⌜ r ≡ barOf c (areaOf g (now (list .entry))) words ⌝ }
 {
-    first_bar(numbers_bar(c), first_bar(region_bar(g), memory_bar(words)))
+    first_bar(
+        numbers_bar(c),
+        first_bar(region_bar(g, list), memory_bar(words)),
+    )
 }

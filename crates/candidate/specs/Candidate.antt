@@ -2,24 +2,23 @@
 use mathlib.Core.Path.{_≡_}
 use mathlib.Core.Bool.{true}
 use Prim.Native.Nat.{ℕ, _*_, _^_, _≤_, _<_}
-use Rattle.region.specs.declared.Region.{Region}
-use Rattle.region.specs.Region.{inDomain, intersectsCell, containsCell}
+use Rattle.region.specs.Region.{Area, inDomain, intersectsCell, containsCell}
 use Rattle.run.specs.declared.Found.{Found}
 use Rattle.run.specs.declared.Request.{Request}
 use Rattle.run.specs.Run.{minLevel, maxLevel, levelMod, Task, Look, fails, none, terminal, divide}
 use Rattle.candidate.specs.declared.Candidate.{Candidate}
 
 -- a request's run on a region: its two tests are the region's
-abbrev pub taskOf : Request → Region → Task
-taskOf q g = record { asked = q; hits = intersectsCell g; within = containsCell g }
+abbrev pub taskOf : Request → Area → Task
+taskOf q a = record { asked = q; hits = intersectsCell a; within = containsCell a }
 
 -- the domain of paper 01: "0 ≤ min_level ≤ max_level ≤ 30; level_mod 1, 2 or 3", and the region's
-pub record Asks (q : Request) (g : Region) : Type 0 where
+pub record Asks (q : Request) (a : Area) : Type 0 where
   pub order : minLevel q ≤ maxLevel q
   pub deep : maxLevel q ≤ 30
   pub some : 0 < levelMod q
   pub few : levelMod q ≤ 3
-  pub region : inDomain g ≡ true
+  pub region : inDomain a ≡ true
 
 -- kept, queued, or none
 unfoldable pub candidateOf : Look → Candidate

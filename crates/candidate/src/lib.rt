@@ -4,6 +4,7 @@ ghost use mathlib.Core.Path.{_≡_};
 ghost use Prim.Native.Nat.{_+_, _<_, _≤_};
 ghost use Rattle.cellid.specs.CellId.{Cell, levelOf};
 ghost use Rattle.run.specs.Run.{look, depth};
+ghost use Rattle.region.specs.Region.{areaOf};
 ghost use Rattle.run.specs.Masks.{placeIn, found};
 ghost use Rattle.candidate.specs.Candidate.{taskOf, Asks, candidateOf, Roomy};
 use region::Region;
@@ -19,19 +20,19 @@ pub enum Candidate {
 
 // What the cell is to the run: kept if it is terminal, queued if it is to be expanded, none if it fails the intersection test or an inner run can't use it.
 // One intersection test; a containment test at min or deeper, but for an outer cell that is terminal by its level.
-pub fn new_candidate(q: Request, g: Region, id: u64) -> Candidate
-    requires { ⌜ Asks q g ⌝ }
+pub fn new_candidate(q: Request, g: Region, list: &[u64], id: u64) -> Candidate
+    requires { ⌜ Asks q (areaOf g (now list)) ⌝ }
     requires { ⌜ Cell id ⌝ }
-    ensures { λ r. ⌜ r ≡ candidateOf (look (taskOf q g) id) ⌝ }
+    ensures { λ r. ⌜ r ≡ candidateOf (look (taskOf q (areaOf g (now (list .entry)))) id) ⌝ }
 {
-    if region::intersects_cell(g, id) {
+    if region::intersects_cell(g, list, id) {
         let level = cellid::level(id);
         if level < q.coverer.min_level {
             return Candidate::Queued;
         }
         if level + q.coverer.level_mod > q.coverer.max_level {
             if q.inner {
-                if region::contains_cell(g, id) {
+                if region::contains_cell(g, list, id) {
                     Candidate::Kept
                 } else {
                     Candidate::None
@@ -40,7 +41,7 @@ pub fn new_candidate(q: Request, g: Region, id: u64) -> Candidate
                 Candidate::Kept
             }
         } else {
-            if region::contains_cell(g, id) {
+            if region::contains_cell(g, list, id) {
                 Candidate::Kept
             } else {
                 Candidate::Queued
@@ -52,12 +53,12 @@ pub fn new_candidate(q: Request, g: Region, id: u64) -> Candidate
 }
 
 // The sets of the four children of a cell, which have one level, so that one rule holds for all four.
-fn children(q: Request, g: Region, id: u64) -> Found
-    requires { ⌜ Asks q g ⌝ }
+fn children(q: Request, g: Region, list: &[u64], id: u64) -> Found
+    requires { ⌜ Asks q (areaOf g (now list)) ⌝ }
     requires { ⌜ Cell id × (levelOf id < 30) ⌝ }
-    ensures { λ r. ⌜ r ≡ found (taskOf q g) 1 id ⌝ }
+    ensures { λ r. ⌜ r ≡ found (taskOf q (areaOf g (now (list .entry)))) 1 id ⌝ }
 {
-    let l = region::look_children(g, id);
+    let l = region::look_children(g, list, id);
     let under = cellid::level(id) + 1;
     if under < q.coverer.min_level {
         return Found {
@@ -95,18 +96,18 @@ fn placed(acc: Found, f: Found, width: u64, k: u64) -> Found
 }
 
 // The children `left` levels under a cell, one level inside another: the cells between are looked at four by four, each cell once.
-fn expand_children(q: Request, g: Region, id: u64, left: u64) -> Found
-    requires { ⌜ Asks q g ⌝ }
+fn expand_children(q: Request, g: Region, list: &[u64], id: u64, left: u64) -> Found
+    requires { ⌜ Asks q (areaOf g (now list)) ⌝ }
     requires { ⌜ (0 < left) × (left ≤ 3) ⌝ }
     requires { ⌜ (Cell id × (levelOf id + left ≤ 30)) ⌝ }
-    ensures { λ r. ⌜ r ≡ found (taskOf q g) left id ⌝ }
+    ensures { λ r. ⌜ r ≡ found (taskOf q (areaOf g (now (list .entry)))) left id ⌝ }
 {
     if left == 1 {
-        return children(q, g, id);
+        return children(q, g, list, id);
     }
     let less = left - 1;
     let width: u64 = 1 << (2 * less);
-    let l = region::look_children(g, id);
+    let l = region::look_children(g, list, id);
     let meets = l.meets;
     let mut acc = Found {
         present: 0,
@@ -115,7 +116,7 @@ fn expand_children(q: Request, g: Region, id: u64, left: u64) -> Found
     let mut k: u64 = 0;
     while k < 4 {
         let f = if (meets >> k) & 1 == 1 {
-            expand_children(q, g, cellid::child(id, k), less)
+            expand_children(q, g, list, cellid::child(id, k), less)
         } else {
             Found {
                 present: 0,
@@ -129,18 +130,18 @@ fn expand_children(q: Request, g: Region, id: u64, left: u64) -> Found
 }
 
 // The children of a candidate that is to be expanded: by one level below min, else by level_mod.
-pub fn expand(q: Request, g: Region, id: u64) -> Found
-    requires { ⌜ Asks q g ⌝ }
+pub fn expand(q: Request, g: Region, list: &[u64], id: u64) -> Found
+    requires { ⌜ Asks q (areaOf g (now list)) ⌝ }
     requires { ⌜ (Cell id × (levelOf id + depth q id ≤ 30)) ⌝ }
-    ensures { λ r. ⌜ r ≡ found (taskOf q g) (depth q id) id ⌝ }
+    ensures { λ r. ⌜ r ≡ found (taskOf q (areaOf g (now (list .entry)))) (depth q id) id ⌝ }
 {
     if cellid::level(id) < q.coverer.min_level {
-        children(q, g, id)
+        children(q, g, list, id)
     } else {
         if q.coverer.level_mod == 1 {
-            children(q, g, id)
+            children(q, g, list, id)
         } else {
-            expand_children(q, g, id, q.coverer.level_mod)
+            expand_children(q, g, list, id, q.coverer.level_mod)
         }
     }
 }

@@ -3,7 +3,7 @@ use mathlib.Core.Path.{_≡_, sym, ap, _∙_, subst}
 use mathlib.Core.List.{List}
 use Prim.Native.Nat.{ℕ}
 use lib.ListN.{length}
-use Rattle.region.specs.declared.Region.{Region}
+use Rattle.region.specs.Region.{Area}
 use Rattle.run.specs.declared.RegionCoverer.{RegionCoverer}
 use Rattle.covering.specs.declared.Answer.{Answer}
 use Rattle.covering.specs.declared.Kind.{Kind}
@@ -23,11 +23,11 @@ module _ {R : Result} {number count steps aside : ℕ} {mem mem′ out out′ : 
   pub called-answered : Called R number mem mem′ out out′ count steps aside → Answered R (record { number = number; count = count; steps = steps; aside = aside }) mem mem′ out out′
   called-answered C = record { answer = rw (C .told .is, C .told .counted, C .told .taken, C .told .total); memory = C .memory; output = C .output }
 
--- a call for c and g is one for the request and the region that its numbers make
-pub call-made : (k : Kind) (c c′ : RegionCoverer) (g g′ : Region) (allowance number : ℕ) (mem mem′ out out′ : List ℕ) (count steps aside : ℕ) → c ≡ c′ → g ≡ g′
-    → Called (resultOf k c g allowance (length mem) (length out)) number mem mem′ out out′ count steps aside
-    → Called (resultOf k c′ g′ allowance (length mem) (length out)) number mem mem′ out out′ count steps aside
-call-made k c c′ g g′ allowance number mem mem′ out out′ count steps aside p q = rw (p, q) (λ C. C)
+-- a call for c and A is one for the request and the area that its numbers make
+pub call-made : (k : Kind) (c c′ : RegionCoverer) (A A′ : Area) (allowance number : ℕ) (mem mem′ out out′ : List ℕ) (count steps aside : ℕ) → c ≡ c′ → A ≡ A′
+    → Called (resultOf k c A allowance (length mem) (length out)) number mem mem′ out out′ count steps aside
+    → Called (resultOf k c′ A′ allowance (length mem) (length out)) number mem mem′ out out′ count steps aside
+call-made k c c′ A A′ allowance number mem mem′ out out′ count steps aside p q = rw (p, q) (λ C. C)
 
 -- any two results that a contract allows are one
 pub determined : (R : Result) (n n′ : ℕ) (m m₁ m₂ o o₁ o₂ : List ℕ) (k k′ s s′ t t′ : ℕ) → Called R n m m₁ o o₁ k s t → Called R n′ m m₂ o o₂ k′ s′ t′

@@ -6,7 +6,7 @@ use lib.Ieee.{Float}
 use Rattle.ranges.specs.Ranges as Ranges
 use Rattle.tokens.specs.declared.Answer as Tokens
 use Rattle.tokens.specs.Tokens as Names
-use Rattle.region.specs.declared.Region.{Region}
+use Rattle.region.specs.Region.{Area, capArea}
 use Rattle.run.specs.declared.RegionCoverer.{RegionCoverer}
 use Rattle.covering.specs.declared.Answer.{Answer}
 use Rattle.covering.specs.Covering.{Result, answerOf, memoryAfter, outputAfter}
@@ -15,11 +15,8 @@ abbrev pub regionCoverer : ℕ → ℕ → ℕ → ℕ → RegionCoverer
 regionCoverer low top step cells = record { «min_level» = low; «max_level» = top; «level_mod» = step; «max_cells» = cells }
 
 -- "a cap is a centre of three 64-bit floats and a squared chord radius"
-abbrev pub capRegion : Float → Float → Float → Float → Region
-capRegion x y z radius = Region.Cap (record { center = record { x = x; y = y; z = z }; radius = radius })
-
-abbrev pub cellRegion : ℕ → Region
-cellRegion id = Region.Cell id
+abbrev pub capGiven : Float → Float → Float → Float → Area
+capGiven x y z radius = capArea (record { center = record { x = x; y = y; z = z }; radius = radius })
 
 -- an answer's number and values
 pub record Told (a : Answer) (number count steps aside : ℕ) : Type 0 where

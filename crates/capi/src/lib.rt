@@ -1,16 +1,18 @@
 // The public answers for programs in C or Rust: functions on numbers and slices, under plain names, with no requirement on the caller. Each returns the
 // papers' number, 0 for success, and writes the values of the answer through `count`, `steps` and `aside`.
 ghost use mathlib.Core.Path.{_≡_};
+ghost use mathlib.Core.List.{[]};
 ghost use lib.ListN.{length};
 ghost use Rattle.covering.specs.declared.Ending.{Ending};
 ghost use Rattle.covering.specs.declared.Kind.{Kind};
 ghost use Rattle.covering.specs.Covering.{resultOf};
+ghost use Rattle.region.specs.Region.{areaOf, cellArea, listArea};
 ghost use Rattle.ranges.specs.Ranges.{pairsResult, cellsResult, numberOf, wordsOf};
 ghost use Rattle.sets.specs.declared.Op.{Op};
 ghost use Rattle.sets.specs.Sets.{setResult};
 ghost use Rattle.tokens.specs.declared.Form.{Form};
 ghost use Rattle.tokens.specs.Tokens.{writeResult, readResult};
-ghost use Rattle.capi.specs.Calls.{regionCoverer, capRegion, cellRegion, Told, Called, CalledOf, NamesTold, NamesCalled};
+ghost use Rattle.capi.specs.Calls.{regionCoverer, capGiven, Told, Called, CalledOf, NamesTold, NamesCalled};
 use cell::Cap;
 use covering::Answer;
 use covering::Ending;
@@ -33,7 +35,7 @@ fn region_coverer(min_level: u64, max_level: u64, level_mod: u64, max_cells: u64
 }
 
 fn cap_region(x: f64, y: f64, z: f64, radius: f64) -> Region
-    ensures { λ r. ⌜ r ≡ capRegion x y z radius ⌝ }
+    ensures { λ r. ⌜ areaOf r [] ≡ capGiven x y z radius ⌝ }
 {
     let center = Point { x, y, z };
     let cap = Cap { center, radius };
@@ -41,7 +43,7 @@ fn cap_region(x: f64, y: f64, z: f64, radius: f64) -> Region
 }
 
 fn cell_region(id: u64) -> Region
-    ensures { λ r. ⌜ r ≡ cellRegion id ⌝ }
+    ensures { λ r. ⌜ areaOf r [] ≡ cellArea id ⌝ }
 {
     Region::Cell(id)
 }
@@ -56,7 +58,7 @@ fn tell(a: Answer, count: &mut u64, steps: &mut u64, aside: &mut u64) -> u64
     a.number
 }
 
-// A request of any kind: the functions below are its cases, each for a cap and for a cell.
+// A request of any kind for a cap or a cell, which need no list: the functions below are its cases.
 fn call(
     kind: Kind,
     g: Region,
@@ -68,9 +70,27 @@ fn call(
     steps: &mut u64,
     aside: &mut u64,
 ) -> u64
-    ensures { λ r. ⌜ Called (resultOf kind c g allowance (length (now (mem .entry))) (length (now (out .entry)))) r (now (mem .entry)) (now (mem .exit)) (now (out .entry)) (now (out .exit)) (now (count .exit)) (now (steps .exit)) (now (aside .exit)) ⌝ }
+    ensures { λ r. ⌜ Called (resultOf kind c (areaOf g []) allowance (length (now (mem .entry))) (length (now (out .entry)))) r (now (mem .entry)) (now (mem .exit)) (now (out .entry)) (now (out .exit)) (now (count .exit)) (now (steps .exit)) (now (aside .exit)) ⌝ }
 {
-    let a = covering::respond(kind, c, g, allowance, mem, out);
+    let a = covering::respond(kind, c, g, &[], allowance, mem, out);
+    tell(a, count, steps, aside)
+}
+
+// A request of any kind for a list: the functions below that take one are its cases.
+fn call_list(
+    kind: Kind,
+    list: &[u64],
+    c: RegionCoverer,
+    allowance: u32,
+    mem: &mut [u64],
+    out: &mut [u64],
+    count: &mut u64,
+    steps: &mut u64,
+    aside: &mut u64,
+) -> u64
+    ensures { λ r. ⌜ Called (resultOf kind c (listArea (now (list .entry))) allowance (length (now (mem .entry))) (length (now (out .entry)))) r (now (mem .entry)) (now (mem .exit)) (now (out .entry)) (now (out .exit)) (now (count .exit)) (now (steps .exit)) (now (aside .exit)) ⌝ }
+{
+    let a = covering::respond(kind, c, Region::List, list, allowance, mem, out);
     tell(a, count, steps, aside)
 }
 
@@ -92,7 +112,7 @@ pub extern "C" fn flaxbadger_covering_cap(
     steps: &mut u64,
     aside: &mut u64,
 ) -> u64
-    ensures { λ r. ⌜ Called (resultOf (Kind.Outer Ending.Covering) (regionCoverer «min_level» «max_level» «level_mod» «max_cells») (capRegion x y z radius) allowance (length (now (mem .entry))) (length (now (out .entry)))) r (now (mem .entry)) (now (mem .exit)) (now (out .entry)) (now (out .exit)) (now (count .exit)) (now (steps .exit)) (now (aside .exit)) ⌝ }
+    ensures { λ r. ⌜ Called (resultOf (Kind.Outer Ending.Covering) (regionCoverer «min_level» «max_level» «level_mod» «max_cells») (capGiven x y z radius) allowance (length (now (mem .entry))) (length (now (out .entry)))) r (now (mem .entry)) (now (mem .exit)) (now (out .entry)) (now (out .exit)) (now (count .exit)) (now (steps .exit)) (now (aside .exit)) ⌝ }
 {
     let c = region_coverer(min_level, max_level, level_mod, max_cells);
     let g = cap_region(x, y, z, radius);
@@ -115,12 +135,34 @@ pub extern "C" fn flaxbadger_covering_cell(
     steps: &mut u64,
     aside: &mut u64,
 ) -> u64
-    ensures { λ r. ⌜ Called (resultOf (Kind.Outer Ending.Covering) (regionCoverer «min_level» «max_level» «level_mod» «max_cells») (cellRegion id) allowance (length (now (mem .entry))) (length (now (out .entry)))) r (now (mem .entry)) (now (mem .exit)) (now (out .entry)) (now (out .exit)) (now (count .exit)) (now (steps .exit)) (now (aside .exit)) ⌝ }
+    ensures { λ r. ⌜ Called (resultOf (Kind.Outer Ending.Covering) (regionCoverer «min_level» «max_level» «level_mod» «max_cells») (cellArea id) allowance (length (now (mem .entry))) (length (now (out .entry)))) r (now (mem .entry)) (now (mem .exit)) (now (out .entry)) (now (out .exit)) (now (count .exit)) (now (steps .exit)) (now (aside .exit)) ⌝ }
 {
     let c = region_coverer(min_level, max_level, level_mod, max_cells);
     let g = cell_region(id);
     let kind = Kind::Outer(Ending::Covering);
     call(kind, g, c, allowance, mem, out, count, steps, aside)
+}
+
+// The covering: cells of levels min_level to max_level, in whole steps of level_mod, that cover the region as the outer run does. Of a list.
+#[no_mangle]
+pub extern "C" fn flaxbadger_covering_list(
+    list: &[u64],
+    min_level: u64,
+    max_level: u64,
+    level_mod: u64,
+    max_cells: u64,
+    allowance: u32,
+    mem: &mut [u64],
+    out: &mut [u64],
+    count: &mut u64,
+    steps: &mut u64,
+    aside: &mut u64,
+) -> u64
+    ensures { λ r. ⌜ Called (resultOf (Kind.Outer Ending.Covering) (regionCoverer «min_level» «max_level» «level_mod» «max_cells») (listArea (now (list .entry))) allowance (length (now (mem .entry))) (length (now (out .entry)))) r (now (mem .entry)) (now (mem .exit)) (now (out .entry)) (now (out .exit)) (now (count .exit)) (now (steps .exit)) (now (aside .exit)) ⌝ }
+{
+    let c = region_coverer(min_level, max_level, level_mod, max_cells);
+    let kind = Kind::Outer(Ending::Covering);
+    call_list(kind, list, c, allowance, mem, out, count, steps, aside)
 }
 
 // The outer run's raw list, normalised; nothing is promised of levels. Of a cap.
@@ -141,7 +183,7 @@ pub extern "C" fn flaxbadger_cellunion_cap(
     steps: &mut u64,
     aside: &mut u64,
 ) -> u64
-    ensures { λ r. ⌜ Called (resultOf (Kind.Outer Ending.CellUnion) (regionCoverer «min_level» «max_level» «level_mod» «max_cells») (capRegion x y z radius) allowance (length (now (mem .entry))) (length (now (out .entry)))) r (now (mem .entry)) (now (mem .exit)) (now (out .entry)) (now (out .exit)) (now (count .exit)) (now (steps .exit)) (now (aside .exit)) ⌝ }
+    ensures { λ r. ⌜ Called (resultOf (Kind.Outer Ending.CellUnion) (regionCoverer «min_level» «max_level» «level_mod» «max_cells») (capGiven x y z radius) allowance (length (now (mem .entry))) (length (now (out .entry)))) r (now (mem .entry)) (now (mem .exit)) (now (out .entry)) (now (out .exit)) (now (count .exit)) (now (steps .exit)) (now (aside .exit)) ⌝ }
 {
     let c = region_coverer(min_level, max_level, level_mod, max_cells);
     let g = cap_region(x, y, z, radius);
@@ -164,12 +206,34 @@ pub extern "C" fn flaxbadger_cellunion_cell(
     steps: &mut u64,
     aside: &mut u64,
 ) -> u64
-    ensures { λ r. ⌜ Called (resultOf (Kind.Outer Ending.CellUnion) (regionCoverer «min_level» «max_level» «level_mod» «max_cells») (cellRegion id) allowance (length (now (mem .entry))) (length (now (out .entry)))) r (now (mem .entry)) (now (mem .exit)) (now (out .entry)) (now (out .exit)) (now (count .exit)) (now (steps .exit)) (now (aside .exit)) ⌝ }
+    ensures { λ r. ⌜ Called (resultOf (Kind.Outer Ending.CellUnion) (regionCoverer «min_level» «max_level» «level_mod» «max_cells») (cellArea id) allowance (length (now (mem .entry))) (length (now (out .entry)))) r (now (mem .entry)) (now (mem .exit)) (now (out .entry)) (now (out .exit)) (now (count .exit)) (now (steps .exit)) (now (aside .exit)) ⌝ }
 {
     let c = region_coverer(min_level, max_level, level_mod, max_cells);
     let g = cell_region(id);
     let kind = Kind::Outer(Ending::CellUnion);
     call(kind, g, c, allowance, mem, out, count, steps, aside)
+}
+
+// The outer run's raw list, normalised; nothing is promised of levels. Of a list.
+#[no_mangle]
+pub extern "C" fn flaxbadger_cellunion_list(
+    list: &[u64],
+    min_level: u64,
+    max_level: u64,
+    level_mod: u64,
+    max_cells: u64,
+    allowance: u32,
+    mem: &mut [u64],
+    out: &mut [u64],
+    count: &mut u64,
+    steps: &mut u64,
+    aside: &mut u64,
+) -> u64
+    ensures { λ r. ⌜ Called (resultOf (Kind.Outer Ending.CellUnion) (regionCoverer «min_level» «max_level» «level_mod» «max_cells») (listArea (now (list .entry))) allowance (length (now (mem .entry))) (length (now (out .entry)))) r (now (mem .entry)) (now (mem .exit)) (now (out .entry)) (now (out .exit)) (now (count .exit)) (now (steps .exit)) (now (aside .exit)) ⌝ }
+{
+    let c = region_coverer(min_level, max_level, level_mod, max_cells);
+    let kind = Kind::Outer(Ending::CellUnion);
+    call_list(kind, list, c, allowance, mem, out, count, steps, aside)
 }
 
 // The outer run's raw list, in the order kept. Of a cap.
@@ -190,7 +254,7 @@ pub extern "C" fn flaxbadger_raw_cap(
     steps: &mut u64,
     aside: &mut u64,
 ) -> u64
-    ensures { λ r. ⌜ Called (resultOf (Kind.Outer Ending.Raw) (regionCoverer «min_level» «max_level» «level_mod» «max_cells») (capRegion x y z radius) allowance (length (now (mem .entry))) (length (now (out .entry)))) r (now (mem .entry)) (now (mem .exit)) (now (out .entry)) (now (out .exit)) (now (count .exit)) (now (steps .exit)) (now (aside .exit)) ⌝ }
+    ensures { λ r. ⌜ Called (resultOf (Kind.Outer Ending.Raw) (regionCoverer «min_level» «max_level» «level_mod» «max_cells») (capGiven x y z radius) allowance (length (now (mem .entry))) (length (now (out .entry)))) r (now (mem .entry)) (now (mem .exit)) (now (out .entry)) (now (out .exit)) (now (count .exit)) (now (steps .exit)) (now (aside .exit)) ⌝ }
 {
     let c = region_coverer(min_level, max_level, level_mod, max_cells);
     let g = cap_region(x, y, z, radius);
@@ -213,12 +277,34 @@ pub extern "C" fn flaxbadger_raw_cell(
     steps: &mut u64,
     aside: &mut u64,
 ) -> u64
-    ensures { λ r. ⌜ Called (resultOf (Kind.Outer Ending.Raw) (regionCoverer «min_level» «max_level» «level_mod» «max_cells») (cellRegion id) allowance (length (now (mem .entry))) (length (now (out .entry)))) r (now (mem .entry)) (now (mem .exit)) (now (out .entry)) (now (out .exit)) (now (count .exit)) (now (steps .exit)) (now (aside .exit)) ⌝ }
+    ensures { λ r. ⌜ Called (resultOf (Kind.Outer Ending.Raw) (regionCoverer «min_level» «max_level» «level_mod» «max_cells») (cellArea id) allowance (length (now (mem .entry))) (length (now (out .entry)))) r (now (mem .entry)) (now (mem .exit)) (now (out .entry)) (now (out .exit)) (now (count .exit)) (now (steps .exit)) (now (aside .exit)) ⌝ }
 {
     let c = region_coverer(min_level, max_level, level_mod, max_cells);
     let g = cell_region(id);
     let kind = Kind::Outer(Ending::Raw);
     call(kind, g, c, allowance, mem, out, count, steps, aside)
+}
+
+// The outer run's raw list, in the order kept. Of a list.
+#[no_mangle]
+pub extern "C" fn flaxbadger_raw_list(
+    list: &[u64],
+    min_level: u64,
+    max_level: u64,
+    level_mod: u64,
+    max_cells: u64,
+    allowance: u32,
+    mem: &mut [u64],
+    out: &mut [u64],
+    count: &mut u64,
+    steps: &mut u64,
+    aside: &mut u64,
+) -> u64
+    ensures { λ r. ⌜ Called (resultOf (Kind.Outer Ending.Raw) (regionCoverer «min_level» «max_level» «level_mod» «max_cells») (listArea (now (list .entry))) allowance (length (now (mem .entry))) (length (now (out .entry)))) r (now (mem .entry)) (now (mem .exit)) (now (out .entry)) (now (out .exit)) (now (count .exit)) (now (steps .exit)) (now (aside .exit)) ⌝ }
+{
+    let c = region_coverer(min_level, max_level, level_mod, max_cells);
+    let kind = Kind::Outer(Ending::Raw);
+    call_list(kind, list, c, allowance, mem, out, count, steps, aside)
 }
 
 // Cells inside the region, of levels min_level to max_level in whole steps of level_mod. Of a cap.
@@ -239,7 +325,7 @@ pub extern "C" fn flaxbadger_interior_covering_cap(
     steps: &mut u64,
     aside: &mut u64,
 ) -> u64
-    ensures { λ r. ⌜ Called (resultOf (Kind.Inner Ending.Covering) (regionCoverer «min_level» «max_level» «level_mod» «max_cells») (capRegion x y z radius) allowance (length (now (mem .entry))) (length (now (out .entry)))) r (now (mem .entry)) (now (mem .exit)) (now (out .entry)) (now (out .exit)) (now (count .exit)) (now (steps .exit)) (now (aside .exit)) ⌝ }
+    ensures { λ r. ⌜ Called (resultOf (Kind.Inner Ending.Covering) (regionCoverer «min_level» «max_level» «level_mod» «max_cells») (capGiven x y z radius) allowance (length (now (mem .entry))) (length (now (out .entry)))) r (now (mem .entry)) (now (mem .exit)) (now (out .entry)) (now (out .exit)) (now (count .exit)) (now (steps .exit)) (now (aside .exit)) ⌝ }
 {
     let c = region_coverer(min_level, max_level, level_mod, max_cells);
     let g = cap_region(x, y, z, radius);
@@ -262,12 +348,34 @@ pub extern "C" fn flaxbadger_interior_covering_cell(
     steps: &mut u64,
     aside: &mut u64,
 ) -> u64
-    ensures { λ r. ⌜ Called (resultOf (Kind.Inner Ending.Covering) (regionCoverer «min_level» «max_level» «level_mod» «max_cells») (cellRegion id) allowance (length (now (mem .entry))) (length (now (out .entry)))) r (now (mem .entry)) (now (mem .exit)) (now (out .entry)) (now (out .exit)) (now (count .exit)) (now (steps .exit)) (now (aside .exit)) ⌝ }
+    ensures { λ r. ⌜ Called (resultOf (Kind.Inner Ending.Covering) (regionCoverer «min_level» «max_level» «level_mod» «max_cells») (cellArea id) allowance (length (now (mem .entry))) (length (now (out .entry)))) r (now (mem .entry)) (now (mem .exit)) (now (out .entry)) (now (out .exit)) (now (count .exit)) (now (steps .exit)) (now (aside .exit)) ⌝ }
 {
     let c = region_coverer(min_level, max_level, level_mod, max_cells);
     let g = cell_region(id);
     let kind = Kind::Inner(Ending::Covering);
     call(kind, g, c, allowance, mem, out, count, steps, aside)
+}
+
+// Cells inside the region, of levels min_level to max_level in whole steps of level_mod. Of a list.
+#[no_mangle]
+pub extern "C" fn flaxbadger_interior_covering_list(
+    list: &[u64],
+    min_level: u64,
+    max_level: u64,
+    level_mod: u64,
+    max_cells: u64,
+    allowance: u32,
+    mem: &mut [u64],
+    out: &mut [u64],
+    count: &mut u64,
+    steps: &mut u64,
+    aside: &mut u64,
+) -> u64
+    ensures { λ r. ⌜ Called (resultOf (Kind.Inner Ending.Covering) (regionCoverer «min_level» «max_level» «level_mod» «max_cells») (listArea (now (list .entry))) allowance (length (now (mem .entry))) (length (now (out .entry)))) r (now (mem .entry)) (now (mem .exit)) (now (out .entry)) (now (out .exit)) (now (count .exit)) (now (steps .exit)) (now (aside .exit)) ⌝ }
+{
+    let c = region_coverer(min_level, max_level, level_mod, max_cells);
+    let kind = Kind::Inner(Ending::Covering);
+    call_list(kind, list, c, allowance, mem, out, count, steps, aside)
 }
 
 // The inner run's raw list, normalised; nothing is promised of levels. Of a cap.
@@ -288,7 +396,7 @@ pub extern "C" fn flaxbadger_interior_cellunion_cap(
     steps: &mut u64,
     aside: &mut u64,
 ) -> u64
-    ensures { λ r. ⌜ Called (resultOf (Kind.Inner Ending.CellUnion) (regionCoverer «min_level» «max_level» «level_mod» «max_cells») (capRegion x y z radius) allowance (length (now (mem .entry))) (length (now (out .entry)))) r (now (mem .entry)) (now (mem .exit)) (now (out .entry)) (now (out .exit)) (now (count .exit)) (now (steps .exit)) (now (aside .exit)) ⌝ }
+    ensures { λ r. ⌜ Called (resultOf (Kind.Inner Ending.CellUnion) (regionCoverer «min_level» «max_level» «level_mod» «max_cells») (capGiven x y z radius) allowance (length (now (mem .entry))) (length (now (out .entry)))) r (now (mem .entry)) (now (mem .exit)) (now (out .entry)) (now (out .exit)) (now (count .exit)) (now (steps .exit)) (now (aside .exit)) ⌝ }
 {
     let c = region_coverer(min_level, max_level, level_mod, max_cells);
     let g = cap_region(x, y, z, radius);
@@ -311,12 +419,34 @@ pub extern "C" fn flaxbadger_interior_cellunion_cell(
     steps: &mut u64,
     aside: &mut u64,
 ) -> u64
-    ensures { λ r. ⌜ Called (resultOf (Kind.Inner Ending.CellUnion) (regionCoverer «min_level» «max_level» «level_mod» «max_cells») (cellRegion id) allowance (length (now (mem .entry))) (length (now (out .entry)))) r (now (mem .entry)) (now (mem .exit)) (now (out .entry)) (now (out .exit)) (now (count .exit)) (now (steps .exit)) (now (aside .exit)) ⌝ }
+    ensures { λ r. ⌜ Called (resultOf (Kind.Inner Ending.CellUnion) (regionCoverer «min_level» «max_level» «level_mod» «max_cells») (cellArea id) allowance (length (now (mem .entry))) (length (now (out .entry)))) r (now (mem .entry)) (now (mem .exit)) (now (out .entry)) (now (out .exit)) (now (count .exit)) (now (steps .exit)) (now (aside .exit)) ⌝ }
 {
     let c = region_coverer(min_level, max_level, level_mod, max_cells);
     let g = cell_region(id);
     let kind = Kind::Inner(Ending::CellUnion);
     call(kind, g, c, allowance, mem, out, count, steps, aside)
+}
+
+// The inner run's raw list, normalised; nothing is promised of levels. Of a list.
+#[no_mangle]
+pub extern "C" fn flaxbadger_interior_cellunion_list(
+    list: &[u64],
+    min_level: u64,
+    max_level: u64,
+    level_mod: u64,
+    max_cells: u64,
+    allowance: u32,
+    mem: &mut [u64],
+    out: &mut [u64],
+    count: &mut u64,
+    steps: &mut u64,
+    aside: &mut u64,
+) -> u64
+    ensures { λ r. ⌜ Called (resultOf (Kind.Inner Ending.CellUnion) (regionCoverer «min_level» «max_level» «level_mod» «max_cells») (listArea (now (list .entry))) allowance (length (now (mem .entry))) (length (now (out .entry)))) r (now (mem .entry)) (now (mem .exit)) (now (out .entry)) (now (out .exit)) (now (count .exit)) (now (steps .exit)) (now (aside .exit)) ⌝ }
+{
+    let c = region_coverer(min_level, max_level, level_mod, max_cells);
+    let kind = Kind::Inner(Ending::CellUnion);
+    call_list(kind, list, c, allowance, mem, out, count, steps, aside)
 }
 
 // The inner run's raw list, in the order kept. Of a cap.
@@ -337,7 +467,7 @@ pub extern "C" fn flaxbadger_interior_raw_cap(
     steps: &mut u64,
     aside: &mut u64,
 ) -> u64
-    ensures { λ r. ⌜ Called (resultOf (Kind.Inner Ending.Raw) (regionCoverer «min_level» «max_level» «level_mod» «max_cells») (capRegion x y z radius) allowance (length (now (mem .entry))) (length (now (out .entry)))) r (now (mem .entry)) (now (mem .exit)) (now (out .entry)) (now (out .exit)) (now (count .exit)) (now (steps .exit)) (now (aside .exit)) ⌝ }
+    ensures { λ r. ⌜ Called (resultOf (Kind.Inner Ending.Raw) (regionCoverer «min_level» «max_level» «level_mod» «max_cells») (capGiven x y z radius) allowance (length (now (mem .entry))) (length (now (out .entry)))) r (now (mem .entry)) (now (mem .exit)) (now (out .entry)) (now (out .exit)) (now (count .exit)) (now (steps .exit)) (now (aside .exit)) ⌝ }
 {
     let c = region_coverer(min_level, max_level, level_mod, max_cells);
     let g = cap_region(x, y, z, radius);
@@ -360,12 +490,34 @@ pub extern "C" fn flaxbadger_interior_raw_cell(
     steps: &mut u64,
     aside: &mut u64,
 ) -> u64
-    ensures { λ r. ⌜ Called (resultOf (Kind.Inner Ending.Raw) (regionCoverer «min_level» «max_level» «level_mod» «max_cells») (cellRegion id) allowance (length (now (mem .entry))) (length (now (out .entry)))) r (now (mem .entry)) (now (mem .exit)) (now (out .entry)) (now (out .exit)) (now (count .exit)) (now (steps .exit)) (now (aside .exit)) ⌝ }
+    ensures { λ r. ⌜ Called (resultOf (Kind.Inner Ending.Raw) (regionCoverer «min_level» «max_level» «level_mod» «max_cells») (cellArea id) allowance (length (now (mem .entry))) (length (now (out .entry)))) r (now (mem .entry)) (now (mem .exit)) (now (out .entry)) (now (out .exit)) (now (count .exit)) (now (steps .exit)) (now (aside .exit)) ⌝ }
 {
     let c = region_coverer(min_level, max_level, level_mod, max_cells);
     let g = cell_region(id);
     let kind = Kind::Inner(Ending::Raw);
     call(kind, g, c, allowance, mem, out, count, steps, aside)
+}
+
+// The inner run's raw list, in the order kept. Of a list.
+#[no_mangle]
+pub extern "C" fn flaxbadger_interior_raw_list(
+    list: &[u64],
+    min_level: u64,
+    max_level: u64,
+    level_mod: u64,
+    max_cells: u64,
+    allowance: u32,
+    mem: &mut [u64],
+    out: &mut [u64],
+    count: &mut u64,
+    steps: &mut u64,
+    aside: &mut u64,
+) -> u64
+    ensures { λ r. ⌜ Called (resultOf (Kind.Inner Ending.Raw) (regionCoverer «min_level» «max_level» «level_mod» «max_cells») (listArea (now (list .entry))) allowance (length (now (mem .entry))) (length (now (out .entry)))) r (now (mem .entry)) (now (mem .exit)) (now (out .entry)) (now (out .exit)) (now (count .exit)) (now (steps .exit)) (now (aside .exit)) ⌝ }
+{
+    let c = region_coverer(min_level, max_level, level_mod, max_cells);
+    let kind = Kind::Inner(Ending::Raw);
+    call_list(kind, list, c, allowance, mem, out, count, steps, aside)
 }
 
 // The quick, coarse covering of the region's bound, with no run and 0 steps. Of a cap.
@@ -385,7 +537,7 @@ pub extern "C" fn flaxbadger_fast_covering_cap(
     steps: &mut u64,
     aside: &mut u64,
 ) -> u64
-    ensures { λ r. ⌜ Called (resultOf Kind.Fast (regionCoverer «min_level» «max_level» «level_mod» «max_cells») (capRegion x y z radius) 0 (length (now (mem .entry))) (length (now (out .entry)))) r (now (mem .entry)) (now (mem .exit)) (now (out .entry)) (now (out .exit)) (now (count .exit)) (now (steps .exit)) (now (aside .exit)) ⌝ }
+    ensures { λ r. ⌜ Called (resultOf Kind.Fast (regionCoverer «min_level» «max_level» «level_mod» «max_cells») (capGiven x y z radius) 0 (length (now (mem .entry))) (length (now (out .entry)))) r (now (mem .entry)) (now (mem .exit)) (now (out .entry)) (now (out .exit)) (now (count .exit)) (now (steps .exit)) (now (aside .exit)) ⌝ }
 {
     let c = region_coverer(min_level, max_level, level_mod, max_cells);
     let g = cap_region(x, y, z, radius);
@@ -406,11 +558,31 @@ pub extern "C" fn flaxbadger_fast_covering_cell(
     steps: &mut u64,
     aside: &mut u64,
 ) -> u64
-    ensures { λ r. ⌜ Called (resultOf Kind.Fast (regionCoverer «min_level» «max_level» «level_mod» «max_cells») (cellRegion id) 0 (length (now (mem .entry))) (length (now (out .entry)))) r (now (mem .entry)) (now (mem .exit)) (now (out .entry)) (now (out .exit)) (now (count .exit)) (now (steps .exit)) (now (aside .exit)) ⌝ }
+    ensures { λ r. ⌜ Called (resultOf Kind.Fast (regionCoverer «min_level» «max_level» «level_mod» «max_cells») (cellArea id) 0 (length (now (mem .entry))) (length (now (out .entry)))) r (now (mem .entry)) (now (mem .exit)) (now (out .entry)) (now (out .exit)) (now (count .exit)) (now (steps .exit)) (now (aside .exit)) ⌝ }
 {
     let c = region_coverer(min_level, max_level, level_mod, max_cells);
     let g = cell_region(id);
     call(Kind::Fast, g, c, 0, mem, out, count, steps, aside)
+}
+
+// The quick, coarse covering of the region's bound, with no run and 0 steps. Of a list.
+#[no_mangle]
+pub extern "C" fn flaxbadger_fast_covering_list(
+    list: &[u64],
+    min_level: u64,
+    max_level: u64,
+    level_mod: u64,
+    max_cells: u64,
+    mem: &mut [u64],
+    out: &mut [u64],
+    count: &mut u64,
+    steps: &mut u64,
+    aside: &mut u64,
+) -> u64
+    ensures { λ r. ⌜ Called (resultOf Kind.Fast (regionCoverer «min_level» «max_level» «level_mod» «max_cells») (listArea (now (list .entry))) 0 (length (now (mem .entry))) (length (now (out .entry)))) r (now (mem .entry)) (now (mem .exit)) (now (out .entry)) (now (out .exit)) (now (count .exit)) (now (steps .exit)) (now (aside .exit)) ⌝ }
+{
+    let c = region_coverer(min_level, max_level, level_mod, max_cells);
+    call_list(Kind::Fast, list, c, 0, mem, out, count, steps, aside)
 }
 
 // The number of a list's answer; how many words were written goes through the reference.

@@ -6,7 +6,7 @@ use native.Mathlib.Nat.{add-zero}
 use native.Mathlib.Omega.{arith}
 use native.Mathlib.Numerals.{add-one}
 use lib.ListN.{length, getD, take, drop, set, replicate, length-set, take-append-drop, drop-of-length-le}
-use lib.Seq.{take-suc-set, drop-set-lt, drop-cons, drop-drop, getD-take, length-take-le}
+use lib.Seq.{take-nil, take-suc-set, drop-set-lt, drop-cons, drop-drop, getD-take, length-take-le}
 use borrow.Author.Tests.{le-leb, lt-leb}
 use Rattle.order.specs.Order.{All}
 use Rattle.order.proofs.WordLaws.{same-word}
@@ -37,6 +37,16 @@ pub drop-more : (a b : ℕ) (x y : List ℕ) → a ≤ b → drop a x ≡ drop a
 drop-more a b x y h e =
     let n : a + (b - a) ≡ b = omega arith in
     ap (λ (w : ℕ). drop w x) (sym n) ∙ sym (drop-drop (b - a) a x) ∙ ap (drop (b - a)) e ∙ drop-drop (b - a) a y ∙ ap (λ (w : ℕ). drop w y) n
+
+-- words that are the same from a place on are the same from there to before n
+pub drop-take-same : (n i : ℕ) (x y : List ℕ) → drop i x ≡ drop i y → drop i (take n x) ≡ drop i (take n y)
+drop-take-same n i x y e = drop-take n i x ∙ ap (take (n - i)) e ∙ sym (drop-take n i y)
+  where
+    drop-take : (n i : ℕ) (l : List ℕ) → drop i (take n l) ≡ take (n - i) (drop i l)
+    drop-take n zero l = let e : n - 0 ≡ n = omega arith in rw e
+    drop-take zero (suc i) l = let e : 0 - suc i ≡ 0 = omega arith in rw e
+    drop-take (suc n) (suc i) [] = sym (take-nil (suc n - suc i))
+    drop-take (suc n) (suc i) (x ∷ l) = let e : suc n - suc i ≡ n - i = omega arith in rw e (drop-take n i l)
 
 -- ---- lists laid over a slice
 
@@ -93,11 +103,14 @@ lay-turn m n out₀ out i G h = record {
   same = sym (laid-cons i (getD m i 0) (drop (i + 1) (take n m)) out (omega (arith, G .room, G .len))) ∙ sym (ap (λ (l : List ℕ). laid i l out) (next-word m n i (G .have) h)) ∙ G .same;
 }
 
-pub lay-done : (m : List ℕ) (n : ℕ) (out₀ out : List ℕ) (i : ℕ) → Laying m n out₀ out i → n ≤ i → (Laid.Done n ≡ roomFor (take n m) out₀) × (out ≡ laidOver (take n m) out₀)
-lay-done m n out₀ out i G h =
-    let l : length (take n m) ≡ n = length-take-le n m (G .have) in
-    let r = room-yes (take n m) out₀ (omega (arith, G .room)) in
-    (sym (r .0 ∙ ap Laid.Done l), sym (r .1 ∙ sym (G .same) ∙ ap (λ (s : List ℕ). laid i s out) (no-more m n i (G .have) h) ∙ laid-nil i out))
+pub copy-done : (m : List ℕ) (n : ℕ) (out₀ out : List ℕ) (i : ℕ) → Laying m n out₀ out i → n ≤ i → out ≡ laid 0 (take n m) out₀
+copy-done m n out₀ out i G h = sym (sym (G .same) ∙ ap (λ (s : List ℕ). laid i s out) (no-more m n i (G .have) h) ∙ laid-nil i out)
+
+pub lay-done : (m : List ℕ) (n : ℕ) (out₀ out : List ℕ) → n ≤ length m → n ≤ length out₀ → out ≡ laid 0 (take n m) out₀ → (Laid.Done n ≡ roomFor (take n m) out₀) × (out ≡ laidOver (take n m) out₀)
+lay-done m n out₀ out h g e =
+    let l : length (take n m) ≡ n = length-take-le n m h in
+    let r = room-yes (take n m) out₀ (omega arith) in
+    (sym (r .0 ∙ ap Laid.Done l), e ∙ sym (r .1))
 
 pub lay-none : (m : List ℕ) (n : ℕ) (out : List ℕ) → n ≤ length m → length out < n → (Laid.NoRoom ≡ roomFor (take n m) out) × (out ≡ laidOver (take n m) out)
 lay-none m n out h g =
@@ -120,6 +133,12 @@ pub zeros-replicate : (n : ℕ) → replicate n 0 ≡ zeros n
 unfolding zeros
 zeros-replicate zero = refl
 zeros-replicate (suc n) = ap (λ (l : List ℕ). 0 ∷ l) (zeros-replicate n)
+
+pub zeros-drop : (k n : ℕ) → drop k (zeros n) ≡ zeros (n - k)
+unfolding zeros
+zeros-drop zero n = let e : n ≡ n - 0 = omega arith in ap zeros e
+zeros-drop (suc k) zero = let e : 0 ≡ 0 - suc k = omega arith in ap zeros e
+zeros-drop (suc k) (suc n) = let e : suc n - suc k ≡ n - k = omega arith in rw e (zeros-drop k n)
 
 zeros-pop : (n : ℕ) → 0 < n → zeros n ≡ 0 ∷ zeros (n - 1)
 unfolding zeros

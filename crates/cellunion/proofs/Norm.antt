@@ -11,19 +11,16 @@ use borrow.Author.Tests.{ltb-false}
 use Rattle.cellid.specs.CellId.{Cell, firstLeaf, lastLeaf}
 use Rattle.cellid.proofs.Laws.{bool-iff}
 use Rattle.cellunion.specs.CellUnion.{lo, hi, covers, SameLeaves, Member, Apart, NoFour, Normal, keepCell, pass, rev, normalise}
-use Rattle.cellunion.specs.Stack.{Down, Stack}
+use Rattle.cellunion.specs.Stack.{Down, Stack, Ready}
 use Rattle.order.specs.Order.{All, Le, insert, sort, Sorted}
 use Rattle.order.proofs.OrderLaws.{which, all-append, all-weak, insert-past, insert-front}
 use Rattle.order.proofs.LexLaws.{numbers}
-use Rattle.order.proofs.SortLaws.{sort-sorted, sorted-sort, length-sort}
+use Rattle.order.proofs.SortLaws.{sort-sorted, length-sort}
 use Rattle.cellunion.proofs.Spans.{span}
 use Rattle.cellunion.proofs.Unique.{all-at, at-all, Covered, covers→, covers←, normal-unique}
 use Rattle.cellunion.proofs.Stack.{stack-nil, Cov, Kept, keep-laws}
 
 -- ---- the pass
-
-abbrev pub Ready : List ℕ → ℕ → Type 0
-Ready s c = All (λ y. 2 * lo y + 1 ≤ c) s
 
 pub record Passed (s l r : List ℕ) : Type 0 where
   pub stack : Stack r
@@ -173,7 +170,3 @@ normalise-again a A = sym (normal-is a a A (A .cells) (λ n. refl))
 -- only the leaves count
 pub normalise-same : (a b : List ℕ) → All Cell a → All Cell b → SameLeaves a b → normalise a ≡ normalise b
 normalise-same a b A B same = normal-is (normalise a) b (normalise-normal a A) B (λ n. normalise-leaves a A n ∙ same n)
-
-pub normalise-sorted : (l : List ℕ) → normalise (sort ltb l) ≡ normalise l
-unfolding normalise
-normalise-sorted l = ap (λ (s : List ℕ). rev (pass [] s)) (sorted-sort ltb numbers (sort ltb l) (sort-sorted ltb numbers l))

@@ -14,16 +14,16 @@ use Rattle.cellid.specs.CellId.{Cell, IsCell, holds}
 use Rattle.cellid.proofs.Laws.{cell-pos}
 use Rattle.cellid.proofs.Leaves.{child-cell}
 use Rattle.order.specs.Order.{All, Sorted, sort}
-use Rattle.order.proofs.SortLaws.{sorted-sort, sort-sorted, length-sort}
+use Rattle.order.proofs.SortLaws.{sort-sorted, length-sort}
 use Rattle.order.proofs.LexLaws.{numbers}
 use Rattle.cellunion.specs.CellUnion.{lo, hi, Member, isFour, upOne, clearOf, collapse, keepCell, pass, rev, normalise}
-use Rattle.cellunion.specs.Stack.{Down, Stack, topFirst, Topped, Next, Gives, PassDone}
+use Rattle.cellunion.specs.Stack.{Down, Stack, Ready, topFirst, Topped, Next, Gives, PassAsks, PassDone}
 use Rattle.cellunion.specs.Memory.{zeros, laid, normalised}
 use Rattle.cellunion.proofs.Spans.{span, In, holds-no}
 use Rattle.cellunion.proofs.Unique.{all-at, at-all}
-use Rattle.cellunion.proofs.Stack.{clear-laws, not-next, keep-laws, stack-nil, tail, four→, rise, collapse-go, collapse-end}
-use Rattle.cellunion.proofs.Norm.{Ready, ready-on, all-ready, member-sort→, normalise-sorted}
-use Rattle.cellunion.proofs.Memory.{next-read, no-more, drop-more, length-zeros}
+use Rattle.cellunion.proofs.Stack.{begun, clear-laws, not-next, keep-laws, stack-nil, tail, four→, rise, collapse-go, collapse-end}
+use Rattle.cellunion.proofs.Norm.{ready-on, all-ready, member-sort→}
+use Rattle.cellunion.proofs.Memory.{next-word, no-more, drop-more, drop-take-same, length-zeros}
 
 pub top-pop : (k : ℕ) (m : List ℕ) → 0 < k → topFirst k m ≡ getD m (k - 1) 0 ∷ topFirst (k - 1) m
 unfolding topFirst
@@ -180,7 +180,7 @@ none-held m k c N (inr h) y w i = not-held (topFirst k m) c N (getD m (k - 1) 0)
 
 pub keep-topped : (m : List ℕ) (k c j : ℕ) → k < length m → Next (topFirst k m) c → HeadFree m k c → j ≤ k → topFirst j m ≡ clearOf c (topFirst k m) → (j < length m) × Topped (topFirst j m) c
 keep-topped m k c j h N f l e =
-    let A = clear-laws c (N .cell) (topFirst k m) (N .stack) (N .ready) (none-held m k c N f) in
+    let A = clear-laws c (N .cell) (topFirst k m) (N .stack) (begun (topFirst k m) c (N .cell) (N .ready)) (none-held m k c N f) in
     (omega arith, rw e (record { stack = A .stack; cell = N .cell; under = A .under }))
 
 pub keep-done : (m : List ℕ) (k c j : ℕ) (m' : List ℕ) (r : ℕ) → HeadFree m k c → j ≤ k → topFirst j m ≡ clearOf c (topFirst k m) → Gives (collapse (topFirst j m) c) j m m' r → Gives (keepCell (topFirst k m) c) k m m' r
@@ -192,27 +192,18 @@ keep-done m k c j m' r f l e G = record {
 
 -- ---- the pass
 
-pub record Passing (m₀ : List ℕ) (n : ℕ) (m : List ℕ) (k i : ℕ) : Type 0 where
-  pub few : k ≤ i
-  pub within : i ≤ n
-  pub room : n ≤ length m₀
+-- what is left of the pass, on top of what is kept, is the whole of it
+pub record Passing (n : ℕ) (m₀ : List ℕ) (k₀ i₀ : ℕ) (m : List ℕ) (k i : ℕ) : Type 0 where
+  pub asks : PassAsks n m k i
   pub len : length m ≡ length m₀
-  pub rest : drop i m ≡ drop i m₀
-  pub stack : Stack (topFirst k m)
-  pub ready : All (Ready (topFirst k m)) (drop i (take n m₀))
-  pub cells : All Cell (drop i (take n m₀))
-  pub sorted : Sorted ltb (drop i (take n m₀))
-  pub same : pass (topFirst k m) (drop i (take n m₀)) ≡ pass [] (take n m₀)
+  pub rest : drop n m ≡ drop n m₀
+  pub same : pass (topFirst k m) (drop i (take n m)) ≡ pass (topFirst k₀ m₀) (drop i₀ (take n m₀))
 
-pub pass-start : (m₀ : List ℕ) (n : ℕ) → n ≤ length m₀ → All Cell (take n m₀) → Sorted ltb (take n m₀) → Passing m₀ n m₀ 0 0
-unfolding topFirst
-pass-start m₀ n h C S = record { few = omega arith; within = omega arith; room = h; len = refl; rest = refl; stack = stack-nil; ready = all-ready (take n m₀); cells = C; sorted = S; same = refl }
-
-pub pass-next : (m₀ : List ℕ) (n : ℕ) (m : List ℕ) (k i : ℕ) → Passing m₀ n m k i → i < n → (k < length m) × Next (topFirst k m) (getD m i 0)
+pub pass-next : (n : ℕ) (m : List ℕ) (k i : ℕ) → PassAsks n m k i → i < n → (k < length m) × Next (topFirst k m) (getD m i 0)
 unfolding All
-pass-next m₀ n m k i P h =
-    let e = next-read m₀ m n i (P .room) h (P .rest) in (
-      omega (arith, P .few, P .room, P .len),
+pass-next n m k i P h =
+    let e = next-word m n i (P .room) h in (
+      omega (arith, P .few, P .room),
       record {
         stack = P .stack;
         cell = subst (λ (s : List ℕ). All Cell s) e (P .cells) .0;
@@ -220,26 +211,33 @@ pass-next m₀ n m k i P h =
       },
     )
 
-pub pass-turn : (m₀ : List ℕ) (n : ℕ) (m : List ℕ) (k i : ℕ) (m' : List ℕ) (r : ℕ) → Passing m₀ n m k i → i < n → length m' ≡ length m → Gives (keepCell (topFirst k m) (getD m i 0)) k m m' r → Passing m₀ n m' r (i + 1)
+pub pass-turn : (n : ℕ) (m₀ : List ℕ) (k₀ i₀ : ℕ) (m : List ℕ) (k i : ℕ) (m' : List ℕ) (r : ℕ) → Passing n m₀ k₀ i₀ m k i → i < n → length m' ≡ length m → Gives (keepCell (topFirst k m) (getD m i 0)) k m m' r
+    → Passing n m₀ k₀ i₀ m' r (i + 1)
 unfolding All Sorted pass
-pass-turn m₀ n m k i m' r P h q G =
-    let e = next-read m₀ m n i (P .room) h (P .rest) in
+pass-turn n m₀ k₀ i₀ m k i m' r G h q K =
+    let P = G .asks in
+    let s = topFirst k m in
     let c = getD m i 0 in
-    let l = drop (i + 1) (take n m₀) in
-    let N = pass-next m₀ n m k i P h .1 in
-    let K = keep-laws (topFirst k m) c (N .stack) (N .cell) (N .ready) in
-    let O = subst (Sorted ltb) e (P .sorted) in
+    let l = drop (i + 1) (take n m) in
+    let N = pass-next n m k i P h .1 in
+    let L = keep-laws s c (N .stack) (N .cell) (N .ready) in
+    let e : drop i (take n m) ≡ c ∷ l = next-word m n i (P .room) h in
+    let O : Sorted ltb (c ∷ l) = subst (Sorted ltb) e (P .sorted) in
+    let d : drop (i + 1) m' ≡ drop (i + 1) m = drop-more (k + 1) (i + 1) m' m (omega (arith, P .few)) (K .rest) in
+    let w : l ≡ drop (i + 1) (take n m') = sym (drop-take-same n (i + 1) m' m d) in
     record {
-      few = omega (arith, G .within, P .few);
-      within = omega arith;
-      room = P .room;
-      len = q ∙ P .len;
-      rest = drop-more (k + 1) (i + 1) m' m (omega (arith, P .few)) (G .rest) ∙ drop-more i (i + 1) m m₀ (omega arith) (P .rest);
-      stack = subst Stack (sym (G .is)) (K .stack);
-      ready = subst (λ (s : List ℕ). All (Ready s) l) (sym (G .is)) (ready-on (keepCell (topFirst k m) c) c l (K .low) (O .0));
-      cells = subst (λ (s : List ℕ). All Cell s) e (P .cells) .1;
-      sorted = O .1;
-      same = ap (λ (s : List ℕ). pass s l) (G .is) ∙ sym (ap (pass (topFirst k m)) e) ∙ P .same;
+      asks = record {
+        few = omega (arith, K .within, P .few);
+        within = omega arith;
+        room = omega (arith, P .room);
+        stack = subst Stack (sym (K .is)) (L .stack);
+        cells = subst (λ (x : List ℕ). All Cell x) w (subst (λ (x : List ℕ). All Cell x) e (P .cells) .1);
+        sorted = subst (Sorted ltb) w (O .1);
+        ready = rw (K .is, ← w) (ready-on (keepCell s c) c l (L .low) (O .0));
+      };
+      len = q ∙ G .len;
+      rest = drop-more (i + 1) n m' m (omega arith) d ∙ G .rest;
+      same = ap₂ pass (K .is) (sym w) ∙ sym (ap (pass s) e) ∙ G .same;
     }
 
 pub rev-top : (k : ℕ) (m : List ℕ) → k ≤ length m → take k m ≡ rev (topFirst k m)
@@ -247,16 +245,26 @@ unfolding rev topFirst
 rev-top zero m h = refl
 rev-top (suc k) m h = take-suc m k 0 h ∙ ap (λ (s : List ℕ). s ++ (getD m k 0 ∷ [])) (rev-top k m (omega arith))
 
-pub pass-done : (m₀ : List ℕ) (n : ℕ) (m : List ℕ) (k i : ℕ) → Sorted ltb (take n m₀) → Passing m₀ n m k i → n ≤ i → PassDone n m₀ m k
-unfolding normalise pass
-pass-done m₀ n m k i S P h =
-    let z = no-more m₀ n i (P .room) h in
-    let s : topFirst k m ≡ pass [] (take n m₀) = sym (ap (pass (topFirst k m)) z) ∙ P .same in
-    record {
-      within = omega (arith, P .few);
-      is = rev-top k m (omega (arith, P .few, P .len, P .room)) ∙ ap rev (s ∙ ap (pass []) (sym (sorted-sort ltb numbers (take n m₀) S)));
-      rest = drop-more i n m m₀ (P .within) (P .rest);
-    }
+pub pass-done : (n : ℕ) (m₀ : List ℕ) (k₀ i₀ : ℕ) (m : List ℕ) (k i : ℕ) → Passing n m₀ k₀ i₀ m k i → n ≤ i → PassDone n m₀ k₀ i₀ m k
+unfolding pass
+pass-done n m₀ k₀ i₀ m k i G h = record {
+  within = omega (arith, G .asks .few, G .asks .within);
+  is = sym (ap (pass (topFirst k m)) (no-more m n i (G .asks .room) h)) ∙ G .same;
+  rest = G .rest;
+}
+
+-- what the pass left over is cleared
+pub clear-normal : (n : ℕ) (m m' : List ℕ) (k : ℕ) (out : List ℕ) → k ≤ n → n ≤ length m' → rev (topFirst k m') ≡ normalise (take n m) → drop n m' ≡ drop n m → out ≡ laid k (zeros (n - k)) m'
+    → (k ≡ length (normalise (take n m))) × (out ≡ normalised n m)
+unfolding normalised laid
+clear-normal n m m' k out h g t d e =
+    let f : take k m' ≡ normalise (take n m) = rev-top k m' (omega arith) ∙ t in
+    let q : k ≡ length (normalise (take n m)) = sym (length-take-le k m' (omega arith)) ∙ ap length f in
+    let w : k + length (zeros (n - k)) ≡ n = omega (arith, length-zeros (n - k)) in (
+      q,
+      e ∙ ap₂ (λ (a b : List ℕ). a ++ (zeros (n - k) ++ b)) f (ap (λ (i : ℕ). drop i m') w ∙ d)
+          ∙ ap (λ (i : ℕ). normalise (take n m) ++ (zeros (n - i) ++ drop n m)) q,
+    )
 
 -- ---- sort, pass, clear
 
@@ -276,20 +284,19 @@ sort-done n m p h e =
       back = drop-at p (drop (n - 0) m) n l ∙ ap (λ (k : ℕ). drop k m) z;
     }
 
-pub pass-asks : (n : ℕ) (m s : List ℕ) → All Cell (take n m) → SortDone n m s → (n ≤ length s) × All Cell (take n s) × Sorted ltb (take n s)
-pass-asks n m s C S = (
-  S .room,
-  subst (λ (l : List ℕ). All Cell l) (sym (S .front)) (at-all Cell (sort ltb (take n m)) (λ x k. all-at Cell (take n m) C x (member-sort→ (take n m) x k))),
-  subst (Sorted ltb) (sym (S .front)) (sort-sorted ltb numbers (take n m)),
-)
+pub pass-asks : (n : ℕ) (m s : List ℕ) → All Cell (take n m) → SortDone n m s → PassAsks n s 0 0
+unfolding topFirst
+pass-asks n m s C S = record {
+  few = omega arith;
+  within = omega arith;
+  room = S .room;
+  stack = stack-nil;
+  cells = subst (λ (l : List ℕ). All Cell l) (sym (S .front)) (at-all Cell (sort ltb (take n m)) (λ x k. all-at Cell (take n m) C x (member-sort→ (take n m) x k)));
+  sorted = subst (Sorted ltb) (sym (S .front)) (sort-sorted ltb numbers (take n m));
+  ready = all-ready (take n s);
+}
 
-pub normalize-done : (n : ℕ) (m s m' : List ℕ) (k : ℕ) (out : List ℕ) → SortDone n m s → length m' ≡ length s → PassDone n s m' k → out ≡ laid k (zeros (n - k)) m' → (k ≡ length (normalise (take n m))) × (out ≡ normalised n m)
-unfolding normalised laid
+pub normalize-done : (n : ℕ) (m s m' : List ℕ) (k : ℕ) (out : List ℕ) → SortDone n m s → length m' ≡ length s → PassDone n s 0 0 m' k → out ≡ laid k (zeros (n - k)) m' → (k ≡ length (normalise (take n m))) × (out ≡ normalised n m)
+unfolding normalise topFirst
 normalize-done n m s m' k out S l P e =
-    let f : take k m' ≡ normalise (take n m) = P .is ∙ ap normalise (S .front) ∙ normalise-sorted (take n m) in
-    let q : k ≡ length (normalise (take n m)) = sym (length-take-le k m' (omega (arith, P .within, S .room))) ∙ ap length f in
-    let w : k + length (zeros (n - k)) ≡ n = omega (arith, length-zeros (n - k), P .within) in (
-      q,
-      e ∙ ap₂ (λ (a b : List ℕ). a ++ (zeros (n - k) ++ b)) f (ap (λ (i : ℕ). drop i m') w ∙ P .rest ∙ S .back)
-          ∙ ap (λ (i : ℕ). normalise (take n m) ++ (zeros (n - i) ++ drop n m)) q,
-    )
+    clear-normal n m m' k out (P .within) (omega (arith, S .room)) (ap rev (P .is ∙ ap (pass []) (S .front))) (P .rest ∙ S .back) e

@@ -13,7 +13,7 @@ use Rattle.cellid.specs.CellId.{Cell, IsCell, idOf, bitAt, levelOf, parentAt, c
 use Rattle.cellid.proofs.Laws.{and-true, level-cell, parent-id}
 use Rattle.cellid.proofs.Leaves.{child-cell}
 use Rattle.cellunion.specs.CellUnion.{lo, hi, Member, NoFour, upOne, isFour, collapse, clearOf, keepCell}
-use Rattle.cellunion.specs.Stack.{Down, Stack}
+use Rattle.cellunion.specs.Stack.{Down, Stack, Ready}
 use Rattle.order.specs.Order.{All}
 use Rattle.order.proofs.OrderLaws.{which, all-weak}
 use Rattle.cellunion.proofs.Spans.{span, In, Nest, left, right, inside, around, nest, Kids, kids, holds-in, holds-no}
@@ -109,9 +109,9 @@ pub record Cleared (s : List ℕ) (c : ℕ) (r : List ℕ) : Type 0 where
   pub from : Cov r s
   pub short : length r ≤ length s
 
-before : {t c : ℕ} → Cell t → Cell c → 2 * lo t + 1 ≤ c → (In c t → ⊥) → holds c t ≡ false → Nest t c → hi t ≤ lo c
+before : {t c : ℕ} → Cell t → Cell c → lo t < hi c → (In c t → ⊥) → holds c t ≡ false → Nest t c → hi t ≤ lo c
 before T C r n f (left h) = h
-before T C r n f (right h) = let s = span C in absurd (omega arith)
+before T C r n f (right h) = absurd (omega arith)
 before T C r n f (inside h) = absurd (holds-no C T f h)
 before T C r n f (around h) = absurd (n h)
 
@@ -121,7 +121,11 @@ not-next t c s C r a y m i =
     let h : hi y ≤ lo t = all-at (λ y. hi y ≤ lo t) s a y m in
     let u = span C in omega (arith, i .1)
 
-pub clear-laws : (c : ℕ) → Cell c → (s : List ℕ) → Stack s → All (λ y. 2 * lo y + 1 ≤ c) s → ((y : ℕ) → Member y s → In c y → ⊥) → Cleared s c (clearOf c s)
+-- what begins before c does begins before c ends
+pub begun : (s : List ℕ) (c : ℕ) → Cell c → Ready s c → All (λ y. lo y < hi c) s
+begun s c C r = all-weak (λ y. 2 * lo y + 1 ≤ c) (λ y. lo y < hi c) s (λ y h. let u = span C in omega arith) r
+
+pub clear-laws : (c : ℕ) → Cell c → (s : List ℕ) → Stack s → All (λ y. lo y < hi c) s → ((y : ℕ) → Member y s → In c y → ⊥) → Cleared s c (clearOf c s)
 unfolding clearOf All Down Member
 clear-laws c C [] S r n = record { stack = S; under = tt; to = λ n c. absurd (c .1); from = λ n c. c; short = omega arith }
 clear-laws c C (t ∷ s) S r n = ⊎-elim
@@ -208,7 +212,7 @@ pub record Collapsed (s : List ℕ) (c b : ℕ) (r : List ℕ) : Type 0 where
   pub stack : Stack r
   pub to : Cov (c ∷ s) r
   pub from : Cov r (c ∷ s)
-  pub low : All (λ y. 2 * lo y + 1 ≤ b) r
+  pub low : Ready r b
   pub short : length r ≤ suc (length s)
 
 push-laws : (s : List ℕ) (c b : ℕ) → Stack s → Cell c → All (λ y. hi y ≤ lo c) s → 2 * lo c + 1 ≤ b → ((P L p : ℕ) → IsCell P L p → L < 30 → TopFour s c P → ⊥) → Collapsed s c b (c ∷ s)
@@ -311,7 +315,7 @@ pub record Kept (s : List ℕ) (c : ℕ) (r : List ℕ) : Type 0 where
   pub stack : Stack r
   pub to : Cov (c ∷ s) r
   pub from : Cov r (c ∷ s)
-  pub low : All (λ y. 2 * lo y + 1 ≤ c) r
+  pub low : Ready r c
   pub short : length r ≤ suc (length s)
 
 two-steps : (s q r : List ℕ) (c : ℕ) → Cleared s c q → Collapsed q c c r → Kept s c r
@@ -325,7 +329,7 @@ two-steps s q r c A B = record {
   short = omega (arith, A .short, B .short);
 }
 
-pub keep-laws : (s : List ℕ) (c : ℕ) → Stack s → Cell c → All (λ y. 2 * lo y + 1 ≤ c) s → Kept s c (keepCell s c)
+pub keep-laws : (s : List ℕ) (c : ℕ) → Stack s → Cell c → Ready s c → Kept s c (keepCell s c)
 unfolding keepCell All Down Member
 keep-laws [] c S C r =
     let u = span C in
@@ -343,6 +347,6 @@ keep-laws (t ∷ s) c S C r = ⊎-elim
     }))
     (λ (e : holds t c ≡ false).
     let u = span C in
-    let A = clear-laws c C (t ∷ s) S r (λ y m i. ⊎-elim (λ (q : y ≡ t). holds-no (S .cells .0) C e (omega (arith, i .0, ap lo q), omega (arith, i .1, ap hi q))) (λ m. not-next t c s C (r .0) (S .down .0) y m i) m) in
+    let A = clear-laws c C (t ∷ s) S (begun (t ∷ s) c C r) (λ y m i. ⊎-elim (λ (q : y ≡ t). holds-no (S .cells .0) C e (omega (arith, i .0, ap lo q), omega (arith, i .1, ap hi q))) (λ m. not-next t c s C (r .0) (S .down .0) y m i) m) in
     rw (e, keepCell) (two-steps (t ∷ s) (clearOf c (t ∷ s)) _ c A (collapse-laws (clearOf c (t ∷ s)) c c (A .stack) C (A .under) (omega arith))))
     (which (holds t c))

@@ -2,10 +2,11 @@
 use mathlib.Core.Path.{_≡_}
 use mathlib.Core.List.{List, [], _∷_}
 use Prim.Native.Nat.{ℕ, zero, suc, _+_, _*_, _≤_}
-use lib.ListN.{getD, take, drop}
+use lib.ListN.{length, getD, take, drop}
+use lib.Dec.{ltb}
 use Rattle.cellid.specs.CellId.{Cell}
-use Rattle.order.specs.Order.{All}
-use Rattle.cellunion.specs.CellUnion.{lo, hi, NoFour, normalise}
+use Rattle.order.specs.Order.{All, Sorted}
+use Rattle.cellunion.specs.CellUnion.{lo, hi, NoFour, pass}
 
 -- each cell ends before those above it begin
 unfoldable pub Down : List ℕ → Type 0
@@ -28,11 +29,15 @@ pub record Topped (s : List ℕ) (c : ℕ) : Type 0 where
   pub cell : Cell c
   pub under : All (λ y. hi y ≤ lo c) s
 
--- c may be looked at next: all of s begins before it
+-- all of s begins before c
+abbrev pub Ready : List ℕ → ℕ → Type 0
+Ready s c = All (λ y. 2 * lo y + 1 ≤ c) s
+
+-- c may be looked at next
 pub record Next (s : List ℕ) (c : ℕ) : Type 0 where
   pub stack : Stack s
   pub cell : Cell c
-  pub ready : All (λ y. 2 * lo y + 1 ≤ c) s
+  pub ready : Ready s c
 
 -- r words are kept, and what stands from place k + 1 on is as before
 pub record Gives (want : List ℕ) (k : ℕ) (m m' : List ℕ) (r : ℕ) : Type 0 where
@@ -40,8 +45,18 @@ pub record Gives (want : List ℕ) (k : ℕ) (m m' : List ℕ) (r : ℕ) : Type 
   pub within : r ≤ k + 1
   pub rest : drop (k + 1) m' ≡ drop (k + 1) m
 
--- the first r words are the normal list of the first n, and what stands from place n on is as before
-pub record PassDone (n : ℕ) (m m' : List ℕ) (r : ℕ) : Type 0 where
+-- the words from place i to before n, sorted cells, may be looked at one after another on top of the first k
+pub record PassAsks (n : ℕ) (m : List ℕ) (k i : ℕ) : Type 0 where
+  pub few : k ≤ i
+  pub within : i ≤ n
+  pub room : n ≤ length m
+  pub stack : Stack (topFirst k m)
+  pub cells : All Cell (drop i (take n m))
+  pub sorted : Sorted ltb (drop i (take n m))
+  pub ready : All (Ready (topFirst k m)) (drop i (take n m))
+
+-- the first r words are what the pass keeps, and what stands from place n on is as before
+pub record PassDone (n : ℕ) (m : List ℕ) (k i : ℕ) (m' : List ℕ) (r : ℕ) : Type 0 where
   pub within : r ≤ n
-  pub is : take r m' ≡ normalise (take n m)
+  pub is : topFirst r m' ≡ pass (topFirst k m) (drop i (take n m))
   pub rest : drop n m' ≡ drop n m

@@ -1,13 +1,13 @@
 // Lists of cells in lent memory: what a list may be, normalising in place, denormalising into an output.
 ghost use mathlib.Core.Path.{_≡_};
+ghost use mathlib.Core.Bool.{true};
 ghost use Prim.Native.Nat.{_+_, _-_, _*_, _^_, _≤_, _<_, min, max};
-ghost use lib.ListN.{length, take};
-ghost use lib.Dec.{ltb};
-ghost use Rattle.cellid.specs.CellId.{Cell, lowBit, levelOf};
-ghost use Rattle.order.specs.Order.{All, Sorted};
-ghost use Rattle.cellunion.specs.CellUnion.{normalise, listed, isList, isFour, clearOf, collapse, keepCell, goal, below, denormalise, countOf};
+ghost use lib.ListN.{length, getD, take, set};
+ghost use Rattle.cellid.specs.CellId.{Cell, lowBit, levelOf, holds};
+ghost use Rattle.order.specs.Order.{All};
+ghost use Rattle.cellunion.specs.CellUnion.{Normal, normalise, listed, isList, isFour, clearOf, collapse, keepCell, goal, below, denormalise, countOf};
 ghost use Rattle.cellunion.specs.Memory.{zeros, normalised, laid, roomFor, laidOver, AsksList};
-ghost use Rattle.cellunion.specs.Stack.{topFirst, Topped, Next, Gives, PassDone};
+ghost use Rattle.cellunion.specs.Stack.{topFirst, Topped, Next, Gives, PassAsks, PassDone};
 
 // The answer of a function that lays a list over an output: how many words it laid, or that they do not fit and nothing was written.
 pub enum Laid {
@@ -121,13 +121,13 @@ fn keep(mem: &mut [u64], k: usize, c: u64) -> usize
     collapse(mem, left, c)
 }
 
-// The pass over the first n words, which are sorted.
-fn pass(mem: &mut [u64], n: usize) -> usize
-    requires { ⌜ (n ≤ length (now mem)) × All Cell (take n (now mem)) × Sorted ltb (take n (now mem)) ⌝ }
-    ensures { λ r. ⌜ PassDone n (now (mem .entry)) (now (mem .exit)) r ⌝ }
+// The pass over the words from `from` to before n, which are sorted, on top of the first k.
+fn pass(mem: &mut [u64], k: usize, from: usize, n: usize) -> usize
+    requires { ⌜ PassAsks n (now mem) k from ⌝ }
+    ensures { λ r. ⌜ PassDone n (now (mem .entry)) k from (now (mem .exit)) r ⌝ }
 {
-    let mut kept: usize = 0;
-    let mut i: usize = 0;
+    let mut kept = k;
+    let mut i = from;
     while i < n {
         let c = mem[i];
         kept = keep(mem, kept, c);
@@ -155,8 +155,21 @@ pub fn normalize(mem: &mut [u64], n: usize) -> usize
     ensures { λ r. ⌜ (r ≡ length (normalise (take n (now (mem .entry))))) × (now (mem .exit) ≡ normalised n (now (mem .entry))) ⌝ }
 {
     order::sort(&mut mem[0..n]);
-    let kept = pass(mem, n);
+    let kept = pass(mem, 0, 0, n);
     clear(mem, kept, n);
+    kept
+}
+
+// Puts c, a cell around the one at the place `at`, in its place in the first k words, a normal list, and normalises them again: what `normalize` would
+// give, without sorting. The cells before `at` that do not lie in c stay as they are; those behind it go through the pass.
+pub fn widen(mem: &mut [u64], k: usize, at: usize, c: u64) -> usize
+    requires { ⌜ (k ≤ length (now mem)) × Normal (take k (now mem)) × (at < k) × Cell c × (holds c (getD (now mem) at 0) ≡ true) ⌝ }
+    ensures { λ r. ⌜ (r ≡ length (normalise (take k (set (now (mem .entry)) at c)))) × (now (mem .exit) ≡ normalised k (set (now (mem .entry)) at c)) ⌝ }
+{
+    let left = clear_of(mem, at, c);
+    let top = collapse(mem, left, c);
+    let kept = pass(mem, top, at + 1, k);
+    clear(mem, kept, k);
     kept
 }
 
@@ -241,6 +254,18 @@ pub fn denormalize(mem: &[u64], n: usize, low: u64, step: u64, out: &mut [u64]) 
     Laid::Done(write(mem, n, low, step, out))
 }
 
+// Copies the first n words to the output's first places.
+pub fn copy(ids: &[u64], n: usize, out: &mut [u64])
+    requires { ⌜ (n ≤ length (now ids)) × (n ≤ length (now out)) ⌝ }
+    ensures { λ _. ⌜ now (out .exit) ≡ laid 0 (take n (now (ids .entry))) (now (out .entry)) ⌝ }
+{
+    let mut i: usize = 0;
+    while i < n {
+        out[i] = ids[i];
+        i += 1;
+    }
+}
+
 // Lays the first n words of mem over the output's first places, as they are.
 pub fn lay(mem: &[u64], n: usize, out: &mut [u64]) -> Laid
     requires { ⌜ n ≤ length (now mem) ⌝ }
@@ -249,10 +274,6 @@ pub fn lay(mem: &[u64], n: usize, out: &mut [u64]) -> Laid
     if out.len() < n {
         return Laid::NoRoom;
     }
-    let mut i: usize = 0;
-    while i < n {
-        out[i] = mem[i];
-        i += 1;
-    }
+    copy(mem, n, out);
     Laid::Done(n)
 }

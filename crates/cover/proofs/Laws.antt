@@ -11,34 +11,34 @@ use Rattle.input.specs.declared.Found.{Found}
 use Rattle.replies.specs.Write.{Wrote, Whole, errorText, endText}
 use Rattle.replies.proofs.Lengths.{wrote-whole, error-length, end-length}
 use Rattle.lines.specs.Lines.{Replied}
-use Rattle.cover.specs.Cover.{textFor, memoryFor, outputFor, lineOf, Told, ToldAt}
+use Rattle.cover.specs.Cover.{textFor, lentFor, memoryFor, outputFor, lineOf, Told, ToldAt}
 
-module _ (f : Feed) (number answered : ℕ) (buf mem out page : List ℕ) (r : ℕ) (page' : List ℕ) where
-  pub told-line : (mem' out' : List ℕ) → f .found ≡ Found.Line → Replied number (lineOf f buf) mem mem' out out' page r page' → Told f number answered buf mem mem' out out' page r page'
-  unfolding textFor memoryFor outputFor
-  told-line mem' out' e R = record { wrote = rw e (R .wrote); memory = rw e (R .memory); output = rw e (R .output) }
+module _ (f : Feed) (number answered : ℕ) (buf words mem out page : List ℕ) (r : ℕ) (page' : List ℕ) where
+  pub told-line : (words' mem' out' : List ℕ) → f .found ≡ Found.Line → Replied number (lineOf f buf) words words' mem mem' out out' page r page' → Told f number answered buf words words' mem mem' out out' page r page'
+  unfolding textFor lentFor memoryFor outputFor
+  told-line words' mem' out' e R = record { wrote = rw e (R .wrote); lent = rw e (R .lent); memory = rw e (R .memory); output = rw e (R .output) }
 
   module _ (room : 17 * length out + 256 ≤ length page) where
-    pub told-long : f .found ≡ Found.TooLong → Wrote 0 (errorText number Fault.LineTooLong) page r page' → Told f number answered buf mem mem out out page r page'
-    unfolding textFor memoryFor outputFor
-    told-long e w = record { wrote = rw e (wrote-whole (omega (arith, error-length number Fault.LineTooLong)) w); memory = rw e; output = rw e }
+    pub told-long : f .found ≡ Found.TooLong → Wrote 0 (errorText number Fault.LineTooLong) page r page' → Told f number answered buf words words mem mem out out page r page'
+    unfolding textFor lentFor memoryFor outputFor
+    told-long e w = record { wrote = rw e (wrote-whole (omega (arith, error-length number Fault.LineTooLong)) w); lent = rw e; memory = rw e; output = rw e }
 
-    pub told-failed : f .found ≡ Found.Failed → Wrote 0 (errorText number Fault.ReadFailed) page r page' → Told f number answered buf mem mem out out page r page'
-    unfolding textFor memoryFor outputFor
-    told-failed e w = record { wrote = rw e (wrote-whole (omega (arith, error-length number Fault.ReadFailed)) w); memory = rw e; output = rw e }
+    pub told-failed : f .found ≡ Found.Failed → Wrote 0 (errorText number Fault.ReadFailed) page r page' → Told f number answered buf words words mem mem out out page r page'
+    unfolding textFor lentFor memoryFor outputFor
+    told-failed e w = record { wrote = rw e (wrote-whole (omega (arith, error-length number Fault.ReadFailed)) w); lent = rw e; memory = rw e; output = rw e }
 
-    pub told-end : f .found ≡ Found.End → Wrote 0 (endText answered) page r page' → Told f number answered buf mem mem out out page r page'
-    unfolding textFor memoryFor outputFor
-    told-end e w = record { wrote = rw e (wrote-whole (omega (arith, end-length answered)) w); memory = rw e; output = rw e }
+    pub told-end : f .found ≡ Found.End → Wrote 0 (endText answered) page r page' → Told f number answered buf words words mem mem out out page r page'
+    unfolding textFor lentFor memoryFor outputFor
+    told-end e w = record { wrote = rw e (wrote-whole (omega (arith, end-length answered)) w); lent = rw e; memory = rw e; output = rw e }
 
 -- a text that is whole lies in its page
 pub within : (s d : List ℕ) (r : ℕ) (d' : List ℕ) → Whole s d r d' → r ≤ length d'
 within s d r d' w = let n : length d' ≡ length s + length (drop (length s) d) = ap length (w .bytes) ∙ length-append s (drop (length s) d) in omega (arith, w .count)
 
 -- an answer in the part of a page behind its first bytes
-module _ (f : Feed) (number answered : ℕ) (buf mem mem' out out' : List ℕ) (at : ℕ) (page : List ℕ) (r : ℕ) (part : List ℕ) where
-  pub told-at : at ≤ length page → Told f number answered buf mem mem' out out' (take (length page - at) (drop at page)) r part
-      → ToldAt f number answered buf mem mem' out out' at page (at + r) (take at page ++ (part ++ drop (length page - at) (drop at page)))
+module _ (f : Feed) (number answered : ℕ) (buf words words' mem mem' out out' : List ℕ) (at : ℕ) (page : List ℕ) (r : ℕ) (part : List ℕ) where
+  pub told-at : at ≤ length page → Told f number answered buf words words' mem mem' out out' (take (length page - at) (drop at page)) r part
+      → ToldAt f number answered buf words words' mem mem' out out' at page (at + r) (take at page ++ (part ++ drop (length page - at) (drop at page)))
   told-at room T =
       let k : length (drop at page) ≤ length page - at = simp length-drop (omega arith) in
       let n : length (take at page) ≡ at = length-take-le at page room in

@@ -1,5 +1,5 @@
 // Reads a line after another from standard input and writes an answer a line: `ok STEPS ASIDE COUNT ID...` to a request, `ok COUNT NUMBER...` to a question
-// about a list, `refused NUMBER` to either, or `error LINE-NUMBER WORD` to a line that is neither. The last line of a whole output is `end N`, the number of lines
+// about lists, `refused NUMBER` to either, or `error LINE-NUMBER WORD` to a line that is neither. The last line of a whole output is `end N`, the number of lines
 // answered. What a line asks and what is answered is the crate `lines`.
 ghost use mathlib.Core.Path.{_≡_};
 ghost use Prim.Native.Nat.{_+_, _*_, _≤_};
@@ -11,11 +11,18 @@ use input::Found;
 use libc::STDIN_FILENO;
 use text::Fault;
 
-// The words of working memory: more than a request may ask for, and as many as a list can have on the longest line.
-fn memory() -> [u64; 16384]
+// Words for the lists of a line: as many as they can have on the longest one.
+fn list_words() -> [u64; 16384]
     ensures { λ r. ⌜ 16384 ≡ length r ⌝ }
 {
     [0; 16384]
+}
+
+// The words of working memory that a request may ask for.
+fn memory() -> [u64; 8192]
+    ensures { λ r. ⌜ 8192 ≡ length r ⌝ }
+{
+    [0; 8192]
 }
 
 // The places of output that a request may ask for.
@@ -38,19 +45,20 @@ fn answer(
     number: u64,
     answered: u64,
     buf: &[u8],
+    words: &mut [u64],
     mem: &mut [u64],
     out: &mut [u64],
     page: &mut [u8],
 ) -> usize
     requires { ⌜ Ready (length (now buf)) f × (17 * length (now out) + 256 ≤ length (now page)) ⌝ }
-    ensures { λ r. ⌜ Told f number answered (now (buf .entry)) (now (mem .entry)) (now (mem .exit)) (now (out .entry)) (now (out .exit)) (now (page .entry)) r (now (page .exit)) ⌝ }
+    ensures { λ r. ⌜ Told f number answered (now (buf .entry)) (now (words .entry)) (now (words .exit)) (now (mem .entry)) (now (mem .exit)) (now (out .entry)) (now (out .exit)) (now (page .entry)) r (now (page .exit)) ⌝ }
 {
     let found = f.found;
     match found {
         Found::Line => {
             let start = f.start;
             let end = f.end;
-            lines::answer(&buf[start..end], number, mem, out, page)
+            lines::answer(&buf[start..end], number, words, mem, out, page)
         }
         Found::TooLong => replies::put_error(page, number, Fault::LineTooLong),
         Found::Failed => replies::put_error(page, number, Fault::ReadFailed),
@@ -64,20 +72,21 @@ fn answer_at(
     number: u64,
     answered: u64,
     buf: &[u8],
+    words: &mut [u64],
     mem: &mut [u64],
     out: &mut [u64],
     page: &mut [u8],
     at: usize,
 ) -> usize
     requires { ⌜ Ready (length (now buf)) f × (at + (17 * length (now out) + 256) ≤ length (now page)) ⌝ }
-    ensures { λ r. ⌜ ToldAt f number answered (now (buf .entry)) (now (mem .entry)) (now (mem .exit)) (now (out .entry)) (now (out .exit)) at (now (page .entry)) r (now (page .exit)) ⌝ }
+    ensures { λ r. ⌜ ToldAt f number answered (now (buf .entry)) (now (words .entry)) (now (words .exit)) (now (mem .entry)) (now (mem .exit)) (now (out .entry)) (now (out .exit)) at (now (page .entry)) r (now (page .exit)) ⌝ }
 {
-    at + answer(f, number, answered, buf, mem, out, &mut page[at..])
+    at + answer(f, number, answered, buf, words, mem, out, &mut page[at..])
 }
 
 // Line after line, numbered from 1 on, until the input ends or fails, or the output can't be written. Answers wait in the page as long as nothing has to be
 // read for the next line, and one more has room.
-fn run(buf: &mut [u8], mem: &mut [u64], out: &mut [u64], page: &mut [u8])
+fn run(buf: &mut [u8], words: &mut [u64], mem: &mut [u64], out: &mut [u64], page: &mut [u8])
     requires { ⌜ 17 * length (now out) + 256 ≤ length (now page) ⌝ }
 {
     let longest = 17 * out.len() + 256;
@@ -94,7 +103,7 @@ fn run(buf: &mut [u8], mem: &mut [u64], out: &mut [u64], page: &mut [u8])
         let at = t.waiting;
         let f = t.feed;
         number += 1;
-        waiting = answer_at(f, number, answered, buf, mem, out, page, at);
+        waiting = answer_at(f, number, answered, buf, words, mem, out, page, at);
         let found = f.found;
         if !input::goes_on(found, page, waiting) {
             return;
@@ -110,8 +119,9 @@ fn run(buf: &mut [u8], mem: &mut [u64], out: &mut [u64], page: &mut [u8])
 
 fn main() {
     let mut buf = input::buffer();
+    let mut words = list_words();
     let mut mem = memory();
     let mut out = places();
     let mut page = blank_page();
-    run(&mut buf, &mut mem, &mut out, &mut page);
+    run(&mut buf, &mut words, &mut mem, &mut out, &mut page);
 }

@@ -15,7 +15,7 @@ use Rattle.cellid.specs.CellId.{Cell, IsCell, levelOf, placeOf, lowBit, leavesO
 use Rattle.cellid.proofs.Laws.{low-cell, cell-lt}
 use Rattle.order.specs.Order.{All}
 use Rattle.order.proofs.OrderLaws.{which}
-use Rattle.region.specs.declared.Region.{Region}
+use Rattle.region.specs.Region.{Area}
 use Rattle.run.specs.declared.Request.{Request}
 use Rattle.run.specs.Run.{Child, State, Outcome, refused, going, then, divide, isEmpty, sumOf, full, depth, expansionOf, lifts, byId, keep, enqueue, setAside, isFull, add, addAll, Task, maxLevel, levelMod, minLevel, maxCells, memoryWords, byCost}
 use Rattle.run.specs.Masks.{consIf, childrenIn, found}
@@ -37,13 +37,13 @@ use Rattle.coverer.specs.declared.Brood.{Brood}
 use Rattle.coverer.specs.Engine.{isIn, childAt, childIf, childrenFrom, leavesIn, asideOf, AsideUpTo, grown, ruleOf, recOf, Ready, Stands, Gives, Does}
 use Rattle.coverer.proofs.Stands.{raw-length, sets-aside, does-as, does-nothing, aside-le, up-to}
 
-pub domain : (q : Request) (g : Region) → Asks q g → Domain q
-domain q g A = record { order = A .order; deep = A .deep }
+pub domain : (q : Request) (a : Area) → Asks q a → Domain q
+domain q a A = record { order = A .order; deep = A .deep }
 
 -- 4 ^ level_mod is at most 64
-pub narrow : (q : Request) (g : Region) (w : Rule) → Ready q g w → w .full ≤ 64
+pub narrow : (q : Request) (a : Area) (w : Rule) → Ready q a w → w .full ≤ 64
 unfolding full
-narrow q g w R =
+narrow q a w R =
     let e : w .full ≡ 2 ^ (2 * levelMod q) = ap (λ (x : Rule). x .full) (R .rule) in
     let few : levelMod q ≤ 3 = R .asks .few in
     omega (arith, e, pow-mono {i = 2 * levelMod q} {j = 6} (omega arith))

@@ -4,7 +4,7 @@ use mathlib.Core.List.{List, _++_}
 use Prim.Native.Nat.{ℕ, _+_, _-_}
 use lib.ListN.{length, drop}
 use Rattle.cellunion.specs.Memory.{zeros, laid}
-use Rattle.region.specs.declared.Region.{Region}
+use Rattle.region.specs.Region.{Area}
 use Rattle.run.specs.declared.Request.{Request}
 use Rattle.run.specs.Run.{queueWords, memoryWords, Course, Outcome, refused, going, byCost, run, rawIds, asideTotal}
 use Rattle.candidate.specs.Candidate.{taskOf}
@@ -19,12 +19,12 @@ unfoldable pub onlyWords : ℕ → ℕ → List ℕ → List ℕ → List ℕ
 onlyWords a b l m = zeros a ++ (l ++ (zeros (b - (a + length l)) ++ drop b m))
 
 -- what a request's run on a region goes by: the region's two tests; the least cost first, of equal costs the smaller id
-abbrev pub courseOf : Request → Region → Course
-courseOf q g = byCost (taskOf q g)
+abbrev pub courseOf : Request → Area → Course
+courseOf q a = byCost (taskOf q a)
 
 -- the defined run
-unfoldable pub outcomeOf : Request → Region → List ℕ → ℕ → Outcome
-outcomeOf q g starts allowance = run (courseOf q g) starts allowance
+unfoldable pub outcomeOf : Request → Area → List ℕ → ℕ → Outcome
+outcomeOf q a starts allowance = run (courseOf q a) starts allowance
 
 -- "7 to 9 come as the run meets them"; "Success returns count, steps and set-aside"
 unfoldable pub engineAnswer : Outcome → Ran

@@ -10,7 +10,7 @@ use lib.Dec.{eqb}
 use lib.ListN.{length, take, drop}
 use Rattle.cellid.specs.CellId.{lowBit, leavesOf}
 use Rattle.order.specs.Order.{All}
-use Rattle.region.specs.declared.Region.{Region}
+use Rattle.region.specs.Region.{Area}
 use Rattle.run.specs.declared.Request.{Request}
 use Rattle.run.specs.Run.{queueMost, rawMost, Task, Grown, Child, State, Outcome, refused, going, full, depth, sumOf, look, expansionOf, setAside, addAll, startAs, after, rawIds, asideTotal, queueWords, memoryWords, byCost}
 use Rattle.run.specs.Masks.{found, consIf, childrenIn}
@@ -122,10 +122,10 @@ module _ (T : Task) where
   startOne c = startAs (byCost T) (look T (c .id)) c
 
 -- what is asked, and the order's rule for it
-pub record Ready (q : Request) (g : Region) (w : Rule) : Type 0 where
-  pub asks : Asks q g
-  pub rule : w ≡ ruleOf (taskOf q g)
+pub record Ready (q : Request) (a : Area) (w : Rule) : Type 0 where
+  pub asks : Asks q a
+  pub rule : w ≡ ruleOf (taskOf q a)
 
 -- m and t stand for a state that the defined run reaches
-abbrev pub Live : Request → Region → List ℕ → Counts → Type 0
-Live q g m t = (s : State) × Reached (taskOf q g) s × Stands (taskOf q g) m t s
+abbrev pub Live : Request → Area → List ℕ → Counts → Type 0
+Live q a m t = (s : State) × Reached (taskOf q a) s × Stands (taskOf q a) m t s

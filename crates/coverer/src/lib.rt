@@ -8,6 +8,7 @@ ghost use lib.Count.{ones};
 ghost use lib.ListN.{length, take};
 ghost use Rattle.cellid.specs.CellId.{levelOf, leavesOf};
 ghost use Rattle.order.specs.Order.{All};
+ghost use Rattle.region.specs.Region.{areaOf};
 ghost use Rattle.run.specs.Run.{minLevel, maxCells, queueMost, rawMost, Task, keep, enqueue, depth, byId, add, addAll, stepWith, step, loop, after, memoryWords};
 ghost use Rattle.run.specs.Ground.{Fit, ChildOk, Queued};
 ghost use Rattle.candidate.specs.Candidate.{taskOf, Asks};
@@ -132,21 +133,22 @@ fn add_candidate(
     t: Counts,
     q: Request,
     g: Region,
+    list: &[u64],
     w: Rule,
     id: u64,
     terminal: bool,
 ) -> Turn
     requires { ⌜ memoryWords ≤ length (now m) ⌝ }
-    requires { ⌜ Ready q g w ⌝ }
-    requires { ⌜ ChildOk (taskOf q g) (record { id = id; ends = terminal }) ⌝ }
+    requires { ⌜ Ready q (areaOf g (now list)) w ⌝ }
+    requires { ⌜ ChildOk (taskOf q (areaOf g (now list))) (record { id = id; ends = terminal }) ⌝ }
     requires { ⌜ t .aside + leavesOf id < 2 ^ 64 ⌝ }
-    ensures { λ r. ⌜ Does (taskOf q g) (λ i. add (courseOf q g) (grown i id) terminal) (now (m .entry)) t (now (m .exit)) r ⌝ }
+    ensures { λ r. ⌜ Does (taskOf q (areaOf g (now (list .entry)))) (λ i. add (courseOf q (areaOf g (now (list .entry)))) (grown i id) terminal) (now (m .entry)) t (now (m .exit)) r ⌝ }
     ensures { λ r. ⌜ AsideUpTo (t .aside + leavesOf id) r ⌝ }
 {
     if terminal {
         return keep(m, t, id);
     }
-    let f = candidate::expand(q, g, id);
+    let f = candidate::expand(q, g, list, id);
     if f.present == 0 {
         return Turn::Going(set_aside(q, t, cellid::lsb(id)));
     }
@@ -185,13 +187,22 @@ fn is_in(set: u64, j: u64) -> bool
 }
 
 // Adds the child at the place j, if there is one; in an inner run only while the results are below max_cells.
-fn add_child(m: &mut [u64], t: Counts, q: Request, g: Region, w: Rule, b: Brood, j: u64) -> Turn
+fn add_child(
+    m: &mut [u64],
+    t: Counts,
+    q: Request,
+    g: Region,
+    list: &[u64],
+    w: Rule,
+    b: Brood,
+    j: u64,
+) -> Turn
     requires { ⌜ memoryWords ≤ length (now m) ⌝ }
-    requires { ⌜ Ready q g w ⌝ }
+    requires { ⌜ Ready q (areaOf g (now list)) w ⌝ }
     requires { ⌜ j < 64 ⌝ }
-    requires { ⌜ All (ChildOk (taskOf q g)) (childIf b j) ⌝ }
+    requires { ⌜ All (ChildOk (taskOf q (areaOf g (now list)))) (childIf b j) ⌝ }
     requires { ⌜ t .aside + leavesIn (childIf b j) < 2 ^ 64 ⌝ }
-    ensures { λ r. ⌜ Does (taskOf q g) (λ i. addAll (courseOf q g) i (childIf b j)) (now (m .entry)) t (now (m .exit)) r ⌝ }
+    ensures { λ r. ⌜ Does (taskOf q (areaOf g (now (list .entry)))) (λ i. addAll (courseOf q (areaOf g (now (list .entry)))) i (childIf b j)) (now (m .entry)) t (now (m .exit)) r ⌝ }
     ensures { λ r. ⌜ AsideUpTo (t .aside + leavesIn (childIf b j)) r ⌝ }
 {
     if is_in(b.present, j) {
@@ -199,7 +210,7 @@ fn add_child(m: &mut [u64], t: Counts, q: Request, g: Region, w: Rule, b: Brood,
             Turn::Going(t)
         } else {
             let ends = is_in(b.terminal, j);
-            add_candidate(m, t, q, g, w, b.base + (2 * j + 1) * b.unit, ends)
+            add_candidate(m, t, q, g, list, w, b.base + (2 * j + 1) * b.unit, ends)
         }
     } else {
         Turn::Going(t)
@@ -207,19 +218,27 @@ fn add_child(m: &mut [u64], t: Counts, q: Request, g: Region, w: Rule, b: Brood,
 }
 
 // Adds the children of a brood, in order.
-fn add_children(m: &mut [u64], s: Counts, q: Request, g: Region, w: Rule, b: Brood) -> Turn
+fn add_children(
+    m: &mut [u64],
+    s: Counts,
+    q: Request,
+    g: Region,
+    list: &[u64],
+    w: Rule,
+    b: Brood,
+) -> Turn
     requires { ⌜ memoryWords ≤ length (now m) ⌝ }
-    requires { ⌜ Ready q g w ⌝ }
+    requires { ⌜ Ready q (areaOf g (now list)) w ⌝ }
     requires { ⌜ b .places ≤ 64 ⌝ }
-    requires { ⌜ All (ChildOk (taskOf q g)) (childrenFrom b 0) ⌝ }
+    requires { ⌜ All (ChildOk (taskOf q (areaOf g (now list)))) (childrenFrom b 0) ⌝ }
     requires { ⌜ s .aside + leavesIn (childrenFrom b 0) < 2 ^ 64 ⌝ }
-    ensures { λ r. ⌜ Does (taskOf q g) (λ i. addAll (courseOf q g) i (childrenFrom b 0)) (now (m .entry)) s (now (m .exit)) r ⌝ }
+    ensures { λ r. ⌜ Does (taskOf q (areaOf g (now (list .entry)))) (λ i. addAll (courseOf q (areaOf g (now (list .entry)))) i (childrenFrom b 0)) (now (m .entry)) s (now (m .exit)) r ⌝ }
 {
     let places = b.places;
     let mut t = s;
     let mut j: u64 = 0;
     while j < places {
-        let r = add_child(m, t, q, g, w, b, j);
+        let r = add_child(m, t, q, g, list, w, b, j);
         match r {
             Turn::Refused(n) => {
                 return Turn::Refused(n);
@@ -262,17 +281,26 @@ fn levels_under(q: Request, id: u64) -> u64
 }
 
 // Hands a taken candidate on to its children. What failed in its expansion is set aside: the places without a child, each as many leaves as a child has.
-fn hand_on(m: &mut [u64], t: Counts, q: Request, g: Region, w: Rule, r: Rec, children: u64) -> Turn
+fn hand_on(
+    m: &mut [u64],
+    t: Counts,
+    q: Request,
+    g: Region,
+    list: &[u64],
+    w: Rule,
+    r: Rec,
+    children: u64,
+) -> Turn
     requires { ⌜ memoryWords ≤ length (now m) ⌝ }
-    requires { ⌜ Ready q g w ⌝ }
-    requires { ⌜ Queued (taskOf q g) (r .id) × (r ≡ recOf (taskOf q g) (grown 0 (r .id))) ⌝ }
+    requires { ⌜ Ready q (areaOf g (now list)) w ⌝ }
+    requires { ⌜ Queued (taskOf q (areaOf g (now list))) (r .id) × (r ≡ recOf (taskOf q (areaOf g (now list))) (grown 0 (r .id))) ⌝ }
     requires { ⌜ children ≡ ones (r .present) ⌝ }
     requires { ⌜ t .aside + leavesOf (r .id) < 2 ^ 64 ⌝ }
-    ensures { λ a. ⌜ Does (taskOf q g) (λ i. handOn (taskOf q g) (grown i (r .id))) (now (m .entry)) t (now (m .exit)) a ⌝ }
+    ensures { λ a. ⌜ Does (taskOf q (areaOf g (now (list .entry)))) (λ i. handOn (taskOf q (areaOf g (now (list .entry)))) (grown i (r .id))) (now (m .entry)) t (now (m .exit)) a ⌝ }
 {
     let b = cells_under(r, levels_under(q, r.id));
     let failed = (b.places - children) * b.unit;
-    add_children(m, set_aside(q, t, failed), q, g, w, b)
+    add_children(m, set_aside(q, t, failed), q, g, list, w, b)
 }
 
 // Whether a taken candidate is handed on: inner, or below min, or one child, or few enough in all.
@@ -293,13 +321,13 @@ fn is_handed_on(q: Request, t: Counts, id: u64, children: u64) -> bool
 }
 
 // What is done with a taken record.
-fn use_taken(m: &mut [u64], t: Counts, q: Request, g: Region, w: Rule, r: Rec) -> Turn
+fn use_taken(m: &mut [u64], t: Counts, q: Request, g: Region, list: &[u64], w: Rule, r: Rec) -> Turn
     requires { ⌜ memoryWords ≤ length (now m) ⌝ }
-    requires { ⌜ Ready q g w ⌝ }
+    requires { ⌜ Ready q (areaOf g (now list)) w ⌝ }
     requires { ⌜ (t .kept ≤ rawMost) × (t .queued ≤ queueMost) ⌝ }
-    requires { ⌜ Queued (taskOf q g) (r .id) × (r ≡ recOf (taskOf q g) (grown 0 (r .id))) ⌝ }
+    requires { ⌜ Queued (taskOf q (areaOf g (now list))) (r .id) × (r ≡ recOf (taskOf q (areaOf g (now list))) (grown 0 (r .id))) ⌝ }
     requires { ⌜ t .aside + leavesOf (r .id) < 2 ^ 64 ⌝ }
-    ensures { λ a. ⌜ Does (taskOf q g) (λ i. stepWith (courseOf q g) (grown i (r .id))) (now (m .entry)) t (now (m .exit)) a ⌝ }
+    ensures { λ a. ⌜ Does (taskOf q (areaOf g (now (list .entry)))) (λ i. stepWith (courseOf q (areaOf g (now (list .entry)))) (grown i (r .id))) (now (m .entry)) t (now (m .exit)) a ⌝ }
 {
     if is_full(q, t.kept) {
         return Turn::Going(Counts {
@@ -311,19 +339,19 @@ fn use_taken(m: &mut [u64], t: Counts, q: Request, g: Region, w: Rule, r: Rec) -
     }
     let children = queue::count(r.present);
     if is_handed_on(q, t, r.id, children) {
-        hand_on(m, t, q, g, w, r, children)
+        hand_on(m, t, q, g, list, w, r, children)
     } else {
         keep(m, t, r.id)
     }
 }
 
 // One step: takes the least of the queue.
-fn step(m: &mut [u64], t: Counts, q: Request, g: Region, w: Rule) -> Turn
+fn step(m: &mut [u64], t: Counts, q: Request, g: Region, list: &[u64], w: Rule) -> Turn
     requires { ⌜ memoryWords ≤ length (now m) ⌝ }
-    requires { ⌜ Ready q g w ⌝ }
-    requires { ⌜ Live q g (now m) t ⌝ }
+    requires { ⌜ Ready q (areaOf g (now list)) w ⌝ }
+    requires { ⌜ Live q (areaOf g (now list)) (now m) t ⌝ }
     requires { ⌜ (0 < t .queued) × (t .steps + 1 < 2 ^ 32) ⌝ }
-    ensures { λ a. ⌜ Does (taskOf q g) (λ i. step (courseOf q g)) (now (m .entry)) t (now (m .exit)) a ⌝ }
+    ensures { λ a. ⌜ Does (taskOf q (areaOf g (now (list .entry)))) (λ i. step (courseOf q (areaOf g (now (list .entry))))) (now (m .entry)) t (now (m .exit)) a ⌝ }
 {
     let n = t.queued - 1;
     let r = queue::pop(m, n, w);
@@ -337,24 +365,25 @@ fn step(m: &mut [u64], t: Counts, q: Request, g: Region, w: Rule) -> Turn
         },
         q,
         g,
+        list,
         w,
         r,
     )
 }
 
 // A start cell: added if it is a candidate. One that fails is set aside.
-fn start(m: &mut [u64], t: Counts, q: Request, g: Region, w: Rule, id: u64) -> Turn
+fn start(m: &mut [u64], t: Counts, q: Request, g: Region, list: &[u64], w: Rule, id: u64) -> Turn
     requires { ⌜ memoryWords ≤ length (now m) ⌝ }
-    requires { ⌜ Ready q g w ⌝ }
+    requires { ⌜ Ready q (areaOf g (now list)) w ⌝ }
     requires { ⌜ Fit q id ⌝ }
     requires { ⌜ t .aside + leavesOf id < 2 ^ 64 ⌝ }
-    ensures { λ r. ⌜ Does (taskOf q g) (λ i. startOne (taskOf q g) (grown i id)) (now (m .entry)) t (now (m .exit)) r ⌝ }
+    ensures { λ r. ⌜ Does (taskOf q (areaOf g (now (list .entry)))) (λ i. startOne (taskOf q (areaOf g (now (list .entry)))) (grown i id)) (now (m .entry)) t (now (m .exit)) r ⌝ }
     ensures { λ r. ⌜ AsideUpTo (t .aside + leavesOf id) r ⌝ }
 {
-    let c = candidate::new_candidate(q, g, id);
+    let c = candidate::new_candidate(q, g, list, id);
     match c {
-        Candidate::Kept => add_candidate(m, t, q, g, w, id, true),
-        Candidate::Queued => add_candidate(m, t, q, g, w, id, false),
+        Candidate::Kept => add_candidate(m, t, q, g, list, w, id, true),
+        Candidate::Queued => add_candidate(m, t, q, g, list, w, id, false),
         Candidate::None => Turn::Going(set_aside(q, t, cellid::lsb(id))),
     }
 }
@@ -364,15 +393,16 @@ fn initial_candidates(
     m: &mut [u64],
     q: Request,
     g: Region,
+    list: &[u64],
     w: Rule,
     ids: [u64; 6],
     count: usize,
 ) -> Turn
     requires { ⌜ memoryWords ≤ length (now m) ⌝ }
-    requires { ⌜ Ready q g w ⌝ }
+    requires { ⌜ Ready q (areaOf g (now list)) w ⌝ }
     requires { ⌜ count ≤ 6 ⌝ }
     requires { ⌜ All (Fit q) (take count ids) ⌝ }
-    ensures { λ r. ⌜ Comes (taskOf q g) (after (courseOf q g) (take count ids) 0) (now (m .entry)) (now (m .exit)) r ⌝ }
+    ensures { λ r. ⌜ Comes (taskOf q (areaOf g (now (list .entry)))) (after (courseOf q (areaOf g (now (list .entry)))) (take count ids) 0) (now (m .entry)) (now (m .exit)) r ⌝ }
 {
     let mut t = Counts {
         kept: 0,
@@ -382,7 +412,7 @@ fn initial_candidates(
     };
     let mut i: usize = 0;
     while i < count {
-        let r = start(m, t, q, g, w, ids[i]);
+        let r = start(m, t, q, g, list, w, ids[i]);
         match r {
             Turn::Refused(n) => {
                 return Turn::Refused(n);
@@ -397,19 +427,27 @@ fn initial_candidates(
 }
 
 // Step after step until the queue is empty: refused with 9 where the allowance is used up before.
-fn proceed(m: &mut [u64], s: Counts, q: Request, g: Region, w: Rule, allowance: u32) -> Turn
+fn proceed(
+    m: &mut [u64],
+    s: Counts,
+    q: Request,
+    g: Region,
+    list: &[u64],
+    w: Rule,
+    allowance: u32,
+) -> Turn
     requires { ⌜ memoryWords ≤ length (now m) ⌝ }
-    requires { ⌜ Ready q g w ⌝ }
-    requires { ⌜ Live q g (now m) s ⌝ }
+    requires { ⌜ Ready q (areaOf g (now list)) w ⌝ }
+    requires { ⌜ Live q (areaOf g (now list)) (now m) s ⌝ }
     requires { ⌜ s .steps ≤ allowance ⌝ }
-    ensures { λ r. ⌜ Does (taskOf q g) (λ i. loop (courseOf q g) (allowance - s .steps)) (now (m .entry)) s (now (m .exit)) r ⌝ }
+    ensures { λ r. ⌜ Does (taskOf q (areaOf g (now (list .entry)))) (λ i. loop (courseOf q (areaOf g (now (list .entry)))) (allowance - s .steps)) (now (m .entry)) s (now (m .exit)) r ⌝ }
 {
     let mut t = s;
     while 0 < t.queued {
         if t.steps == allowance {
             return Turn::Refused(9);
         }
-        let r = step(m, t, q, g, w);
+        let r = step(m, t, q, g, list, w);
         match r {
             Turn::Refused(n) => {
                 return Turn::Refused(n);
@@ -427,21 +465,22 @@ fn covering_internal(
     m: &mut [u64],
     q: Request,
     g: Region,
+    list: &[u64],
     w: Rule,
     ids: [u64; 6],
     count: usize,
     allowance: u32,
 ) -> Turn
     requires { ⌜ memoryWords ≤ length (now m) ⌝ }
-    requires { ⌜ Ready q g w ⌝ }
+    requires { ⌜ Ready q (areaOf g (now list)) w ⌝ }
     requires { ⌜ count ≤ 6 ⌝ }
     requires { ⌜ All (Fit q) (take count ids) ⌝ }
-    ensures { λ r. ⌜ Comes (taskOf q g) (outcomeOf q g (take count ids) allowance) (now (m .entry)) (now (m .exit)) r ⌝ }
+    ensures { λ r. ⌜ Comes (taskOf q (areaOf g (now (list .entry)))) (outcomeOf q (areaOf g (now (list .entry))) (take count ids) allowance) (now (m .entry)) (now (m .exit)) r ⌝ }
 {
-    let r = initial_candidates(m, q, g, w, ids, count);
+    let r = initial_candidates(m, q, g, list, w, ids, count);
     match r {
         Turn::Refused(n) => Turn::Refused(n),
-        Turn::Going(t) => proceed(m, t, q, g, w, allowance),
+        Turn::Going(t) => proceed(m, t, q, g, list, w, allowance),
     }
 }
 
@@ -451,21 +490,22 @@ pub fn run(
     mem: &mut [u64],
     q: Request,
     g: Region,
+    list: &[u64],
     ids: [u64; 6],
     count: usize,
     allowance: u32,
 ) -> Ran
     requires { ⌜ memoryWords ≤ length (now mem) ⌝ }
-    requires { ⌜ Asks q g ⌝ }
+    requires { ⌜ Asks q (areaOf g (now list)) ⌝ }
     requires { ⌜ count ≤ 6 ⌝ }
     requires { ⌜ All (Fit q) (take count ids) ⌝ }
-    ensures { λ r. ⌜ r ≡ engineAnswer (outcomeOf q g (take count ids) allowance) ⌝ }
-    ensures { λ _. ⌜ now (mem .exit) ≡ engineMemory (outcomeOf q g (take count ids) allowance) (now (mem .entry)) ⌝ }
+    ensures { λ r. ⌜ r ≡ engineAnswer (outcomeOf q (areaOf g (now (list .entry))) (take count ids) allowance) ⌝ }
+    ensures { λ _. ⌜ now (mem .exit) ≡ engineMemory (outcomeOf q (areaOf g (now (list .entry))) (take count ids) allowance) (now (mem .entry)) ⌝ }
 {
     let w = Rule {
         full: 1 << (2 * q.coverer.level_mod),
     };
-    let r = covering_internal(mem, q, g, w, ids, count, allowance);
+    let r = covering_internal(mem, q, g, list, w, ids, count, allowance);
     match r {
         Turn::Refused(n) => {
             cellunion::clear(mem, 0, MEMORY_WORDS);

@@ -10,7 +10,7 @@ use lib.ListN.{length, take, drop, length-drop, length-map, drop-of-length-le}
 use lib.Seq.{take-all, take-at, drop-at, drop-drop, drop-append-add, length-take-le}
 use Rattle.cellid.specs.CellId.{Cell}
 use Rattle.order.specs.Order.{All}
-use Rattle.region.specs.declared.Region.{Region}
+use Rattle.region.specs.Region.{Area}
 use Rattle.cellunion.specs.declared.Laid.{Laid}
 use Rattle.cellunion.specs.CellUnion.{normalise, denormalise}
 use Rattle.cellunion.specs.Memory.{zeros, laid, normalised, roomFor, laidOver}
@@ -199,15 +199,15 @@ ran-done (Run.going s) count steps aside e =
     let x : count ≡ length (s .raw) = cc in
     record { state = s; is = refl; counted = x ∙ sym (length-map (s .raw) (λ (w : Grown). w .id)); taken = cc; total = cc }
 
-module _ (e : Ending) (inner : Bool) (c : RegionCoverer) (g : Region) (allowance : ℕ) (m o : List ℕ) (none : barOf c g (length m) ≡ Bar.Open) (m₁ : List ℕ) (M : m₁ ≡ engineMemory (ranOf inner c g allowance) m) where
+module _ (e : Ending) (inner : Bool) (c : RegionCoverer) (a : Area) (allowance : ℕ) (m o : List ℕ) (none : barOf c a (length m) ≡ Bar.Open) (m₁ : List ℕ) (M : m₁ ≡ engineMemory (ranOf inner c a allowance) m) where
   -- 7, 8 or 9
-  pub respond-late : (n : ℕ) (r : Answer) → Ran.Refused n ≡ engineAnswer (ranOf inner c g allowance) → r ≡ refusal n → Answered (endedAs e c (length o) (ranOf inner c g allowance)) r m m₁ o o
+  pub respond-late : (n : ℕ) (r : Answer) → Ran.Refused n ≡ engineAnswer (ranOf inner c a allowance) → r ≡ refusal n → Answered (endedAs e c (length o) (ranOf inner c a allowance)) r m m₁ o o
   unfolding endedAs engineMemory
   respond-late n r x y =
-      let f : ranOf inner c g allowance ≡ Run.refused n = ran-refused _ n x in
+      let f : ranOf inner c a allowance ≡ Run.refused n = ran-refused _ n x in
       answered-as (ap (endedAs e c (length o)) f) (answered-late n m o) y (M ∙ ap (λ (w : Outcome). engineMemory w m) f) refl
 
-  module _ (count steps aside : ℕ) (D : RanDone (ranOf inner c g allowance) count steps aside) (same : length m₁ ≡ length m) where
+  module _ (count steps aside : ℕ) (D : RanDone (ranOf inner c a allowance) count steps aside) (same : length m₁ ≡ length m) where
     ended : m₁ ≡ onlyWords queueWords memoryWords (rawIds (D .state)) m
     unfolding engineMemory
     ended = M ∙ ap (λ (w : Outcome). engineMemory w m) (D .is)
@@ -216,8 +216,8 @@ module _ (e : Ending) (inner : Bool) (c : RegionCoverer) (g : Region) (allowance
     unfolding wordsAt
     kept-words = ap (λ (x : List ℕ). take count (drop queueWords x)) ended ∙ ap (take count) (only-words queueWords memoryWords (rawIds (D .state)) m) ∙ take-at (rawIds (D .state)) _ count (sym (D .counted))
 
-    valid : Valid c g (length m)
-    valid = early-none c g (length m) none
+    valid : Valid c a (length m)
+    valid = early-none c a (length m) none
 
     few : queueWords + length (rawIds (D .state)) ≤ memoryWords
     few = only-room queueWords memoryWords (rawIds (D .state)) m (omega arith) (valid .long) (ap length (sym ended) ∙ same)
@@ -226,7 +226,7 @@ module _ (e : Ending) (inner : Bool) (c : RegionCoverer) (g : Region) (allowance
     finish-asks = (
       omega (arith, same, valid .long),
       omega (arith, D .counted, few),
-      subst (All Cell) (sym kept-words) (ran-cells c g (length m) valid inner allowance (D .state) (D .is)),
+      subst (All Cell) (sym kept-words) (ran-cells c a (length m) valid inner allowance (D .state) (D .is)),
       omega (arith, valid .order, valid .deep),
       valid .«mod» .0,
     )
@@ -236,9 +236,9 @@ module _ (e : Ending) (inner : Bool) (c : RegionCoverer) (g : Region) (allowance
     finish-holds = ended ∙ sym (ap (λ (x : List ℕ). onlyWords queueWords memoryWords x m₁) kept-words ∙ ap (λ (x : List ℕ). zeros queueWords ++ (rawIds (D .state) ++ (zeros (memoryWords - (queueWords + length (rawIds (D .state)))) ++ x))) (ap (drop memoryWords) ended ∙ only-past queueWords memoryWords (rawIds (D .state)) m few))
 
     -- a success, or 10
-    pub respond-done : (r : Answer) (m₂ o₂ : List ℕ) → Answered (fitted (length o) (listOf e c (wordsAt queueWords count m₁)) steps aside) r m₁ m₂ o o₂ → Answered (endedAs e c (length o) (ranOf inner c g allowance)) r m m₂ o o₂
+    pub respond-done : (r : Answer) (m₂ o₂ : List ℕ) → Answered (fitted (length o) (listOf e c (wordsAt queueWords count m₁)) steps aside) r m₁ m₂ o o₂ → Answered (endedAs e c (length o) (ranOf inner c a allowance)) r m m₂ o o₂
     unfolding endedAs past
     respond-done r m₂ o₂ A =
-        let x : endedAs e c (length o) (ranOf inner c g allowance) ≡ fitted (length o) (listOf e c (wordsAt queueWords count m₁)) steps aside =
+        let x : endedAs e c (length o) (ranOf inner c a allowance) ≡ fitted (length o) (listOf e c (wordsAt queueWords count m₁)) steps aside =
         ap (endedAs e c (length o)) (D .is) ∙ sym (rw (kept-words, D .taken, D .total)) in
         answered-as x (fitted-front (length o) (listOf e c (wordsAt queueWords count m₁)) steps aside r m m₁ m₂ o o₂ (ap (drop memoryWords) ended ∙ only-past queueWords memoryWords (rawIds (D .state)) m few) A) refl refl refl

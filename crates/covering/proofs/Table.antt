@@ -10,8 +10,7 @@ use lib.Dec.{leb}
 use lib.ListN.{length, take, drop}
 use lib.Seq.{take-at}
 use borrow.Author.Tests.{le-leb, lt-leb, leb-true, leb-false}
-use Rattle.region.specs.declared.Region.{Region}
-use Rattle.region.specs.Region.{boundOf}
+use Rattle.region.specs.Region.{Area, boundOf}
 use Rattle.run.specs.declared.RegionCoverer.{RegionCoverer}
 use Rattle.fast.specs.Memory.{fastCoveringFor}
 use Rattle.run.specs.Run.{Outcome, State, rawIds, asideTotal, memoryWords}
@@ -37,26 +36,26 @@ number-refused : (n : ℕ) → numberOf (refused n) ≡ n
 unfolding answerOf
 number-refused n = refl
 
-module _ (c : RegionCoverer) (g : Region) (memory : ℕ) (R : Result) where
+module _ (c : RegionCoverer) (a : Area) (memory : ℕ) (R : Result) where
   data First : ℕ → Type 0 where
-    given : {n : ℕ} → Early c g memory (Bar.Barred n) → First n
-    passed : Early c g memory Bar.Open → First (numberOf R)
+    given : {n : ℕ} → Early c a memory (Bar.Barred n) → First n
+    passed : Early c a memory Bar.Open → First (numberOf R)
 
-  first-is : First (numberOf (checked (barOf c g memory) R))
+  first-is : First (numberOf (checked (barOf c a memory) R))
   unfolding checked answerOf
-  first-is = of (barOf c g memory) (early-is c g memory)
+  first-is = of (barOf c a memory) (early-is c a memory)
     where
-      of : (b : Bar) → Early c g memory b → First (numberOf (checked b R))
+      of : (b : Bar) → Early c a memory b → First (numberOf (checked b R))
       of Bar.Open E = passed E
       of (Bar.Barred n) E = given E
 
-  first-given : (n : ℕ) → Early c g memory (Bar.Barred n) → numberOf (checked (barOf c g memory) R) ≡ n
+  first-given : (n : ℕ) → Early c a memory (Bar.Barred n) → numberOf (checked (barOf c a memory) R) ≡ n
   unfolding checked answerOf
-  first-given n E = ap (λ (b : Bar). numberOf (checked b R)) (early-given c g memory (Bar.Barred n) E)
+  first-given n E = ap (λ (b : Bar). numberOf (checked b R)) (early-given c a memory (Bar.Barred n) E)
 
-  first-passed : Early c g memory Bar.Open → checked (barOf c g memory) R ≡ R
+  first-passed : Early c a memory Bar.Open → checked (barOf c a memory) R ≡ R
   unfolding checked
-  first-passed E = ap (λ (b : Bar). checked b R) (early-given c g memory Bar.Open E)
+  first-passed E = ap (λ (b : Bar). checked b R) (early-given c a memory Bar.Open E)
 
 -- a finished list: 10 where it is longer than the output, else a success
 module _ (room : ℕ) (l : List ℕ) (steps aside : ℕ) where
@@ -76,129 +75,129 @@ module _ (room : ℕ) (l : List ℕ) (steps aside : ℕ) where
 -- ---- each number is given exactly when, for every kind of answer
 
 -- the run of a request is refused with the number n; the quick covering has no run
-unfoldable pub RunRefused : Kind → RegionCoverer → Region → ℕ → ℕ → Type 0
-RunRefused (Kind.Outer e) c g allowance n = ranOf false c g allowance ≡ Run.refused n
-RunRefused (Kind.Inner e) c g allowance n = ranOf true c g allowance ≡ Run.refused n
-RunRefused Kind.Fast c g allowance n = ⊥
+unfoldable pub RunRefused : Kind → RegionCoverer → Area → ℕ → ℕ → Type 0
+RunRefused (Kind.Outer e) c a allowance n = ranOf false c a allowance ≡ Run.refused n
+RunRefused (Kind.Inner e) c a allowance n = ranOf true c a allowance ≡ Run.refused n
+RunRefused Kind.Fast c a allowance n = ⊥
 
 -- a run's finished list, with its steps and its set-aside total
-pub record RunFinished (e : Ending) (inner : Bool) (c : RegionCoverer) (g : Region) (allowance : ℕ) (l : List ℕ) (steps aside : ℕ) : Type 0 where
+pub record RunFinished (e : Ending) (inner : Bool) (c : RegionCoverer) (a : Area) (allowance : ℕ) (l : List ℕ) (steps aside : ℕ) : Type 0 where
   pub state : State
-  pub ran : ranOf inner c g allowance ≡ Run.going state
+  pub ran : ranOf inner c a allowance ≡ Run.going state
   pub list : l ≡ listOf e c (rawIds state)
   pub taken : steps ≡ state .steps
   pub total : aside ≡ asideTotal state
 
 -- the finished list of each kind
-unfoldable pub Finished : Kind → RegionCoverer → Region → ℕ → List ℕ → ℕ → ℕ → Type 0
-Finished (Kind.Outer e) c g allowance l steps aside = RunFinished e false c g allowance l steps aside
-Finished (Kind.Inner e) c g allowance l steps aside = RunFinished e true c g allowance l steps aside
-Finished Kind.Fast c g allowance l steps aside = (l ≡ fastCoveringFor c (boundOf g)) × (steps ≡ 0) × (aside ≡ 0)
+unfoldable pub Finished : Kind → RegionCoverer → Area → ℕ → List ℕ → ℕ → ℕ → Type 0
+Finished (Kind.Outer e) c a allowance l steps aside = RunFinished e false c a allowance l steps aside
+Finished (Kind.Inner e) c a allowance l steps aside = RunFinished e true c a allowance l steps aside
+Finished Kind.Fast c a allowance l steps aside = (l ≡ fastCoveringFor c (boundOf a)) × (steps ≡ 0) × (aside ≡ 0)
 
-module _ (c : RegionCoverer) (g : Region) (allowance room : ℕ) where
+module _ (c : RegionCoverer) (a : Area) (allowance room : ℕ) where
   data Way (k : Kind) : Result → Type 0 where
-    stopped : {n : ℕ} → RunRefused k c g allowance n → Way k (refused n)
-    finished : (l : List ℕ) (steps aside : ℕ) → Finished k c g allowance l steps aside → Way k (fitted room l steps aside)
+    stopped : {n : ℕ} → RunRefused k c a allowance n → Way k (refused n)
+    finished : (l : List ℕ) (steps aside : ℕ) → Finished k c a allowance l steps aside → Way k (fitted room l steps aside)
 
   -- a run comes to a refusal or to a finished list
-  module _ (e : Ending) (inner : Bool) (k : Kind) (late : (n : ℕ) → ranOf inner c g allowance ≡ Run.refused n → RunRefused k c g allowance n)
-      (end : (l : List ℕ) (steps aside : ℕ) → RunFinished e inner c g allowance l steps aside → Finished k c g allowance l steps aside) where
-    run-comes : (o : Outcome) → ranOf inner c g allowance ≡ o → Way k (endedAs e c room o)
+  module _ (e : Ending) (inner : Bool) (k : Kind) (late : (n : ℕ) → ranOf inner c a allowance ≡ Run.refused n → RunRefused k c a allowance n)
+      (end : (l : List ℕ) (steps aside : ℕ) → RunFinished e inner c a allowance l steps aside → Finished k c a allowance l steps aside) where
+    run-comes : (o : Outcome) → ranOf inner c a allowance ≡ o → Way k (endedAs e c room o)
     unfolding endedAs
     run-comes (Run.refused n) f = stopped (late n f)
     run-comes (Run.going s) f = finished _ _ _ (end _ _ _ (record { state = s; ran = f; list = refl; taken = refl; total = refl }))
 
-  comes-is : (k : Kind) → Way k (comesTo k c g allowance room)
+  comes-is : (k : Kind) → Way k (comesTo k c a allowance room)
   unfolding comesTo RunRefused Finished
   comes-is (Kind.Outer e) = run-comes e false (Kind.Outer e) (λ n f. f) (λ l steps aside F. F) _ refl
   comes-is (Kind.Inner e) = run-comes e true (Kind.Inner e) (λ n f. f) (λ l steps aside F. F) _ refl
   comes-is Kind.Fast = finished _ 0 0 (refl, refl, refl)
 
-  stopped-comes : (k : Kind) (n : ℕ) → RunRefused k c g allowance n → comesTo k c g allowance room ≡ refused n
+  stopped-comes : (k : Kind) (n : ℕ) → RunRefused k c a allowance n → comesTo k c a allowance room ≡ refused n
   unfolding comesTo RunRefused endedAs
   stopped-comes (Kind.Outer e) n f = ap (endedAs e c room) f
   stopped-comes (Kind.Inner e) n f = ap (endedAs e c room) f
   stopped-comes Kind.Fast n f = absurd f
 
-  run-finished : (e : Ending) (inner : Bool) (l : List ℕ) (steps aside : ℕ) → RunFinished e inner c g allowance l steps aside → endedAs e c room (ranOf inner c g allowance) ≡ fitted room l steps aside
+  run-finished : (e : Ending) (inner : Bool) (l : List ℕ) (steps aside : ℕ) → RunFinished e inner c a allowance l steps aside → endedAs e c room (ranOf inner c a allowance) ≡ fitted room l steps aside
   unfolding endedAs
   run-finished e inner l steps aside F = ap (endedAs e c room) (F .ran) ∙ sym (rw (F .list, F .taken, F .total))
 
-  finished-comes : (k : Kind) (l : List ℕ) (steps aside : ℕ) → Finished k c g allowance l steps aside → comesTo k c g allowance room ≡ fitted room l steps aside
+  finished-comes : (k : Kind) (l : List ℕ) (steps aside : ℕ) → Finished k c a allowance l steps aside → comesTo k c a allowance room ≡ fitted room l steps aside
   unfolding comesTo Finished
   finished-comes (Kind.Outer e) l steps aside F = run-finished e false l steps aside F
   finished-comes (Kind.Inner e) l steps aside F = run-finished e true l steps aside F
   finished-comes Kind.Fast l steps aside F = sym (rw (F .0, F .1, F .2))
 
-  run-late : (inner : Bool) (n : ℕ) → ranOf inner c g allowance ≡ Run.refused n → (7 ≤ n) × (n ≤ 9)
+  run-late : (inner : Bool) (n : ℕ) → ranOf inner c a allowance ≡ Run.refused n → (7 ≤ n) × (n ≤ 9)
   unfolding ranOf outcomeOf
   run-late inner n f = run-refuses _ _ _ allowance n f
 
-  stopped-late : (k : Kind) (n : ℕ) → RunRefused k c g allowance n → (7 ≤ n) × (n ≤ 9)
+  stopped-late : (k : Kind) (n : ℕ) → RunRefused k c a allowance n → (7 ≤ n) × (n ≤ 9)
   unfolding RunRefused
   stopped-late (Kind.Outer e) n f = run-late false n f
   stopped-late (Kind.Inner e) n f = run-late true n f
   stopped-late Kind.Fast n f = absurd f
 
-module _ (k : Kind) (c : RegionCoverer) (g : Region) (allowance memory room : ℕ) where
+module _ (k : Kind) (c : RegionCoverer) (a : Area) (allowance memory room : ℕ) where
   abbrev number : ℕ
-  number = numberOf (resultOf k c g allowance memory room)
+  number = numberOf (resultOf k c a allowance memory room)
 
   data Given : ℕ → Type 0 where
-    first : {n : ℕ} → Early c g memory (Bar.Barred n) → Given n
-    late : {n : ℕ} → Early c g memory Bar.Open → RunRefused k c g allowance n → Given n
-    ended : {n : ℕ} {l : List ℕ} {steps aside : ℕ} → Early c g memory Bar.Open → Finished k c g allowance l steps aside → Fitted room l steps aside n → Given n
+    first : {n : ℕ} → Early c a memory (Bar.Barred n) → Given n
+    late : {n : ℕ} → Early c a memory Bar.Open → RunRefused k c a allowance n → Given n
+    ended : {n : ℕ} {l : List ℕ} {steps aside : ℕ} → Early c a memory Bar.Open → Finished k c a allowance l steps aside → Fitted room l steps aside n → Given n
 
   given-is : Given number
   unfolding resultOf answerOf
-  given-is = from (first-is c g memory (comesTo k c g allowance room))
+  given-is = from (first-is c a memory (comesTo k c a allowance room))
     where
-      then : Early c g memory Bar.Open → {R : Result} → Way c g allowance room k R → Given (numberOf R)
+      then : Early c a memory Bar.Open → {R : Result} → Way c a allowance room k R → Given (numberOf R)
       then E (stopped S) = late E S
       then E (finished l steps aside F) = ended E F (fitted-is room l steps aside)
 
-      from : {n : ℕ} → First c g memory (comesTo k c g allowance room) n → Given n
+      from : {n : ℕ} → First c a memory (comesTo k c a allowance room) n → Given n
       from (given E) = first E
-      from (passed E) = then E (comes-is c g allowance room k)
+      from (passed E) = then E (comes-is c a allowance room k)
 
   given-number : (n : ℕ) → Given n → number ≡ n
   unfolding resultOf
-  given-number n (first E) = first-given c g memory (comesTo k c g allowance room) n E
-  given-number n (late E S) = ap numberOf (first-passed c g memory (comesTo k c g allowance room) E ∙ stopped-comes c g allowance room k n S) ∙ number-refused n
+  given-number n (first E) = first-given c a memory (comesTo k c a allowance room) n E
+  given-number n (late E S) = ap numberOf (first-passed c a memory (comesTo k c a allowance room) E ∙ stopped-comes c a allowance room k n S) ∙ number-refused n
   given-number n (ended {l = l} {steps} {aside} E F h) =
-      ap numberOf (first-passed c g memory (comesTo k c g allowance room) E ∙ finished-comes c g allowance room k l steps aside F) ∙ fitted-given room l steps aside n h
+      ap numberOf (first-passed c a memory (comesTo k c a allowance room) E ∙ finished-comes c a allowance room k l steps aside F) ∙ fitted-given room l steps aside n h
 
   -- 1 to 6: `Early` has the rows, each with the earlier ones not true
-  pub when-early : (n : ℕ) → n ≤ 6 → 0 < n → (number ≡ n) ↔ Early c g memory (Bar.Barred n)
+  pub when-early : (n : ℕ) → n ≤ 6 → 0 < n → (number ≡ n) ↔ Early c a memory (Bar.Barred n)
   when-early n h p = (λ x. of n h p (subst Given x given-is), λ E. given-number n (first E))
     where
-      of : (n : ℕ) → n ≤ 6 → 0 < n → Given n → Early c g memory (Bar.Barred n)
+      of : (n : ℕ) → n ≤ 6 → 0 < n → Given n → Early c a memory (Bar.Barred n)
       of n h p (first E) = E
-      of n h p (late E S) = absurd (omega (arith, stopped-late c g allowance room k n S .0))
+      of n h p (late E S) = absurd (omega (arith, stopped-late c a allowance room k n S .0))
       of n h p (ended E F (long q)) = absurd (omega arith)
       of n h p (ended E F (fits q)) = absurd (omega arith)
 
   -- 7 to 9: none of these, and the defined run is refused with the number
-  pub when-late : (n : ℕ) → 7 ≤ n → n ≤ 9 → (number ≡ n) ↔ (Early c g memory Bar.Open × RunRefused k c g allowance n)
+  pub when-late : (n : ℕ) → 7 ≤ n → n ≤ 9 → (number ≡ n) ↔ (Early c a memory Bar.Open × RunRefused k c a allowance n)
   when-late n h p = (λ x. of n h p (subst Given x given-is), λ w. given-number n (late (w .0) (w .1)))
     where
-      of : (n : ℕ) → 7 ≤ n → n ≤ 9 → Given n → Early c g memory Bar.Open × RunRefused k c g allowance n
-      of n h p (first E) = absurd (omega (arith, early-low c g memory E .1))
+      of : (n : ℕ) → 7 ≤ n → n ≤ 9 → Given n → Early c a memory Bar.Open × RunRefused k c a allowance n
+      of n h p (first E) = absurd (omega (arith, early-low c a memory E .1))
       of n h p (late E S) = (E, S)
       of n h p (ended E F (long q)) = absurd (omega arith)
       of n h p (ended E F (fits q)) = absurd (omega arith)
 
   -- a finished list, its steps and its set-aside total, of which Q is true
   abbrev pub FinishedWith : (List ℕ → Type 0) → Type 0
-  FinishedWith Q = Early c g memory Bar.Open × ((l : List ℕ) × (steps : ℕ) × (aside : ℕ) × Finished k c g allowance l steps aside × Q l)
+  FinishedWith Q = Early c a memory Bar.Open × ((l : List ℕ) × (steps : ℕ) × (aside : ℕ) × Finished k c a allowance l steps aside × Q l)
 
   -- 10: the list is finished, and longer than the output
   pub when-long : (number ≡ 10) ↔ FinishedWith (λ l. room < length l)
   when-long = (λ x. of 10 refl (subst Given x given-is), λ w. given-number 10 (ended (w .0) (w .1 .3) (long (w .1 .4))))
     where
       of : (n : ℕ) → n ≡ 10 → Given n → FinishedWith (λ l. room < length l)
-      of n z (first E) = absurd (omega (arith, early-low c g memory E .1))
-      of n z (late E S) = absurd (omega (arith, stopped-late c g allowance room k n S .1))
+      of n z (first E) = absurd (omega (arith, early-low c a memory E .1))
+      of n z (late E S) = absurd (omega (arith, stopped-late c a allowance room k n S .1))
       of n z (ended E F (long q)) = (E, (_, _, _, F, q))
       of n z (ended E F (fits q)) = absurd (omega arith)
 
@@ -207,8 +206,8 @@ module _ (k : Kind) (c : RegionCoverer) (g : Region) (allowance memory room : �
   when-done = (λ x. of 0 refl (subst Given x given-is), λ w. given-number 0 (ended (w .0) (w .1 .3) (fits (w .1 .4))))
     where
       of : (n : ℕ) → n ≡ 0 → Given n → FinishedWith (λ l. length l ≤ room)
-      of n z (first E) = absurd (omega (arith, early-low c g memory E .0))
-      of n z (late E S) = absurd (omega (arith, stopped-late c g allowance room k n S .0))
+      of n z (first E) = absurd (omega (arith, early-low c a memory E .0))
+      of n z (late E S) = absurd (omega (arith, stopped-late c a allowance room k n S .0))
       of n z (ended E F (long q)) = absurd (omega arith)
       of n z (ended E F (fits q)) = (E, (_, _, _, F, q))
 
@@ -217,15 +216,15 @@ module _ (k : Kind) (c : RegionCoverer) (g : Region) (allowance memory room : �
   number-small = of given-is
     where
       of : {n : ℕ} → Given n → n ≤ 10
-      of {n} (first E) = omega (arith, early-low c g memory E .1)
-      of {n} (late E S) = omega (arith, stopped-late c g allowance room k n S .1)
+      of {n} (first E) = omega (arith, early-low c a memory E .1)
+      of {n} (late E S) = omega (arith, stopped-late c a allowance room k n S .1)
       of (ended E F (long q)) = omega arith
       of (ended E F (fits q)) = omega arith
 
 -- "`fast_covering` gives only 1 to 6 and 10"
-pub fast-numbers : (c : RegionCoverer) (g : Region) (allowance memory room n : ℕ) → 7 ≤ n → n ≤ 9 → numberOf (resultOf Kind.Fast c g allowance memory room) ≡ n → ⊥
+pub fast-numbers : (c : RegionCoverer) (a : Area) (allowance memory room n : ℕ) → 7 ≤ n → n ≤ 9 → numberOf (resultOf Kind.Fast c a allowance memory room) ≡ n → ⊥
 unfolding RunRefused
-fast-numbers c g allowance memory room n h p x = when-late Kind.Fast c g allowance memory room n h p .0 x .1
+fast-numbers c a allowance memory room n h p x = when-late Kind.Fast c a allowance memory room n h p .0 x .1
 
 -- ---- what any result is: a refusal's number is not 0, and a list is no longer than the output has places
 
@@ -238,19 +237,19 @@ fitted-sound : (room : ℕ) (l : List ℕ) (steps aside : ℕ) → Sound room (f
 unfolding fitted Sound
 fitted-sound room l steps aside = if-ok (Sound room) (leb (length l) room) _ _ (λ t. leb-true _ _ t) (λ t. omega arith)
 
-module _ (k : Kind) (c : RegionCoverer) (g : Region) (allowance memory room : ℕ) where
-  comes-sound : {R : Result} → Way c g allowance room k R → Sound room R
+module _ (k : Kind) (c : RegionCoverer) (a : Area) (allowance memory room : ℕ) where
+  comes-sound : {R : Result} → Way c a allowance room k R → Sound room R
   unfolding Sound
-  comes-sound (stopped {n} S) = omega (arith, stopped-late c g allowance room k n S .0)
+  comes-sound (stopped {n} S) = omega (arith, stopped-late c a allowance room k n S .0)
   comes-sound (finished l steps aside F) = fitted-sound room l steps aside
 
-  pub result-sound : Sound room (resultOf k c g allowance memory room)
+  pub result-sound : Sound room (resultOf k c a allowance memory room)
   unfolding resultOf checked Sound
-  result-sound = of (barOf c g memory) (early-is c g memory)
+  result-sound = of (barOf c a memory) (early-is c a memory)
     where
-      of : (b : Bar) → Early c g memory b → Sound room (checked b (comesTo k c g allowance room))
-      of Bar.Open E = comes-sound (comes-is c g allowance room k)
-      of (Bar.Barred n) E = early-low c g memory E .0
+      of : (b : Bar) → Early c a memory b → Sound room (checked b (comesTo k c a allowance room))
+      of Bar.Open E = comes-sound (comes-is c a allowance room k)
+      of (Bar.Barred n) E = early-low c a memory E .0
 
 -- ---- what a refusal leaves
 
@@ -261,25 +260,25 @@ refusal-values (barred n) out h = (refl, refl)
 refusal-values (refused n) out h = (refl, refl)
 refusal-values (done l steps aside) out h = absurd (omega arith)
 
-module _ (k : Kind) (c : RegionCoverer) (g : Region) (allowance memory room : ℕ) (m : List ℕ) where
+module _ (k : Kind) (c : RegionCoverer) (a : Area) (allowance memory room : ℕ) (m : List ℕ) where
   fitted-cleared : (l : List ℕ) (steps aside : ℕ) → memoryAfter (fitted room l steps aside) m ≡ cleared 0 memoryWords m
   unfolding fitted memoryAfter
   fitted-cleared l steps aside = if-ok (λ (W : Result). memoryAfter W m ≡ cleared 0 memoryWords m) (leb (length l) room) _ _ (λ t. refl) (λ t. refl)
 
-  comes-cleared : {R : Result} → Way c g allowance room k R → memoryAfter R m ≡ cleared 0 memoryWords m
+  comes-cleared : {R : Result} → Way c a allowance room k R → memoryAfter R m ≡ cleared 0 memoryWords m
   unfolding memoryAfter
   comes-cleared (stopped S) = refl
   comes-cleared (finished l steps aside F) = fitted-cleared l steps aside
 
   -- 1 to 6: "unchanged"
-  pub refusal-early : (n : ℕ) → n ≤ 6 → 0 < n → numberOf (resultOf k c g allowance memory room) ≡ n → memoryAfter (resultOf k c g allowance memory room) m ≡ m
+  pub refusal-early : (n : ℕ) → n ≤ 6 → 0 < n → numberOf (resultOf k c a allowance memory room) ≡ n → memoryAfter (resultOf k c a allowance memory room) m ≡ m
   unfolding resultOf checked memoryAfter
-  refusal-early n h p x = ap (λ (b : Bar). memoryAfter (checked b (comesTo k c g allowance room)) m) (early-given c g memory (Bar.Barred n) (when-early k c g allowance memory room n h p .0 x))
+  refusal-early n h p x = ap (λ (b : Bar). memoryAfter (checked b (comesTo k c a allowance room)) m) (early-given c a memory (Bar.Barred n) (when-early k c a allowance memory room n h p .0 x))
 
   -- 7 to 10, and a success: "first 4,096 zero"
-  pub refusal-late : Early c g memory Bar.Open → memoryAfter (resultOf k c g allowance memory room) m ≡ cleared 0 memoryWords m
+  pub refusal-late : Early c a memory Bar.Open → memoryAfter (resultOf k c a allowance memory room) m ≡ cleared 0 memoryWords m
   unfolding resultOf
-  refusal-late E = ap (λ (R : Result). memoryAfter R m) (first-passed c g memory (comesTo k c g allowance room) E) ∙ comes-cleared (comes-is c g allowance room k)
+  refusal-late E = ap (λ (R : Result). memoryAfter R m) (first-passed c a memory (comesTo k c a allowance room) E) ∙ comes-cleared (comes-is c a allowance room k)
 
 -- ---- any two results that a contract allows are one: the answer, the whole memory and the whole output
 
@@ -288,33 +287,33 @@ determined R r r′ m m₁ m₂ o o₁ o₂ a b = (a .answer ∙ sym (b .answer)
 
 -- ---- what a success says: the finished list stands in the output's first places
 
-pub record Done (k : Kind) (c : RegionCoverer) (g : Region) (allowance memory : ℕ) (r : Answer) (out : List ℕ) : Type 0 where
-  pub valid : Valid c g memory
+pub record Done (k : Kind) (c : RegionCoverer) (a : Area) (allowance memory : ℕ) (r : Answer) (out : List ℕ) : Type 0 where
+  pub valid : Valid c a memory
   pub counted : r .count ≡ length (take (r .count) out)
-  pub finished : Finished k c g allowance (take (r .count) out) (r .steps) (r .aside)
+  pub finished : Finished k c a allowance (take (r .count) out) (r .steps) (r .aside)
 
 fitted-done : (room : ℕ) (l : List ℕ) (steps aside : ℕ) (out : List ℕ) → length l ≤ room
     → (answerOf (fitted room l steps aside) ≡ record { number = 0; count = length l; steps = steps; aside = aside }) × (take (length l) (outputAfter (fitted room l steps aside) out) ≡ l)
 unfolding fitted answerOf outputAfter
 fitted-done room l steps aside out h = rw (le-leb (length l) room h, fitted) (refl, take-at l (drop (length l) out) (length l) refl)
 
-finished-as : (k : Kind) (c : RegionCoverer) (g : Region) (allowance : ℕ) (l l′ : List ℕ) (steps steps′ aside aside′ : ℕ) → l ≡ l′ → steps ≡ steps′ → aside ≡ aside′
-    → Finished k c g allowance l steps aside → Finished k c g allowance l′ steps′ aside′
-finished-as k c g allowance l l′ steps steps′ aside aside′ e d f F = rw (← e, ← d, ← f) F
+finished-as : (k : Kind) (c : RegionCoverer) (a : Area) (allowance : ℕ) (l l′ : List ℕ) (steps steps′ aside aside′ : ℕ) → l ≡ l′ → steps ≡ steps′ → aside ≡ aside′
+    → Finished k c a allowance l steps aside → Finished k c a allowance l′ steps′ aside′
+finished-as k c a allowance l l′ steps steps′ aside aside′ e d f F = rw (← e, ← d, ← f) F
 
-pub answered-done : (k : Kind) (c : RegionCoverer) (g : Region) (allowance : ℕ) (r : Answer) (mem mem′ out out′ : List ℕ)
-    → Answered (resultOf k c g allowance (length mem) (length out)) r mem mem′ out out′ → r .number ≡ 0 → Done k c g allowance (length mem) r out′
+pub answered-done : (k : Kind) (c : RegionCoverer) (a : Area) (allowance : ℕ) (r : Answer) (mem mem′ out out′ : List ℕ)
+    → Answered (resultOf k c a allowance (length mem) (length out)) r mem mem′ out out′ → r .number ≡ 0 → Done k c a allowance (length mem) r out′
 unfolding resultOf
-answered-done k c g allowance r mem mem′ out out′ A z =
-    let R = resultOf k c g allowance (length mem) (length out) in
-    let w = when-done k c g allowance (length mem) (length out) .0 (sym (ap (λ (a : Answer). a .number) (A .answer)) ∙ z) in
+answered-done k c a allowance r mem mem′ out out′ A z =
+    let R = resultOf k c a allowance (length mem) (length out) in
+    let w = when-done k c a allowance (length mem) (length out) .0 (sym (ap (λ (a : Answer). a .number) (A .answer)) ∙ z) in
     let l = w .1 .0 in
-    let e : R ≡ fitted (length out) l (w .1 .1) (w .1 .2) = first-passed c g (length mem) (comesTo k c g allowance (length out)) (w .0) ∙ finished-comes c g allowance (length out) k l (w .1 .1) (w .1 .2) (w .1 .3) in
+    let e : R ≡ fitted (length out) l (w .1 .1) (w .1 .2) = first-passed c a (length mem) (comesTo k c a allowance (length out)) (w .0) ∙ finished-comes c a allowance (length out) k l (w .1 .1) (w .1 .2) (w .1 .3) in
     let f = fitted-done (length out) l (w .1 .1) (w .1 .2) out (w .1 .4) in
     let d : r ≡ record { number = 0; count = length l; steps = w .1 .1; aside = w .1 .2 } = A .answer ∙ ap answerOf e ∙ f .0 in
     let t : l ≡ take (r .count) out′ = sym (ap (λ (a : Answer). take (a .count) out′) d ∙ ap (take (length l)) (A .output ∙ ap (λ (W : Result). outputAfter W out) e) ∙ f .1) in
     record {
-      valid = early-none c g (length mem) (early-given c g (length mem) Bar.Open (w .0));
+      valid = early-none c a (length mem) (early-given c a (length mem) Bar.Open (w .0));
       counted = ap (λ (a : Answer). a .count) d ∙ ap length t;
-      finished = finished-as k c g allowance l _ (w .1 .1) _ (w .1 .2) _ t (sym (ap (λ (a : Answer). a .steps) d)) (sym (ap (λ (a : Answer). a .aside) d)) (w .1 .3);
+      finished = finished-as k c a allowance l _ (w .1 .1) _ (w .1 .2) _ t (sym (ap (λ (a : Answer). a .steps) d)) (sym (ap (λ (a : Answer). a .aside) d)) (w .1 .3);
     }

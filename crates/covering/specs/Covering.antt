@@ -6,8 +6,7 @@ use mathlib.Core.List.{List, _++_}
 use Prim.Native.Nat.{ℕ}
 use lib.Dec.{leb}
 use lib.ListN.{length, drop}
-use Rattle.region.specs.declared.Region.{Region}
-use Rattle.region.specs.Region.{boundOf}
+use Rattle.region.specs.Region.{Area, boundOf}
 use Rattle.cellunion.specs.CellUnion.{normalise, denormalise}
 use Rattle.run.specs.declared.RegionCoverer.{RegionCoverer}
 use Rattle.run.specs.declared.Request.{Request}
@@ -57,18 +56,18 @@ abbrev pub askedOf : RegionCoverer → Bool → Request
 askedOf c inner = record { coverer = c; inner = inner }
 
 -- the defined run of a request, from its start cells
-unfoldable pub ranOf : Bool → RegionCoverer → Region → ℕ → Outcome
-ranOf inner c g allowance = outcomeOf (askedOf c inner) g (startsFor c (boundOf g)) allowance
+unfoldable pub ranOf : Bool → RegionCoverer → Area → ℕ → Outcome
+ranOf inner c a allowance = outcomeOf (askedOf c inner) a (startsFor c (boundOf a)) allowance
 
 -- what a request of each kind comes to, once nothing bars it; "`fast_covering` gives only 1 to 6 and 10, with 0 steps"
-unfoldable pub comesTo : Kind → RegionCoverer → Region → ℕ → ℕ → Result
-comesTo (Kind.Outer e) c g allowance room = endedAs e c room (ranOf false c g allowance)
-comesTo (Kind.Inner e) c g allowance room = endedAs e c room (ranOf true c g allowance)
-comesTo Kind.Fast c g allowance room = fitted room (fastCoveringFor c (boundOf g)) 0 0
+unfoldable pub comesTo : Kind → RegionCoverer → Area → ℕ → ℕ → Result
+comesTo (Kind.Outer e) c a allowance room = endedAs e c room (ranOf false c a allowance)
+comesTo (Kind.Inner e) c a allowance room = endedAs e c room (ranOf true c a allowance)
+comesTo Kind.Fast c a allowance room = fitted room (fastCoveringFor c (boundOf a)) 0 0
 
 -- a request of any kind, with the lengths of the working memory and of the output
-unfoldable pub resultOf : Kind → RegionCoverer → Region → ℕ → ℕ → ℕ → Result
-resultOf k c g allowance memory room = checked (barOf c g memory) (comesTo k c g allowance room)
+unfoldable pub resultOf : Kind → RegionCoverer → Area → ℕ → ℕ → ℕ → Result
+resultOf k c a allowance memory room = checked (barOf c a memory) (comesTo k c a allowance room)
 
 -- ---- what the caller sees
 

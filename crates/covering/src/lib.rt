@@ -1,5 +1,5 @@
-// The public answers of the region coverer. Every function takes any numbers, any region and any lent memory and output, and asks nothing of the
-// caller: levels, region, memory and allowance are checked here. A refusal is one of paper 01's numbers; it leaves the output unchanged.
+// The public answers of the region coverer. Every function takes any numbers, any region with any lent list, any lent memory and output, and asks nothing of
+// the caller: levels, region, memory and allowance are checked here. A refusal is one of paper 01's numbers; it leaves the output unchanged.
 ghost use Prim.Native.Nat.{_≤_, _<_};
 ghost use mathlib.Core.Path.{_≡_};
 ghost use lib.ListN.{length, take};
@@ -12,7 +12,7 @@ ghost use Rattle.covering.specs.declared.Kind.{Kind};
 ghost use Rattle.covering.specs.declared.Ending.{Ending};
 ghost use Rattle.covering.specs.Covering.{refusal, fitted, listOf, ranOf, endedAs, leftBy, answerLaid, comesTo, resultOf, Answered};
 ghost use Rattle.fast.specs.Memory.{fastCoveringFor};
-ghost use Rattle.region.specs.Region.{boundOf};
+ghost use Rattle.region.specs.Region.{areaOf, boundOf};
 ghost use Rattle.run.specs.Run.{rawMost, queueWords, memoryWords};
 ghost use Rattle.coverer.specs.Coverer.{cleared, onlyWords, engineAnswer, engineMemory};
 ghost use Rattle.coverer.specs.Engine.{wordsAt};
@@ -102,14 +102,21 @@ fn laid_answer(laid: Laid, steps: u32, aside: u64) -> Answer
 }
 
 // The run of a request that lies in the domain, from its start cells; the raw list stays in the memory, behind the queue's words.
-fn run_from_starts(inner: bool, c: RegionCoverer, g: Region, allowance: u32, mem: &mut [u64]) -> Ran
-    requires { ⌜ barOf c g (length (now mem)) ≡ Bar.Open ⌝ }
-    ensures { λ r. ⌜ (r ≡ engineAnswer (ranOf inner c g allowance)) × (now (mem .exit) ≡ engineMemory (ranOf inner c g allowance) (now (mem .entry))) ⌝ }
+fn run_from_starts(
+    inner: bool,
+    c: RegionCoverer,
+    g: Region,
+    list: &[u64],
+    allowance: u32,
+    mem: &mut [u64],
+) -> Ran
+    requires { ⌜ barOf c (areaOf g (now list)) (length (now mem)) ≡ Bar.Open ⌝ }
+    ensures { λ r. ⌜ (r ≡ engineAnswer (ranOf inner c (areaOf g (now (list .entry))) allowance)) × (now (mem .exit) ≡ engineMemory (ranOf inner c (areaOf g (now (list .entry))) allowance) (now (mem .entry))) ⌝ }
 {
-    let starts = fast::starts(c, g);
+    let starts = fast::starts(c, g, list, mem);
     let q = Request { coverer: c, inner };
     let ids = starts.ids;
-    coverer::run(mem, q, g, ids, starts.count, allowance)
+    coverer::run(mem, q, g, list, ids, starts.count, allowance)
 }
 
 // Ends a request whose raw list stands in the memory behind the queue's words: lays the list that is asked for over the output, if it has room, and clears
@@ -138,14 +145,15 @@ fn run_and_finish(
     inner: bool,
     c: RegionCoverer,
     g: Region,
+    list: &[u64],
     allowance: u32,
     mem: &mut [u64],
     out: &mut [u64],
 ) -> Answer
-    requires { ⌜ barOf c g (length (now mem)) ≡ Bar.Open ⌝ }
-    ensures { λ r. ⌜ Answered (endedAs e c (length (now (out .entry))) (ranOf inner c g allowance)) r (now (mem .entry)) (now (mem .exit)) (now (out .entry)) (now (out .exit)) ⌝ }
+    requires { ⌜ barOf c (areaOf g (now list)) (length (now mem)) ≡ Bar.Open ⌝ }
+    ensures { λ r. ⌜ Answered (endedAs e c (length (now (out .entry))) (ranOf inner c (areaOf g (now (list .entry))) allowance)) r (now (mem .entry)) (now (mem .exit)) (now (out .entry)) (now (out .exit)) ⌝ }
 {
-    let ran = run_from_starts(inner, c, g, allowance, mem);
+    let ran = run_from_starts(inner, c, g, list, allowance, mem);
     match ran {
         Ran::Refused(late) => refuse(late),
         Ran::Done {
@@ -157,11 +165,11 @@ fn run_and_finish(
 }
 
 // The quick covering of a request that is not barred.
-fn lay_fast(c: RegionCoverer, g: Region, mem: &mut [u64], out: &mut [u64]) -> Answer
-    requires { ⌜ barOf c g (length (now mem)) ≡ Bar.Open ⌝ }
-    ensures { λ r. ⌜ Answered (fitted (length (now (out .entry))) (fastCoveringFor c (boundOf g)) 0 0) r (now (mem .entry)) (now (mem .exit)) (now (out .entry)) (now (out .exit)) ⌝ }
+fn lay_fast(c: RegionCoverer, g: Region, list: &[u64], mem: &mut [u64], out: &mut [u64]) -> Answer
+    requires { ⌜ barOf c (areaOf g (now list)) (length (now mem)) ≡ Bar.Open ⌝ }
+    ensures { λ r. ⌜ Answered (fitted (length (now (out .entry))) (fastCoveringFor c (boundOf (areaOf g (now (list .entry))))) 0 0) r (now (mem .entry)) (now (mem .exit)) (now (out .entry)) (now (out .exit)) ⌝ }
 {
-    let laid = fast::fast_covering(c, g, out);
+    let laid = fast::fast_covering(c, g, list, mem, out);
     clear_front(mem);
     laid_answer(laid, 0, 0)
 }
@@ -171,17 +179,18 @@ fn come_to(
     kind: Kind,
     c: RegionCoverer,
     g: Region,
+    list: &[u64],
     allowance: u32,
     mem: &mut [u64],
     out: &mut [u64],
 ) -> Answer
-    requires { ⌜ barOf c g (length (now mem)) ≡ Bar.Open ⌝ }
-    ensures { λ r. ⌜ Answered (comesTo kind c g allowance (length (now (out .entry)))) r (now (mem .entry)) (now (mem .exit)) (now (out .entry)) (now (out .exit)) ⌝ }
+    requires { ⌜ barOf c (areaOf g (now list)) (length (now mem)) ≡ Bar.Open ⌝ }
+    ensures { λ r. ⌜ Answered (comesTo kind c (areaOf g (now (list .entry))) allowance (length (now (out .entry)))) r (now (mem .entry)) (now (mem .exit)) (now (out .entry)) (now (out .exit)) ⌝ }
 {
     match kind {
-        Kind::Outer(e) => run_and_finish(e, false, c, g, allowance, mem, out),
-        Kind::Inner(e) => run_and_finish(e, true, c, g, allowance, mem, out),
-        Kind::Fast => lay_fast(c, g, mem, out),
+        Kind::Outer(e) => run_and_finish(e, false, c, g, list, allowance, mem, out),
+        Kind::Inner(e) => run_and_finish(e, true, c, g, list, allowance, mem, out),
+        Kind::Fast => lay_fast(c, g, list, mem, out),
     }
 }
 
@@ -190,15 +199,16 @@ pub fn respond(
     kind: Kind,
     c: RegionCoverer,
     g: Region,
+    list: &[u64],
     allowance: u32,
     mem: &mut [u64],
     out: &mut [u64],
 ) -> Answer
-    ensures { λ r. ⌜ Answered (resultOf kind c g allowance (length (now (mem .entry))) (length (now (out .entry)))) r (now (mem .entry)) (now (mem .exit)) (now (out .entry)) (now (out .exit)) ⌝ }
+    ensures { λ r. ⌜ Answered (resultOf kind c (areaOf g (now (list .entry))) allowance (length (now (mem .entry))) (length (now (out .entry)))) r (now (mem .entry)) (now (mem .exit)) (now (out .entry)) (now (out .exit)) ⌝ }
 {
-    let first = bars::first_refusal(c, g, mem.len());
+    let first = bars::first_refusal(c, g, list, mem.len());
     match first {
-        Bar::Open => come_to(kind, c, g, allowance, mem, out),
+        Bar::Open => come_to(kind, c, g, list, allowance, mem, out),
         Bar::Barred(number) => refuse(number),
     }
 }
@@ -207,77 +217,127 @@ pub fn respond(
 pub fn covering(
     c: RegionCoverer,
     g: Region,
+    list: &[u64],
     allowance: u32,
     mem: &mut [u64],
     out: &mut [u64],
 ) -> Answer
-    ensures { λ r. ⌜ Answered (resultOf (Kind.Outer Ending.Covering) c g allowance (length (now (mem .entry))) (length (now (out .entry)))) r (now (mem .entry)) (now (mem .exit)) (now (out .entry)) (now (out .exit)) ⌝ }
+    ensures { λ r. ⌜ Answered (resultOf (Kind.Outer Ending.Covering) c (areaOf g (now (list .entry))) allowance (length (now (mem .entry))) (length (now (out .entry)))) r (now (mem .entry)) (now (mem .exit)) (now (out .entry)) (now (out .exit)) ⌝ }
 {
-    respond(Kind::Outer(Ending::Covering), c, g, allowance, mem, out)
+    respond(
+        Kind::Outer(Ending::Covering),
+        c,
+        g,
+        list,
+        allowance,
+        mem,
+        out,
+    )
 }
 
 // The outer run's raw list, normalised; nothing is promised of levels.
 pub fn cellunion(
     c: RegionCoverer,
     g: Region,
+    list: &[u64],
     allowance: u32,
     mem: &mut [u64],
     out: &mut [u64],
 ) -> Answer
-    ensures { λ r. ⌜ Answered (resultOf (Kind.Outer Ending.CellUnion) c g allowance (length (now (mem .entry))) (length (now (out .entry)))) r (now (mem .entry)) (now (mem .exit)) (now (out .entry)) (now (out .exit)) ⌝ }
+    ensures { λ r. ⌜ Answered (resultOf (Kind.Outer Ending.CellUnion) c (areaOf g (now (list .entry))) allowance (length (now (mem .entry))) (length (now (out .entry)))) r (now (mem .entry)) (now (mem .exit)) (now (out .entry)) (now (out .exit)) ⌝ }
 {
-    respond(Kind::Outer(Ending::CellUnion), c, g, allowance, mem, out)
+    respond(
+        Kind::Outer(Ending::CellUnion),
+        c,
+        g,
+        list,
+        allowance,
+        mem,
+        out,
+    )
 }
 
 // The outer run's raw list, in the order kept.
-pub fn raw(c: RegionCoverer, g: Region, allowance: u32, mem: &mut [u64], out: &mut [u64]) -> Answer
-    ensures { λ r. ⌜ Answered (resultOf (Kind.Outer Ending.Raw) c g allowance (length (now (mem .entry))) (length (now (out .entry)))) r (now (mem .entry)) (now (mem .exit)) (now (out .entry)) (now (out .exit)) ⌝ }
+pub fn raw(
+    c: RegionCoverer,
+    g: Region,
+    list: &[u64],
+    allowance: u32,
+    mem: &mut [u64],
+    out: &mut [u64],
+) -> Answer
+    ensures { λ r. ⌜ Answered (resultOf (Kind.Outer Ending.Raw) c (areaOf g (now (list .entry))) allowance (length (now (mem .entry))) (length (now (out .entry)))) r (now (mem .entry)) (now (mem .exit)) (now (out .entry)) (now (out .exit)) ⌝ }
 {
-    respond(Kind::Outer(Ending::Raw), c, g, allowance, mem, out)
+    respond(Kind::Outer(Ending::Raw), c, g, list, allowance, mem, out)
 }
 
 // Cells inside the region, of levels min_level to max_level in whole steps of level_mod.
 pub fn interior_covering(
     c: RegionCoverer,
     g: Region,
+    list: &[u64],
     allowance: u32,
     mem: &mut [u64],
     out: &mut [u64],
 ) -> Answer
-    ensures { λ r. ⌜ Answered (resultOf (Kind.Inner Ending.Covering) c g allowance (length (now (mem .entry))) (length (now (out .entry)))) r (now (mem .entry)) (now (mem .exit)) (now (out .entry)) (now (out .exit)) ⌝ }
+    ensures { λ r. ⌜ Answered (resultOf (Kind.Inner Ending.Covering) c (areaOf g (now (list .entry))) allowance (length (now (mem .entry))) (length (now (out .entry)))) r (now (mem .entry)) (now (mem .exit)) (now (out .entry)) (now (out .exit)) ⌝ }
 {
-    respond(Kind::Inner(Ending::Covering), c, g, allowance, mem, out)
+    respond(
+        Kind::Inner(Ending::Covering),
+        c,
+        g,
+        list,
+        allowance,
+        mem,
+        out,
+    )
 }
 
 // The inner run's raw list, normalised; nothing is promised of levels.
 pub fn interior_cellunion(
     c: RegionCoverer,
     g: Region,
+    list: &[u64],
     allowance: u32,
     mem: &mut [u64],
     out: &mut [u64],
 ) -> Answer
-    ensures { λ r. ⌜ Answered (resultOf (Kind.Inner Ending.CellUnion) c g allowance (length (now (mem .entry))) (length (now (out .entry)))) r (now (mem .entry)) (now (mem .exit)) (now (out .entry)) (now (out .exit)) ⌝ }
+    ensures { λ r. ⌜ Answered (resultOf (Kind.Inner Ending.CellUnion) c (areaOf g (now (list .entry))) allowance (length (now (mem .entry))) (length (now (out .entry)))) r (now (mem .entry)) (now (mem .exit)) (now (out .entry)) (now (out .exit)) ⌝ }
 {
-    respond(Kind::Inner(Ending::CellUnion), c, g, allowance, mem, out)
+    respond(
+        Kind::Inner(Ending::CellUnion),
+        c,
+        g,
+        list,
+        allowance,
+        mem,
+        out,
+    )
 }
 
 // The inner run's raw list, in the order kept.
 pub fn interior_raw(
     c: RegionCoverer,
     g: Region,
+    list: &[u64],
     allowance: u32,
     mem: &mut [u64],
     out: &mut [u64],
 ) -> Answer
-    ensures { λ r. ⌜ Answered (resultOf (Kind.Inner Ending.Raw) c g allowance (length (now (mem .entry))) (length (now (out .entry)))) r (now (mem .entry)) (now (mem .exit)) (now (out .entry)) (now (out .exit)) ⌝ }
+    ensures { λ r. ⌜ Answered (resultOf (Kind.Inner Ending.Raw) c (areaOf g (now (list .entry))) allowance (length (now (mem .entry))) (length (now (out .entry)))) r (now (mem .entry)) (now (mem .exit)) (now (out .entry)) (now (out .exit)) ⌝ }
 {
-    respond(Kind::Inner(Ending::Raw), c, g, allowance, mem, out)
+    respond(Kind::Inner(Ending::Raw), c, g, list, allowance, mem, out)
 }
 
 // The quick, coarse covering from the region's bound alone, with no run and 0 steps.
-pub fn fast_covering(c: RegionCoverer, g: Region, mem: &mut [u64], out: &mut [u64]) -> Answer
-    ensures { λ r. ⌜ Answered (resultOf Kind.Fast c g 0 (length (now (mem .entry))) (length (now (out .entry)))) r (now (mem .entry)) (now (mem .exit)) (now (out .entry)) (now (out .exit)) ⌝ }
+pub fn fast_covering(
+    c: RegionCoverer,
+    g: Region,
+    list: &[u64],
+    mem: &mut [u64],
+    out: &mut [u64],
+) -> Answer
+    ensures { λ r. ⌜ Answered (resultOf Kind.Fast c (areaOf g (now (list .entry))) 0 (length (now (mem .entry))) (length (now (out .entry)))) r (now (mem .entry)) (now (mem .exit)) (now (out .entry)) (now (out .exit)) ⌝ }
 {
-    respond(Kind::Fast, c, g, 0, mem, out)
+    respond(Kind::Fast, c, g, list, 0, mem, out)
 }

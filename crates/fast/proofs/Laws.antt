@@ -1,23 +1,47 @@
 -- What fast covering makes of a list of cells: a normal list, then cells on step, that cover every leaf of it.
-use mathlib.Core.Path.{_≡_, refl, sym, ap, _∙_, subst}
-use mathlib.Core.Bool.{true}
+use mathlib.Core.Path.{_≡_, refl, sym, ap, ap₂, _∙_, subst}
+use mathlib.Core.Bool.{Bool, true, _&&_}
 use mathlib.Core.Logic.{inl, inr, ⊎-elim}
 use mathlib.Core.List.{List, [], _∷_, map}
-use Prim.Native.Nat.{ℕ, _%_, _≤_}
+use Prim.Native.Nat.{ℕ, _-_, _*_, _/_, _%_, _^_, _≤_, _<_, min}
 use native.Mathlib.Omega.{arith}
 use lib.ListN.{length, length-map}
-use Rattle.cellid.specs.CellId.{Cell, levelOf}
+use lib.Dec.{leb}
+use borrow.Author.Tests.{leb-true}
+use Rattle.cellid.specs.CellId.{Cell, IsCell, idOf, levelOf, parentAt}
+use Rattle.cellid.proofs.Laws.{and-true, level-cell}
+use Rattle.cellid.proofs.Ancestors.{parent-cell}
 use Rattle.order.specs.Order.{All}
 use Rattle.cellunion.specs.CellUnion.{lo, hi, covers, Member, Apart, Normal, OnStep, normalise, denormalise}
 use Rattle.cellunion.proofs.Unique.{all-at, at-all, covers→, covers←}
 use Rattle.cellunion.proofs.Stack.{Cov}
 use Rattle.cellunion.proofs.Norm.{normalise-normal, normalise-short}
 use Rattle.cellunion.proofs.Denorm.{denormalise-laws, denormalise-leaves, denormalise-apart, goal-on}
-use Rattle.fast.specs.Fast.{lifted, mergedCovering, fastCovering}
-use Rattle.fast.proofs.Levels.{lifted-is, lifted-under, Under}
+use Rattle.fast.specs.Fast.{adjusted, lifted, mergedCovering, fastCovering}
+use Rattle.fast.proofs.Levels.{adjusted-one, lifted-is, lifted-under, Under}
 use Rattle.fast.proofs.Merging.{AllUnder, merged-laws, normal-cov, normal-under}
 
 -- ---- lifting
+
+-- down to level 30, with steps of one, a cell is its own
+own-ancestor : (id L p : ℕ) → IsCell id L p → parentAt id L ≡ id
+own-ancestor id L p c =
+    let e : 2 * (L - L) ≡ 0 = omega arith in
+    parent-cell L c (omega arith) .is ∙ ap (idOf L) (ap (λ (k : ℕ). p / 2 ^ k) e ∙ omega arith) ∙ sym (c .is)
+
+lifted-one : (low top step id : ℕ) → 30 ≤ top → 0 < step → step ≤ 1 → Cell id → lifted low top step id ≡ id
+unfolding lifted
+lifted-one low top step id h s o C =
+    let e : min (levelOf id) top ≡ C .0 = rw (level-cell id (C .0) (C .1) (C .2)) (omega (arith, C .2 .level)) in
+    ap (λ (L : ℕ). parentAt id (adjusted low step L)) e ∙ ap (parentAt id) (adjusted-one low step (C .0) s o) ∙ own-ancestor id (C .0) (C .1) (C .2)
+
+lifted-own : (low top step : ℕ) (l : List ℕ) → 30 ≤ top → 0 < step → step ≤ 1 → All Cell l → map (lifted low top step) l ≡ l
+unfolding All
+lifted-own low top step [] h s o C = refl
+lifted-own low top step (x ∷ l) h s o C = ap₂ (λ (y : ℕ) (m : List ℕ). y ∷ m) (lifted-one low top step x h s o (C .0)) (lifted-own low top step l h s o (C .1))
+
+pub lifted-all : (low top step : ℕ) (l : List ℕ) (b : Bool) → 0 < step → All Cell l → b ≡ (leb 30 top && leb step 1) → b ≡ true → map (lifted low top step) l ≡ l
+lifted-all low top step l b s C e t = let r = and-true (leb 30 top) (leb step 1) (sym e ∙ t) in lifted-own low top step l (leb-true 30 top (r .0)) s (leb-true step 1 (r .1)) C
 
 pub lifted-cells : (low top step : ℕ) (l : List ℕ) → All Cell l → All Cell (map (lifted low top step) l)
 unfolding All

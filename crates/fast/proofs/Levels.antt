@@ -2,7 +2,7 @@
 use mathlib.Core.Path.{_≡_, refl, sym, ap, subst}
 use mathlib.Core.Logic.{by-cases}
 use Prim.Native.Nat.{ℕ, _+_, _-_, _*_, _/_, _%_, _≤_, _<_, min, max}
-use native.Mathlib.Nat.{div-add-mod', mul-mod-left, zero-mod, mod-le}
+use native.Mathlib.Nat.{div-add-mod', mul-mod-left, zero-mod, mod-le, mod-one}
 use native.Mathlib.Decide.{decLt}
 use native.Mathlib.Omega.{arith}
 use borrow.Author.Tests.{le-leb, lt-leb}
@@ -23,6 +23,12 @@ adjusted-low low step L h = rw (adjusted, le-leb L low h)
 pub adjusted-high : (low step L : ℕ) → low < L → adjusted low step L ≡ L - (L - low) % step
 unfolding adjusted
 adjusted-high low step L h = rw (adjusted, lt-leb L low h)
+
+-- steps of one level leave every level
+pub adjusted-one : (low step L : ℕ) → 0 < step → step ≤ 1 → adjusted low step L ≡ L
+adjusted-one low step L p h = by-cases (decLt low L)
+    (λ g. let e : step ≡ 1 = omega arith in rw (adjusted-high low step L g, e, mod-one (L - low)) (omega arith))
+    (λ g. adjusted-low low step L (omega arith))
 
 pub adjusted-le : (low step L : ℕ) → adjusted low step L ≤ L
 adjusted-le low step L = by-cases (decLt low L)

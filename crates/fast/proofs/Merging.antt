@@ -11,11 +11,11 @@ use lib.ListN.{length, getD, set, take, drop, length-append, length-take, length
 use lib.Seq.{split-at, set-split, drop-cons}
 use lib.Dec.{ltb}
 use borrow.Author.Tests.{lt-ltb, le-ltb, le-leb, lt-leb}
-use Rattle.cellid.specs.CellId.{Cell, levelOf, parentAt}
+use Rattle.cellid.specs.CellId.{Cell, levelOf, parentAt, holds}
 use Rattle.order.specs.Order.{All}
 use Rattle.order.proofs.OrderLaws.{which, all-get}
 use Rattle.cellunion.specs.CellUnion.{lo, hi, Member, Normal, normalise}
-use Rattle.cellunion.proofs.Spans.{In}
+use Rattle.cellunion.proofs.Spans.{In, in-holds}
 use Rattle.cellunion.proofs.Unique.{all-at, at-all, covers→, covers←}
 use Rattle.cellunion.proofs.Stack.{Cov, cov-members}
 use Rattle.cellunion.proofs.Norm.{normalise-normal, normalise-leaves, normalise-short, normalise-same, same-covered}
@@ -106,7 +106,8 @@ pub record Joined (l : List ℕ) (b : Best) : Type 0 where
   pub cover : Cov l (joined l b)
   pub shorter : length (joined l b) + 1 ≡ length l
   pub keeps : (low top step : ℕ) → AllUnder low top step l → AllUnder low top step (joined l b)
-  pub in-place : (All Cell (set l (b .at) (parentAt (getD l (b .at) 0) (b .depth - 1)))) × (normalise (set l (b .at) (parentAt (getD l (b .at) 0) (b .depth - 1))) ≡ normalise (joined l b))
+  pub wide : Cell (parentAt (getD l (b .at) 0) (b .depth - 1)) × (holds (parentAt (getD l (b .at) 0) (b .depth - 1)) (getD l (b .at) 0) ≡ true)
+  pub in-place : normalise (set l (b .at) (parentAt (getD l (b .at) 0) (b .depth - 1))) ≡ normalise (joined l b)
 
 join-laws : (l : List ℕ) (b : Best) → All Cell l → b .at + 1 < length l → Joint (getD l (b .at) 0) (getD l (b .at + 1) 0) (b .depth - 1) → Joined l b
 unfolding joined
@@ -130,11 +131,9 @@ join-laws l b C h J =
           let Q : ℕ → Type 0 = λ z. Under low top step (levelOf z) in
           let h′ : levelOf P ≤ levelOf x = in-higher x P (all-get Cell l 0 i (omega arith) C) (J .first .cell) (J .first .within) in
           pair-all Q u v x y P (subst (All Q) l-is A) (under-le (levelOf P) h′ (all-get Q l 0 i (omega arith) A));
-      in-place = (
-        subst (All Cell) (sym s-is) more,
-        ap normalise s-is ∙ normalise-same (u ++ P ∷ y ∷ v) (u ++ P ∷ v) more cells (same-covered (u ++ P ∷ y ∷ v) (u ++ P ∷ v) more cells
-            (pair-cov u v P y P (omega arith, omega arith) (J .second)) (one-more u v x y P)),
-      );
+      wide = (J .first .cell, in-holds (J .first .cell) (all-get Cell l 0 i (omega arith) C) (J .first .within));
+      in-place = ap normalise s-is ∙ normalise-same (u ++ P ∷ y ∷ v) (u ++ P ∷ v) more cells (same-covered (u ++ P ∷ y ∷ v) (u ++ P ∷ v) more cells
+          (pair-cov u v P y P (omega arith, omega arith) (J .second)) (one-more u v x y P));
     }
 
 -- normalising covers as much ..

@@ -23,6 +23,7 @@ use Rattle.fast.specs.Fast.{adjusted, mergedCovering, fastCovering, with
 use Rattle.fast.specs.Memory.{NextStart}
 use Rattle.fast.proofs.Levels.{Ancestor, ancestor, adjusted-le, adjusted-on, Under}
 use Rattle.fast.proofs.Laws.{Covering, merged-covering}
+use Rattle.fast.proofs.Six.{merged-six}
 
 -- ---- the cells that are dropped
 
@@ -309,16 +310,16 @@ StartLevel low top step L = (L ≤ top) × ((L - low) % step ≡ 0)
 raised-level : (low top step id : ℕ) → Cell id → levelOf id ≤ top → StartLevel low top step (levelOf (raised low step id))
 raised-level low top step id c h = rw (raised-is low step id c .level) (omega (arith, adjusted-le low step (levelOf id)), adjusted-on low step (levelOf id))
 
--- valid, not overlapping, on such levels, no more than the bound has; and every leaf of the bound lies under one
+-- valid, not overlapping, on such levels, at most six; and every leaf of the bound lies under one
 pub record Starting (low top step : ℕ) (bound r : List ℕ) : Type 0 where
   pub cells : All Cell r
   pub apart : Apart r
   pub levels : All (λ id. StartLevel low top step (levelOf id)) r
-  pub short : length r ≤ length bound
+  pub few : length r ≤ 6
   pub leaves : (n : ℕ) → covers bound n ≡ true → covers r n ≡ true
 
-starting : (low top step : ℕ) (bound r : List ℕ) → All Cell bound → All Cell r → Apart r → All (λ id. StartLevel low top step (levelOf id)) r → length r ≤ length bound → Cov bound r → Starting low top step bound r
-starting low top step bound r C A P Q s v = record { cells = A; apart = P; levels = Q; short = s; leaves = λ n t. covers← r n A (v n (covers→ bound n C t)) }
+starting : (low top step : ℕ) (bound r : List ℕ) → All Cell bound → All Cell r → Apart r → All (λ id. StartLevel low top step (levelOf id)) r → length r ≤ 6 → Cov bound r → Starting low top step bound r
+starting low top step bound r C A P Q s v = record { cells = A; apart = P; levels = Q; few = s; leaves = λ n t. covers← r n A (v n (covers→ bound n C t)) }
 
 pub starts-laws : (low top step cells : ℕ) (bound : List ℕ) → 0 < step → All Cell bound → Starting low top step bound (startsOf low top step cells bound)
 starts-laws low top step cells bound p C =
@@ -330,8 +331,8 @@ starts-laws low top step cells bound p C =
     subst (Starting low top step bound) (sym (starts-adjusted low top step cells bound C h)) (starting low top step bound (adjustedCells low step m) C (A .cells) (A .apart)
     (adjusted-cells-all (λ id. StartLevel low top step (levelOf id)) low step m (at-all (λ x. StartLevel low top step (levelOf (raised low step x))) m (λ x k.
     raised-level low top step x (all-at Cell m (M .normal .cells) x k) (level x k))))
-    (omega (arith, A .short, M .short)) (λ n w. A .cover n (M .cover n w))))
+    (omega (arith, A .short, merged-six top cells bound C)) (λ n w. A .cover n (M .cover n w))))
     (λ h. let e : step ≡ 1 = omega arith in
     subst (Starting low top step bound) (sym (starts-rough low top step cells bound C (omega arith))) (starting low top step bound m C (M .normal .cells) (M .normal .apart)
     (at-all (λ id. StartLevel low top step (levelOf id)) m (λ x k. (level x k, rw e (mod-one (levelOf x - low)))))
-    (M .short) (M .cover)))
+    (merged-six top cells bound C) (M .cover)))

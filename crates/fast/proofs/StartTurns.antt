@@ -2,24 +2,24 @@
 use mathlib.Core.Path.{_≡_, refl, sym, ap, ap₂, _∙_, subst}
 use mathlib.Core.Bool.{Bool, true}
 use mathlib.Core.Logic.{inl, inr}
-use mathlib.Core.List.{List, [], _∷_, _++_, append-nil}
+use mathlib.Core.List.{List, [], _∷_, _++_}
 use Prim.Native.Nat.{ℕ, _+_, _-_, _≤_, _<_, min}
 use native.Mathlib.Omega.{arith}
-use lib.ListN.{length, getD, set, take, drop, replicate}
-use lib.Seq.{length-take-le, drop-set-lt, drop-at}
+use lib.ListN.{length, getD, set, take, drop}
+use lib.Seq.{length-take-le, drop-set-lt}
 use Rattle.cellid.specs.CellId.{Cell, holds}
 use Rattle.cellid.proofs.Laws.{cell-pos}
 use Rattle.order.specs.Order.{All}
 use Rattle.cellunion.specs.CellUnion.{lo, Apart, clearOf, rev}
 use Rattle.cellunion.specs.Stack.{Down, topFirst, Gives}
 use Rattle.cellunion.specs.Memory.{zeros, laid}
-use Rattle.cellunion.proofs.Memory.{next-read, no-more, drop-more, length-zeros, zeros-add, zeros-replicate}
+use Rattle.cellunion.proofs.Memory.{next-read, no-more, drop-more, length-zeros}
 use Rattle.cellunion.proofs.Runs.{HeadFree, top-pop, top-push, rev-top}
 use Rattle.fast.specs.Fast.{mergedCovering, keepStart, keepStarts, adjustedCells, startsOf}
 use Rattle.fast.specs.Memory.{NextStart, inPlace}
 use Rattle.fast.proofs.StartLaws.{clear-without, not-around, keep-in, keep-out, KeptStart, keep-start-laws, Begun, begun-none, begun-on, raised, next-start, adjusted-cells, rough-laws, starts-rough, starts-adjusted}
 use Rattle.fast.proofs.Laws.{Covering}
-use Rattle.fast.proofs.Turns.{in-place-again, take-in-place, length-in-place, bound-front}
+use Rattle.fast.proofs.Turns.{in-place-again, take-in-place, length-in-place}
 
 -- ---- one more cell
 
@@ -122,62 +122,54 @@ module _ (low step : ℕ) where
             ∙ ap (λ (j : ℕ). rev (keepStarts low step [] (take n m₀)) ++ (zeros (n - j) ++ drop n m₀)) q,
       )
 
--- ---- in the array of the answer
+-- ---- the rough covering, and the adjustment
 
--- r in place of the bound's list, in an array that has zeros behind that
-in-array : (w n : ℕ) (ids bound r : List ℕ) → n ≡ length bound → n ≤ w → ids ≡ bound ++ replicate (w - length bound) 0 → length r ≤ n → inPlace n r ids ≡ r ++ zeros (w - length r)
-unfolding inPlace
-in-array w n ids bound r e h f s =
-    let t : drop n ids ≡ zeros (w - n) ++ [] = ap (drop n) f ∙ drop-at bound (replicate (w - length bound) 0) n (sym e) ∙ zeros-replicate (w - length bound) ∙ sym (append-nil (zeros (w - length bound))) ∙ ap (λ (k : ℕ). zeros (w - k) ++ []) (sym e) in
-    let z : (n - length r) + (w - n) ≡ w - length r = omega arith in
-    ap (λ (l : List ℕ). r ++ l) (ap (λ (l : List ℕ). zeros (n - length r) ++ l) t ∙ zeros-add (n - length r) (w - n) [] ∙ append-nil (zeros (n - length r + (w - n))) ∙ ap zeros z)
-
-module _ (low top step cells w n : ℕ) (ids bound : List ℕ) (C : All Cell bound) (e : n ≡ length bound) (h : n ≤ w) (f : ids ≡ bound ++ replicate (w - length bound) 0)
-    (few k : ℕ) (ids′ : List ℕ) (ef : few ≡ min cells 4) (ek : k ≡ length (mergedCovering 0 top 1 few (take n ids))) (ei : ids′ ≡ inPlace n (mergedCovering 0 top 1 few (take n ids)) ids) where
+module _ (low top step cells n : ℕ) (m : List ℕ) (room : n ≤ length m) (C : All Cell (take n m))
+    (few k : ℕ) (m′ : List ℕ) (ef : few ≡ min cells 4) (ek : k ≡ length (mergedCovering 0 top 1 few (take n m))) (em : m′ ≡ inPlace n (mergedCovering 0 top 1 few (take n m)) m) where
   list : List ℕ
-  list = mergedCovering 0 top 1 (min cells 4) bound
+  list = mergedCovering 0 top 1 (min cells 4) (take n m)
 
-  L : Covering 0 top 1 bound list
+  L : Covering 0 top 1 (take n m) list
   unfolding list
-  L = rough-laws low top step cells bound C
+  L = rough-laws low top step cells (take n m) C
 
-  same : mergedCovering 0 top 1 few (take n ids) ≡ list
+  same : mergedCovering 0 top 1 few (take n m) ≡ list
   unfolding list
-  same = ap₂ (mergedCovering 0 top 1) ef (bound-front n ids bound (replicate (w - length bound) 0) e f .0)
+  same = ap (λ (j : ℕ). mergedCovering 0 top 1 j (take n m)) ef
 
   size : length list ≡ k
   size = sym (ek ∙ ap length same)
 
-  there : ids′ ≡ inPlace n list ids
-  there = ei ∙ ap (λ (l : List ℕ). inPlace n l ids) same
+  within : k ≤ n
+  within = omega (arith, L .short, size, length-take-le n m room)
 
-  front : take k ids′ ≡ list
-  front = ap (take k) there ∙ take-in-place n k list ids size
+  there : m′ ≡ inPlace n list m
+  there = em ∙ ap (λ (l : List ℕ). inPlace n l m) same
+
+  front : take k m′ ≡ list
+  front = ap (take k) there ∙ take-in-place n k list m size
 
   -- no adjustment
-  pub starts-done : step ≤ 1 → (k ≡ length (startsOf low top step cells bound)) × (ids′ ≡ startsOf low top step cells bound ++ zeros (w - length (startsOf low top step cells bound)))
+  pub starts-done : step ≤ 1 → (k ≡ length (startsOf low top step cells (take n m))) × (m′ ≡ inPlace n (startsOf low top step cells (take n m)) m)
   unfolding list
   starts-done g =
-      let q : list ≡ startsOf low top step cells bound = sym (starts-rough low top step cells bound C g) in
-      let i : ids′ ≡ list ++ zeros (w - length list) = there ∙ in-array w n ids bound list e h f (omega (arith, L .short)) in
-      (sym size ∙ ap length q, i ∙ ap (λ (l : List ℕ). l ++ zeros (w - length l)) q)
+      let q : list ≡ startsOf low top step cells (take n m) = sym (starts-rough low top step cells (take n m) C g) in
+      (sym size ∙ ap length q, there ∙ ap (λ (l : List ℕ). inPlace n l m) q)
 
-  pub adjust-asks : (k ≤ length ids′) × All Cell (take k ids′) × Apart (take k ids′)
-  adjust-asks =
-      let r = bound-front n ids bound (replicate (w - length bound) 0) e f in (
-        omega (arith, ap length there, length-in-place n list ids (omega (arith, L .short)) (r .1), r .1, L .short, size),
-        rw front (L .normal .cells),
-        rw front (L .normal .apart),
-      )
+  pub adjust-asks : (k ≤ length m′) × All Cell (take k m′) × Apart (take k m′)
+  adjust-asks = (
+    omega (arith, ap length there, length-in-place n list m (omega (arith, within, size)) room, within),
+    rw front (L .normal .cells),
+    rw front (L .normal .apart),
+  )
 
-  pub starts-adjusted-done : 1 < step → (r : ℕ) (ids″ : List ℕ) → r ≡ length (adjustedCells low step (take k ids′)) → ids″ ≡ inPlace k (adjustedCells low step (take k ids′)) ids′
-      → (r ≡ length (startsOf low top step cells bound)) × (ids″ ≡ startsOf low top step cells bound ++ zeros (w - length (startsOf low top step cells bound)))
+  pub starts-adjusted-done : 1 < step → (r : ℕ) (m″ : List ℕ) → r ≡ length (adjustedCells low step (take k m′)) → m″ ≡ inPlace k (adjustedCells low step (take k m′)) m′
+      → (r ≡ length (startsOf low top step cells (take n m))) × (m″ ≡ inPlace n (startsOf low top step cells (take n m)) m)
   unfolding list
-  starts-adjusted-done g r ids″ er ei″ =
-      let q : adjustedCells low step (take k ids′) ≡ startsOf low top step cells bound = ap (adjustedCells low step) front ∙ sym (starts-adjusted low top step cells bound C g) in
+  starts-adjusted-done g r m″ er e″ =
+      let q : adjustedCells low step (take k m′) ≡ startsOf low top step cells (take n m) = ap (adjustedCells low step) front ∙ sym (starts-adjusted low top step cells (take n m) C g) in
       let A = adjusted-cells low step list (L .normal .cells) (L .normal .apart) in
-      let s : length (adjustedCells low step (take k ids′)) ≤ k = omega (arith, ap (λ (l : List ℕ). length (adjustedCells low step l)) front, A .short, size) in
-      let i : ids″ ≡ adjustedCells low step (take k ids′) ++ zeros (w - length (adjustedCells low step (take k ids′))) =
-      ei″ ∙ in-place-again n k list (adjustedCells low step (take k ids′)) ids ids′ ids′ size (omega (arith, L .short, size)) there refl s
-      ∙ in-array w n ids bound (adjustedCells low step (take k ids′)) e h f (omega (arith, s, L .short, size)) in
-      (er ∙ ap length q, i ∙ ap (λ (l : List ℕ). l ++ zeros (w - length l)) q)
+      let s : length (adjustedCells low step (take k m′)) ≤ k = omega (arith, ap (λ (l : List ℕ). length (adjustedCells low step l)) front, A .short, size) in (
+        er ∙ ap length q,
+        e″ ∙ in-place-again n k list (adjustedCells low step (take k m′)) m m′ m′ size within there refl s ∙ ap (λ (l : List ℕ). inPlace n l m) q,
+      )

@@ -1,15 +1,16 @@
 -- The loops over lent memory: what holds at each turn of lifting, scanning and merging.
 use mathlib.Core.Path.{_≡_, refl, sym, ap, _∙_, subst}
+use mathlib.Core.Bool.{true}
 use mathlib.Core.List.{List, [], _∷_, _++_, append-assoc, map, map-append}
 use Prim.Native.Nat.{ℕ, suc, _+_, _-_, _≤_, _<_}
 use native.Mathlib.Numerals.{add-one}
 use native.Mathlib.Omega.{arith}
 use lib.ListN.{length, getD, set, take, drop, length-append, length-map, length-set, length-drop, take-append-drop}
 use lib.Seq.{length-take-le, take-suc, drop-cons, getD-at, set-at, take-at, drop-at, getD-take, take-set-lt, drop-set-lt}
-use Rattle.cellid.specs.CellId.{Cell, parentAt}
+use Rattle.cellid.specs.CellId.{Cell, parentAt, holds}
 use Rattle.order.specs.Order.{All}
 use Rattle.order.proofs.OrderLaws.{all-get}
-use Rattle.cellunion.specs.CellUnion.{normalise, denormalise}
+use Rattle.cellunion.specs.CellUnion.{Normal, normalise, denormalise}
 use Rattle.cellunion.specs.Memory.{zeros, normalised}
 use Rattle.cellunion.proofs.Norm.{normalise-normal, normalise-short}
 use Rattle.cellunion.proofs.Memory.{length-zeros, zeros-add}
@@ -52,6 +53,9 @@ lift-turn f n m₀ m i v L h e =
 pub lift-done : (f : ℕ → ℕ) (n : ℕ) (m₀ m : List ℕ) (i : ℕ) → Lifting f n m₀ m i → n ≤ i → m ≡ map f (take n m₀) ++ drop n m₀
 lift-done f n m₀ m i L h = let e : i ≡ n = omega (arith, L .within) in L .same ∙ ap (λ (k : ℕ). map f (take k m₀) ++ drop k m₀) e
 
+pub lift-none : (f : ℕ → ℕ) (n : ℕ) (m : List ℕ) → map f (take n m) ≡ take n m → m ≡ map f (take n m) ++ drop n m
+lift-none f n m e = sym (take-append-drop n m) ∙ ap (λ (l : List ℕ). l ++ drop n m) (sym e)
+
 -- ---- a list in place of the first n words
 
 pub in-place-all : (n : ℕ) (m : List ℕ) → n ≤ length m → m ≡ inPlace n (take n m) m
@@ -82,6 +86,13 @@ pub take-in-place : (n r : ℕ) (l m : List ℕ) → length l ≡ r → take r (
 unfolding inPlace
 take-in-place n r l m e = take-at l (zeros (n - length l) ++ drop n m) r e
 
+-- the words from n on stay
+pub in-place-back : (n : ℕ) (l m : List ℕ) → length l ≤ n → drop n (inPlace n l m) ≡ drop n m
+unfolding inPlace
+in-place-back n l m h =
+    let e : length (l ++ zeros (n - length l)) ≡ n = simp (length-append, length-zeros) (omega arith) in
+    ap (drop n) (sym (append-assoc l (zeros (n - length l)) (drop n m))) ∙ drop-at (l ++ zeros (n - length l)) (drop n m) n e
+
 -- ---- the scan, in memory
 
 module _ (low step : ℕ) (m : List ℕ) (k i d : ℕ) (b : Best) (h : i + 1 < k) (e : b ≡ bestOf low step (take k m) i) (q : d ≡ pairDepth low step (getD m i 0) (getD m (i + 1) 0)) where
@@ -101,18 +112,18 @@ module _ (low step cells : ℕ) where
     pub within : k ≤ n
     pub room : n ≤ length m₀
     pub len : length m ≡ length m₀
-    pub each : All Cell (take k m)
+    pub normal : Normal (take k m)
     pub whole : m ≡ inPlace n (take k m) m₀
     pub fuel : ℕ
     pub enough : k ≤ fuel
     pub rest : mergedIn low step cells fuel (take k m) ≡ merged low step cells (take n m₀)
 
-  pub going-start : (n : ℕ) (m₀ : List ℕ) → n ≤ length m₀ → All Cell (take n m₀) → Going n m₀ m₀ n
-  going-start n m₀ h C = record {
+  pub going-start : (n : ℕ) (m₀ : List ℕ) → n ≤ length m₀ → Normal (take n m₀) → Going n m₀ m₀ n
+  going-start n m₀ h N = record {
     within = omega arith;
     room = h;
     len = refl;
-    each = C;
+    normal = N;
     whole = in-place-all n m₀ h;
     fuel = length (take n m₀);
     enough = omega (arith, length-take-le n m₀ h);
@@ -123,7 +134,7 @@ module _ (low step cells : ℕ) where
   going-size n m₀ m k G = length-take-le k m (omega (arith, G .within, G .room, G .len))
 
   pub going-cell : (n : ℕ) (m₀ m : List ℕ) (k i : ℕ) → Going n m₀ m k → i < k → Cell (getD m i 0)
-  going-cell n m₀ m k i G h = subst Cell (getD-take k m i 0 h) (all-get Cell (take k m) 0 i (omega (arith, going-size n m₀ m k G)) (G .each))
+  going-cell n m₀ m k i G h = subst Cell (getD-take k m i 0 h) (all-get Cell (take k m) 0 i (omega (arith, going-size n m₀ m k G)) (G .normal .cells))
 
   pub going-done : (n : ℕ) (m₀ m : List ℕ) (k : ℕ) (G : Going n m₀ m k) → mergedIn low step cells (G .fuel) (take k m) ≡ take k m
       → (k ≡ length (merged low step cells (take n m₀))) × (m ≡ inPlace n (merged low step cells (take n m₀)) m₀)
@@ -146,7 +157,7 @@ module _ (low step cells : ℕ) where
     turn-level = rw (found .depth) (pair-small low step (getD (take k m) (b .at) 0) (getD (take k m) (b .at + 1) 0))
 
     joins : Joined (take k m) b
-    joins = rw e (best-joined low step cells (take k m) (G .each) deep)
+    joins = rw e (best-joined low step cells (take k m) (G .normal .cells) deep)
 
     module _ (P : ℕ) (is : P ≡ parentAt (getD m (b .at) 0) (b .depth - 1)) where
       stored : take k (set m (b .at) P) ≡ set (take k m) (b .at) (parentAt (getD (take k m) (b .at) 0) (b .depth - 1))
@@ -154,11 +165,14 @@ module _ (low step cells : ℕ) where
           let h = turn-place in
           take-set-lt k m (b .at) P (omega arith) ∙ ap (set (take k m) (b .at)) (is ∙ ap (λ (x : ℕ). parentAt x (b .depth - 1)) (sym (getD-take k m (b .at) 0 (omega arith))))
 
-      pub turn-cells : All Cell (take k (set m (b .at) P))
-      turn-cells = rw stored (joins .in-place .0)
+      pub turn-wide : Cell P × (holds P (getD m (b .at) 0) ≡ true)
+      turn-wide =
+          let h = turn-place in
+          let e = getD-take k m (b .at) 0 (omega arith) in
+          rw (is, ← e) (joins .wide)
 
       normal : normalise (take k (set m (b .at) P)) ≡ normalise (joined (take k m) b)
-      normal = ap normalise stored ∙ joins .in-place .1
+      normal = ap normalise stored ∙ joins .in-place
 
       shorter : length (normalise (take k (set m (b .at) P))) < k
       shorter = rw normal (omega (arith, normalise-short (joined (take k m) b) (joins .cells), joins .shorter, going-size n m₀ m k G))
@@ -177,7 +191,7 @@ module _ (low step cells : ℕ) where
               within = omega (arith, G .within);
               room = G .room;
               len = ap length new ∙ length-in-place n (normalise (take k (set m (b .at) P))) m₀ (omega (arith, shorter, G .within)) (G .room);
-              each = rw list (normalise-normal (joined (take k m) b) (joins .cells) .cells);
+              normal = rw list (normalise-normal (joined (take k m) b) (joins .cells));
               whole = new ∙ ap (λ (l : List ℕ). inPlace n l m₀) (normal ∙ sym list);
               fuel = G .fuel - 1;
               enough = omega (arith, G .enough);
@@ -216,9 +230,9 @@ module _ (low top step cells n : ℕ) (m : List ℕ) (room : n ≤ length m) (C 
     unfolding list
     long = sym (ek ∙ ap (λ (l : List ℕ). length (normalise l)) front)
 
-    each : All Cell list
+    each : Normal list
     unfolding list
-    each = normalise-normal (map (lifted low top step) (take n m)) (lifted-cells low top step (take n m) C) .cells
+    each = normalise-normal (map (lifted low top step) (take n m)) (lifted-cells low top step (take n m) C)
 
     few : k ≤ n
     unfolding list
@@ -231,7 +245,7 @@ module _ (low top step cells n : ℕ) (m : List ℕ) (room : n ≤ length m) (C 
     at-front : take k m₂ ≡ list
     at-front = ap (take k) there ∙ take-in-place n k list m long
 
-    pub merge-asks : (k ≤ length m₂) × All Cell (take k m₂)
+    pub merge-asks : (k ≤ length m₂) × Normal (take k m₂)
     merge-asks = (omega (arith, ap length there, length-in-place n list m (omega (arith, long, few)) room, few), rw at-front each)
 
     pub merge-done : (r : ℕ) (m₃ : List ℕ) → r ≡ length (merged low step cells (take k m₂)) → m₃ ≡ inPlace k (merged low step cells (take k m₂)) m₂
@@ -239,7 +253,7 @@ module _ (low top step cells n : ℕ) (m : List ℕ) (room : n ≤ length m) (C 
     unfolding mergedCovering list
     merge-done r m₃ er e₃ =
         let M = merged low step cells list in
-        let s : length M ≤ k = omega (arith, merged-laws low step cells (length list) list each .short, long) in
+        let s : length M ≤ k = omega (arith, merged-laws low step cells (length list) list (each .cells) .short, long) in
         (er ∙ ap (λ (l : List ℕ). length (merged low step cells l)) at-front, e₃ ∙ ap (λ (l : List ℕ). inPlace k (merged low step cells l) m₂) at-front ∙ in-place-again n k list M m m₂ m₂ long few there refl s)
 
 -- ---- the list that is denormalised

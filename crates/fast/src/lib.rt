@@ -1,14 +1,16 @@
 // Fast coverings and start cells of a region.
 ghost use mathlib.Core.Path.{_≡_};
-ghost use mathlib.Core.Bool.{true};
+ghost use mathlib.Core.Bool.{true, _&&_};
+ghost use lib.Dec.{leb};
 ghost use mathlib.Core.List.{_++_};
 ghost use Prim.Native.Nat.{_-_, _≤_, _<_, min};
 ghost use lib.ListN.{length, take, drop};
 ghost use Rattle.cellid.specs.CellId.{Cell};
-ghost use Rattle.cellunion.specs.CellUnion.{Apart};
+ghost use Rattle.cellunion.specs.CellUnion.{Apart, Normal};
 ghost use Rattle.cellunion.specs.Memory.{zeros, roomFor, laidOver};
 ghost use Rattle.cellunion.specs.Stack.{topFirst, Gives};
-ghost use Rattle.region.specs.Region.{inDomain, boundOf};
+ghost use Rattle.region.specs.Region.{areaOf, inDomain, boundOf};
+ghost use Rattle.run.specs.Run.{memoryWords};
 ghost use Rattle.fast.specs.Fast.{adjusted, pairDepth, keepStart};
 ghost use Rattle.fast.specs.Memory.{NumbersFit, liftedFor, mergedFor, mergedCoveringFor, fastCoveringFor, adjustedFor, startsFor, inPlace, Cells, NextStart};
 use run::RegionCoverer;
@@ -36,11 +38,12 @@ fn adjust_level(c: RegionCoverer, level: u64) -> u64
     requires { ⌜ NumbersFit c ⌝ }
     ensures { λ r. ⌜ r ≡ adjusted (c .«min_level») (c .«level_mod») level ⌝ }
 {
-    if c.min_level < level {
-        level - (level - c.min_level) % c.level_mod
-    } else {
-        level
+    if 1 < c.level_mod {
+        if c.min_level < level {
+            return level - (level - c.min_level) % c.level_mod;
+        }
     }
+    level
 }
 
 // One more than the adjusted level of the two cells' common ancestor; 0 for none.
@@ -55,11 +58,25 @@ fn depth(c: RegionCoverer, a: u64, b: u64) -> u64
     }
 }
 
+// Whether a request takes cells of every level: down to level 30, in steps of one.
+fn takes_all_levels(c: RegionCoverer) -> bool
+    ensures { λ r. ⌜ r ≡ (leb 30 (c .«max_level») && leb (c .«level_mod») 1) ⌝ }
+{
+    if 30 <= c.max_level {
+        c.level_mod <= 1
+    } else {
+        false
+    }
+}
+
 // Moves each of the first n cells whose level is above max_level or off step to its ancestor that is neither.
 fn lift(c: RegionCoverer, mem: &mut [u64], n: usize)
-    requires { ⌜ NumbersFit c × (n ≤ length (now mem)) ⌝ }
+    requires { ⌜ NumbersFit c × Cells n (now mem) ⌝ }
     ensures { λ _. ⌜ now (mem .exit) ≡ liftedFor c (take n (now (mem .entry))) ++ drop n (now (mem .entry)) ⌝ }
 {
+    if takes_all_levels(c) {
+        return;
+    }
     let top = c.max_level;
     let mut i: usize = 0;
     while i < n {
@@ -73,7 +90,7 @@ fn lift(c: RegionCoverer, mem: &mut [u64], n: usize)
 // Merges the first n cells, a normal list, while they are more than max_cells: the neighbours whose common ancestor lies deepest become that
 // ancestor, as long as it lies at min_level or deeper. Gives how many are left.
 fn merge(c: RegionCoverer, mem: &mut [u64], n: usize) -> usize
-    requires { ⌜ NumbersFit c × Cells n (now mem) ⌝ }
+    requires { ⌜ NumbersFit c × (n ≤ length (now mem)) × Normal (take n (now mem)) ⌝ }
     ensures { λ r. ⌜ (r ≡ length (mergedFor c (take n (now (mem .entry))))) × (now (mem .exit) ≡ inPlace n (mergedFor c (take n (now (mem .entry)))) (now (mem .entry))) ⌝ }
 {
     let low = c.min_level;
@@ -94,8 +111,8 @@ fn merge(c: RegionCoverer, mem: &mut [u64], n: usize) -> usize
             break 'merge;
         }
         let at = best.at;
-        mem[at] = cellid::parent(mem[at], deepest - 1);
-        k = cellunion::normalize(mem, k);
+        let wide = cellid::parent(mem[at], deepest - 1);
+        k = cellunion::widen(mem, k, at, wide);
     }
     k
 }
@@ -125,14 +142,21 @@ pub fn normalize_covering(
     cellunion::denormalize(mem, k, c.min_level, c.level_mod, out)
 }
 
-// Fast covering of the region's bound, laid over the output's first places. It takes no steps.
-pub fn fast_covering(c: RegionCoverer, g: region::Region, out: &mut [u64]) -> cellunion::Laid
-    requires { ⌜ NumbersFit c × (inDomain g ≡ true) ⌝ }
-    ensures { λ r. ⌜ (r ≡ roomFor (fastCoveringFor c (boundOf g)) (now (out .entry))) × (now (out .exit) ≡ laidOver (fastCoveringFor c (boundOf g)) (now (out .entry))) ⌝ }
+// Fast covering of the region's bound, laid over the output's first places. It takes no steps. The bound stands in the memory's first words meanwhile; in its
+// place stays the list before it was denormalised.
+pub fn fast_covering(
+    c: RegionCoverer,
+    g: region::Region,
+    list: &[u64],
+    mem: &mut [u64],
+    out: &mut [u64],
+) -> cellunion::Laid
+    requires { ⌜ NumbersFit c × (inDomain (areaOf g (now list)) ≡ true) × (memoryWords ≤ length (now mem)) ⌝ }
+    ensures { λ r. ⌜ (r ≡ roomFor (fastCoveringFor c (boundOf (areaOf g (now (list .entry))))) (now (out .entry))) × (now (out .exit) ≡ laidOver (fastCoveringFor c (boundOf (areaOf g (now (list .entry))))) (now (out .entry))) ⌝ }
+    ensures { λ _. ⌜ now (mem .exit) ≡ inPlace (length (boundOf (areaOf g (now (list .entry))))) (mergedCoveringFor c (boundOf (areaOf g (now (list .entry))))) (now (mem .entry)) ⌝ }
 {
-    let b = region::cell_union_bound(g);
-    let mut ids = b.ids;
-    normalize_covering(c, &mut ids, b.count, out)
+    let n = region::cell_union_bound(g, list, mem);
+    normalize_covering(c, mem, n, out)
 }
 
 // One more start cell on the first k, the last kept on top: skipped if that one contains it; those that it contains go.
@@ -167,30 +191,41 @@ fn adjust_cell_levels(c: RegionCoverer, mem: &mut [u64], n: usize) -> usize
     kept
 }
 
-// The cells that a run for the region starts from: fast covering of its bound with at most four cells where that goes, then moved to levels on
-// step. At most six, ascending, none inside another; every leaf of the bound lies under one.
-pub fn starts(c: RegionCoverer, g: region::Region) -> StartCells
-    requires { ⌜ NumbersFit c × (inDomain g ≡ true) ⌝ }
-    ensures { λ r. ⌜ (r .count ≡ length (startsFor c (boundOf g))) × (r .ids ≡ startsFor c (boundOf g) ++ zeros (6 - length (startsFor c (boundOf g)))) ⌝ }
+// The cells that a run starts from, for any list of cells, in place of the first n words: the rough fast covering with at most four cells where
+// that goes, then moved to levels on step. Gives how many they are, at most six; they ascend, none lies in another, and every leaf of the list lies under one.
+fn start_cells(c: RegionCoverer, mem: &mut [u64], n: usize) -> usize
+    requires { ⌜ NumbersFit c × Cells n (now mem) ⌝ }
+    ensures { λ r. ⌜ (r ≡ length (startsFor c (take n (now (mem .entry))))) × (now (mem .exit) ≡ inPlace n (startsFor c (take n (now (mem .entry)))) (now (mem .entry))) ⌝ }
 {
-    let b = region::cell_union_bound(g);
-    let mut ids = b.ids;
     let rough = RegionCoverer {
         min_level: 0,
         max_level: c.max_level,
         level_mod: 1,
         max_cells: lesser(c.max_cells, 4),
     };
-    let count = merge_covering(rough, &mut ids, b.count);
+    let k = merge_covering(rough, mem, n);
     if c.level_mod <= 1 {
-        return StartCells {
-            ids: ids,
-            count: count,
-        };
+        return k;
     }
-    let kept = adjust_cell_levels(c, &mut ids, count);
-    StartCells {
-        ids: ids,
-        count: kept,
-    }
+    adjust_cell_levels(c, mem, k)
+}
+
+// Six words.
+fn six_words() -> [u64; 6]
+    ensures { λ r. ⌜ r ≡ zeros 6 ⌝ }
+{
+    [0; 6]
+}
+
+// The start cells for the region: those of its bound, which stands in the memory's first words meanwhile; in its place they stay there, too.
+pub fn starts(c: RegionCoverer, g: region::Region, list: &[u64], mem: &mut [u64]) -> StartCells
+    requires { ⌜ NumbersFit c × (inDomain (areaOf g (now list)) ≡ true) × (memoryWords ≤ length (now mem)) ⌝ }
+    ensures { λ r. ⌜ (r .count ≡ length (startsFor c (boundOf (areaOf g (now (list .entry)))))) × (r .ids ≡ startsFor c (boundOf (areaOf g (now (list .entry)))) ++ zeros (6 - length (startsFor c (boundOf (areaOf g (now (list .entry))))))) ⌝ }
+    ensures { λ _. ⌜ now (mem .exit) ≡ inPlace (length (boundOf (areaOf g (now (list .entry))))) (startsFor c (boundOf (areaOf g (now (list .entry))))) (now (mem .entry)) ⌝ }
+{
+    let n = region::cell_union_bound(g, list, mem);
+    let count = start_cells(c, mem, n);
+    let mut ids = six_words();
+    cellunion::copy(mem, count, &mut ids);
+    StartCells { ids, count }
 }

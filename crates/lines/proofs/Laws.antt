@@ -18,19 +18,20 @@ use Rattle.tokens.specs.declared.Form.{Form}
 use Rattle.replies.specs.Write.{Wrote, listText, errorText}
 use Rattle.replies.proofs.Lengths.{wrote-whole, error-length, refused-length, list-length}
 use Rattle.requests.specs.declared.line.Options.{Options}
-use Rattle.requests.specs.Line.{valueOr, formOf, optionsAfter}
+use Rattle.requests.specs.Line.{wordsWith, valueOr, formOf, optionsAfter}
 use Rattle.requests.specs.Requests as Requests
 use Rattle.requests.specs.Requests.{onFirst}
-use Rattle.requests.proofs.Laws.{take-min, drop-min, length-min}
+use Rattle.requests.proofs.Laws.{take-min, drop-min, length-min, words-fit}
 use Rattle.ranges.specs.declared.Answer.{Answer}
 use Rattle.cellunion.specs.CellUnion.{isList}
 use Rattle.ranges.specs.Ranges.{Result, refused, done, fitted, pairsOf, isPairs, cellsOf, pairsResult, cellsResult, listAnswer, wordsOf, outputAfter, Answered}
 use Rattle.ranges.specs.Ranges as Ranges
 use Rattle.sets.specs.declared.Op.{Op}
-use Rattle.sets.specs.Sets.{combined, isPickList, setResult}
+use Rattle.picklist.specs.PickList.{isPickList}
+use Rattle.sets.specs.Sets.{combined, setResult}
 use Rattle.lines.specs.declared.ListRead.{ListRead}
 use Rattle.lines.specs.declared.ListsRead.{ListsRead}
-use Rattle.lines.specs.Lines.{wordAfter, isAt, asksList, secondAfter, listsAfter, ReadLists, Question, questionOf, ReadQuestion, opOf, resultFor, resultIn, resultOf, resultText, AnsweredIn, answerText, textAt, memoryWith, outputAt, ListReplied, textOf, memoryOf, outputOf, Replied}
+use Rattle.lines.specs.Lines.{wordAfter, isAt, asksList, secondAfter, listsAfter, ReadLists, Question, questionOf, ReadQuestion, opOf, resultFor, resultIn, resultOf, resultText, AnsweredIn, answerText, textAt, outputAt, ListReplied, textOf, lentOf, memoryOf, outputOf, Replied}
 
 -- ---- reading
 
@@ -51,79 +52,78 @@ module _ (kind most : ℕ) (l : List ℕ) (p : Place) where
   unfolding secondAfter
   second-some t = rw (secondAfter, t)
 
-pub read-none : (kind : ℕ) (l : List ℕ) (p : Place) (mem : List ℕ) → kind < 2 → ReadList (secondAfter kind (length mem) l p) (record { value = 0; after = p }) mem mem
-read-none kind l p mem h = rw (second-none kind (length mem) l p (lt-ltb kind 2 h)) (record { count = refl; place = refl; words = refl })
+pub read-none : (kind : ℕ) (l : List ℕ) (p : Place) (words : List ℕ) → kind < 2 → ReadList (secondAfter kind (length words) l p) (record { value = 0; after = p }) words words
+read-none kind l p words h = rw (second-none kind (length words) l p (lt-ltb kind 2 h)) (record { count = refl; place = refl; words = refl })
 
-pub read-some : (kind : ℕ) (l : List ℕ) (p : Place) (r : Read) (mem mem' : List ℕ) → 2 ≤ kind → ReadList (listAfter (length mem) l p) r mem mem' → ReadList (secondAfter kind (length mem) l p) r mem mem'
-read-some kind l p r mem mem' h R = rw (second-some kind (length mem) l p (le-ltb kind 2 h)) R
+pub read-some : (kind : ℕ) (l : List ℕ) (p : Place) (r : Read) (words words' : List ℕ) → 2 ≤ kind → ReadList (listAfter (length words) l p) r words words' → ReadList (secondAfter kind (length words) l p) r words words'
+read-some kind l p r words words' h R = rw (second-some kind (length words) l p (le-ltb kind 2 h)) R
 
 -- one list behind the other
-both-words : (a b mem : List ℕ) → a ++ (b ++ drop (length b) (drop (length a) mem)) ≡ memoryWith a b mem
-unfolding memoryWith
-both-words a b mem = ap (λ (t : List ℕ). a ++ (b ++ t)) (drop-drop (length b) (length a) mem) ∙ sym (append-assoc a b _) ∙ ap (λ (n : ℕ). (a ++ b) ++ drop n mem) (sym (length-append a b))
+both-words : (a b words : List ℕ) → a ++ (b ++ drop (length b) (drop (length a) words)) ≡ wordsWith (a ++ b) words
+unfolding wordsWith
+both-words a b words = ap (λ (t : List ℕ). a ++ (b ++ t)) (drop-drop (length b) (length a) words) ∙ sym (append-assoc a b _) ∙ ap (λ (n : ℕ). (a ++ b) ++ drop n words) (sym (length-append a b))
 
-first-read : (n : Numbers) (r : Read) (mem mem' : List ℕ) → ReadList n r mem mem' → (take (r .value) mem' ≡ n .values) × (drop (r .value) mem' ≡ drop (length (n .values)) mem)
-first-read n r mem mem' R = (
+first-read : (n : Numbers) (r : Read) (words words' : List ℕ) → ReadList n r words words' → (take (r .value) words' ≡ n .values) × (drop (r .value) words' ≡ drop (length (n .values)) words)
+first-read n r words words' R = (
   rw (R .count, R .words) (take-append-seam (n .values) _),
   rw (R .count, R .words) (drop-append-seam (n .values) _),
 )
 
-pub read-fits : (n : Numbers) (r : Read) (mem mem' : List ℕ) → ReadList n r mem mem' → r .value ≤ length mem'
-read-fits n r mem mem' R = rw (R .count, R .words, length-append (n .values) _) (omega arith)
+pub read-fits : (n : Numbers) (r : Read) (words words' : List ℕ) → ReadList n r words words' → r .value ≤ length words'
+read-fits n r words words' R = rw (R .count, R .words, length-append (n .values) _) (omega arith)
 
 -- behind a part that is lent to its end there is nothing
 past-end : (l part : List ℕ) (k : ℕ) → part ++ drop (length l - k) (drop k l) ≡ part
 past-end l part k = ap (λ (t : List ℕ). part ++ t) (drop-of-length-le (drop k l) {i = length l - k} (omega (arith, length-drop k l))) ∙ append-nil part
 
-pub lists-read : (kind : ℕ) (l : List ℕ) (p : Place) (a b : Read) (mem mid part : List ℕ) → ReadList (listAfter (length mem) l p) a mem mid
+pub lists-read : (kind : ℕ) (l : List ℕ) (p : Place) (a b : Read) (words mid part : List ℕ) → ReadList (listAfter (length words) l p) a words mid
     → ReadList (secondAfter kind (length (take (length mid - a .value) (drop (a .value) mid))) l (a .after)) b (take (length mid - a .value) (drop (a .value) mid)) part
-    → ReadLists (listsAfter kind (length mem) l p) (record { first = a .value; both = a .value + b .value; after = b .after }) mem (take (a .value) mid ++ (part ++ drop (length mid - a .value) (drop (a .value) mid)))
+    → ReadLists (listsAfter kind (length words) l p) (record { first = a .value; both = a .value + b .value; after = b .after }) words (take (a .value) mid ++ (part ++ drop (length mid - a .value) (drop (a .value) mid)))
 unfolding listsAfter
-lists-read kind l p a b mem mid part A B =
-    let n = listAfter (length mem) l p in
-    let F = first-read n a mem mid A in
-    let m = secondAfter kind (length mem - length (n .values)) l (n .after) in
-    let r : take (length mid - a .value) (drop (a .value) mid) ≡ drop (length (n .values)) mem = part-to-end mid (a .value) ∙ F .1 in
-    let C : ReadList m b (drop (length (n .values)) mem) part = rw (r, length-drop (length (n .values)) mem, A .place) at B in
+lists-read kind l p a b words mid part A B =
+    let n = listAfter (length words) l p in
+    let F = first-read n a words mid A in
+    let m = secondAfter kind (length words - length (n .values)) l (n .after) in
+    let r : take (length mid - a .value) (drop (a .value) mid) ≡ drop (length (n .values)) words = part-to-end mid (a .value) ∙ F .1 in
+    let C : ReadList m b (drop (length (n .values)) words) part = rw (r, length-drop (length (n .values)) words, A .place) at B in
     record {
       count = A .count;
       total = omega (arith, A .count, C .count, length-append (n .values) (m .values));
       place = C .place;
-      memory = ap₂ (λ (x y : List ℕ). x ++ y) (F .0) (past-end mid part (a .value) ∙ C .words) ∙ both-words (n .values) (m .values) mem;
+      lent = ap₂ (λ (x y : List ℕ). x ++ y) (F .0) (past-end mid part (a .value) ∙ C .words) ∙ both-words (n .values) (m .values) words;
     }
 
-pub question-read : (l mem mem' : List ℕ) (start : Place) (word : Read) (lists : ListsRead) (o : Options) (end : Place) (out : ℕ) (form : Form)
-    → start ≡ startOf l → word ≡ wordAfter l start → ReadLists (listsAfter (word .value) (length mem) l (word .after)) lists mem mem' → o ≡ optionsAfter l (lists .after)
+pub question-read : (l words words' : List ℕ) (start : Place) (word : Read) (lists : ListsRead) (o : Options) (end : Place) (out : ℕ) (form : Form)
+    → start ≡ startOf l → word ≡ wordAfter l start → ReadLists (listsAfter (word .value) (length words) l (word .after)) lists words words' → o ≡ optionsAfter l (lists .after)
     → end ≡ endAfter l (o .after) → out ≡ valueOr 65536 (getD (o .values) 1 0) → form ≡ formOf (getD (o .values) 3 0)
-    → ReadQuestion (questionOf (length mem) l) (record { kind = word .value; first = lists .first; both = lists .both; out = out; form = form; after = end }) mem mem'
+    → ReadQuestion (questionOf (length words) l) (record { kind = word .value; first = lists .first; both = lists .both; out = out; form = form; after = end }) words words'
 unfolding questionOf
-question-read l mem mem' start word lists o end out form es ew R eo ee e g =
-    rw (← es, ← ew) (record { read = rw (g, e, ee, eo, R .place, R .count, R .total); memory = R .memory })
+question-read l words words' start word lists o end out form es ew R eo ee e g =
+    rw (← es, ← ew) (record { read = rw (g, e, ee, eo, R .place, R .count, R .total); lent = R .lent })
 
--- ---- the lists of a question, in the memory
+-- ---- the lists of a question, in the words that are lent
 
-module _ (q : Question) (r : ListRead) (mem mem' : List ℕ) (R : ReadQuestion q r mem mem') where
+module _ (q : Question) (r : ListRead) (words words' : List ℕ) (R : ReadQuestion q r words words') where
   first-is : r .first ≡ length (q .first)
   first-is = ap (λ (a : ListRead). a .first) (R .read)
 
   both-is : r .both ≡ length (q .first ++ q .second)
   both-is = ap (λ (a : ListRead). a .both) (R .read)
 
-  pub lists-fit : r .both ≤ length mem'
-  unfolding memoryWith
-  lists-fit = rw (both-is, R .memory, length-append (q .first ++ q .second) _) (omega arith)
+  pub lists-fit : r .both ≤ length words'
+  lists-fit = words-fit (q .first ++ q .second) words words' (r .both) both-is (R .lent)
 
-  lists-there : take (r .both) mem' ≡ q .first ++ q .second
-  unfolding memoryWith
-  lists-there = rw (both-is, R .memory) (take-append-seam (q .first ++ q .second) _)
+  lists-there : take (r .both) words' ≡ q .first ++ q .second
+  unfolding wordsWith
+  lists-there = rw (both-is, R .lent) (take-append-seam (q .first ++ q .second) _)
 
-  pub first-fits : r .first ≤ length (take (r .both) mem')
+  pub first-fits : r .first ≤ length (take (r .both) words')
   first-fits = rw (lists-there, first-is, length-append (q .first) (q .second)) (omega arith)
 
-  first-there : take (r .first) (take (r .both) mem') ≡ q .first
+  first-there : take (r .first) (take (r .both) words') ≡ q .first
   first-there = rw (lists-there, first-is) (take-append-seam (q .first) (q .second))
 
-  second-there : drop (r .first) (take (r .both) mem') ≡ q .second
+  second-there : drop (r .first) (take (r .both) words') ≡ q .second
   second-there = rw (lists-there, first-is) (drop-append-seam (q .first) (q .second))
 
 -- ---- what is asked for, within a part of the output
@@ -230,40 +230,40 @@ of-question : (q : Question) (r : Answer) (out out' : List ℕ) (kind : ℕ) (a 
     → AnsweredIn kind a b asked r out out' → AnsweredIn (q .kind) (q .first) (q .second) (q .out) r out out'
 of-question q r out out' kind a b asked ek ea eb eo = rw (ek, ea, eb, eo) (λ A. A)
 
-module _ (number : ℕ) (q : Question) (asked : ListRead) (mem mem' out page : List ℕ) (r : ℕ) (page' : List ℕ) (room : 17 * length out + 256 ≤ length page) (R : ReadQuestion q asked mem mem') where
+module _ (number : ℕ) (q : Question) (asked : ListRead) (words words' out page : List ℕ) (r : ℕ) (page' : List ℕ) (room : 17 * length out + 256 ≤ length page) (R : ReadQuestion q asked words words') where
   place-is : (p : Place) → asked .after ≡ p → q .after ≡ p
   place-is p e = sym (ap (λ (a : ListRead). a .after) (R .read)) ∙ e
 
-  pub list-bad : (f : Fault) → asked .after ≡ Place.Bad f → Wrote 0 (errorText number f) page r page' → ListReplied number q mem mem' out out page r page'
+  pub list-bad : (f : Fault) → asked .after ≡ Place.Bad f → Wrote 0 (errorText number f) page r page' → ListReplied number q words words' out out page r page'
   list-bad f e w =
       let p : q .after ≡ Place.Bad f = place-is (Place.Bad f) e in
       record {
         wrote = rw (text-bad number q out (q .after) f p) (wrote-whole (omega (arith, error-length number f)) w);
-        memory = R .memory;
+        lent = R .lent;
         output = rw (output-bad number q out (q .after) f p);
       }
 
   pub list-asked : (end : ℕ) (a : Answer) (out' : List ℕ) → asked .after ≡ Place.At end
-      → AnsweredIn (asked .kind) (take (asked .first) (take (asked .both) mem')) (drop (asked .first) (take (asked .both) mem')) (asked .out) a out out' → Wrote 0 (answerText (asked .form) a out') page r page'
-      → ListReplied number q mem mem' out out' page r page'
+      → AnsweredIn (asked .kind) (take (asked .first) (take (asked .both) words')) (drop (asked .first) (take (asked .both) words')) (asked .out) a out out' → Wrote 0 (answerText (asked .form) a out') page r page'
+      → ListReplied number q words words' out out' page r page'
   list-asked end a out' e B w =
       let p : q .after ≡ Place.At end = place-is (Place.At end) e in
       let A : AnsweredIn (q .kind) (q .first) (q .second) (q .out) a out out' =
-      of-question q a out out' _ _ _ _ (ap (λ (a : ListRead). a .kind) (R .read)) (first-there q asked mem mem' R) (second-there q asked mem mem' R) (ap (λ (a : ListRead). a .out) (R .read)) B in
+      of-question q a out out' _ _ _ _ (ap (λ (a : ListRead). a .kind) (R .read)) (first-there q asked words words' R) (second-there q asked words words' R) (ap (λ (a : ListRead). a .out) (R .read)) B in
       let t : answerText (asked .form) a out' ≡ resultText (q .form) (resultOf q out) = rw (ap (λ (a : ListRead). a .form) (R .read), A .answer, A .output) (answer-text (q .form) (resultOf q out) _ _) in
       record {
         wrote = rw (text-asked number q out (q .after) end p) (wrote-whole (omega (arith, question-short q out)) (rw t at w));
-        memory = R .memory;
+        lent = R .lent;
         output = rw (output-asked number q out (q .after) end p) (A .output);
       }
 
 -- ---- a line
 
-module _ (number : ℕ) (line mem mem' out out' page : List ℕ) (r : ℕ) (page' : List ℕ) where
-  pub replied-list : asksList line ≡ true → ListReplied number (questionOf (length mem) line) mem mem' out out' page r page' → Replied number line mem mem' out out' page r page'
-  unfolding textOf memoryOf outputOf
-  replied-list e T = record { wrote = rw (textOf, e) (T .wrote); memory = rw (memoryOf, e) (T .memory); output = rw (outputOf, e) (T .output) }
+module _ (number : ℕ) (line words words' mem out out' page : List ℕ) (r : ℕ) (page' : List ℕ) where
+  pub replied-list : asksList line ≡ true → ListReplied number (questionOf (length words) line) words words' out out' page r page' → Replied number line words words' mem mem out out' page r page'
+  unfolding textOf lentOf memoryOf outputOf
+  replied-list e T = record { wrote = rw (textOf, e) (T .wrote); lent = rw (lentOf, e) (T .lent); memory = rw (memoryOf, e); output = rw (outputOf, e) (T .output) }
 
-  pub replied-other : asksList line ≡ false → Requests.Replied number line mem mem' out out' page r page' → Replied number line mem mem' out out' page r page'
-  unfolding textOf memoryOf outputOf
-  replied-other e T = record { wrote = rw (textOf, e) (T .wrote); memory = rw (memoryOf, e) (T .memory); output = rw (outputOf, e) (T .output) }
+  pub replied-other : (mem' : List ℕ) → asksList line ≡ false → Requests.Replied number line words words' mem mem' out out' page r page' → Replied number line words words' mem mem' out out' page r page'
+  unfolding textOf lentOf memoryOf outputOf
+  replied-other mem' e T = record { wrote = rw (textOf, e) (T .wrote); lent = rw (lentOf, e) (T .lent); memory = rw (memoryOf, e) (T .memory); output = rw (outputOf, e) (T .output) }

@@ -5,7 +5,7 @@ use mathlib.Core.Bool.{Bool, true, false}
 use mathlib.Core.List.{List, [], _∷_, _++_}
 use Prim.Native.Nat.{ℕ, _-_, min}
 use lib.Dec.{ltb, eqb}
-use lib.ListN.{length, getD, take, drop}
+use lib.ListN.{length, getD, take}
 use Rattle.text.specs.Ascii.{ascii}
 use Rattle.text.specs.declared.Fault.{Fault}
 use Rattle.text.specs.declared.Place.{Place}
@@ -13,8 +13,8 @@ use Rattle.text.specs.declared.Read.{Read}
 use Rattle.text.specs.Text.{Numbers, choiceAfter, listAfter, endAfter, startOf}
 use Rattle.tokens.specs.declared.Form.{Form}
 use Rattle.replies.specs.Write.{Whole, refusedText, listText, errorText}
-use Rattle.requests.specs.Line.{valueOr, formOf, optionsAfter}
-use Rattle.requests.specs.Requests.{onFirst, askedText, askedMemory, askedOutput}
+use Rattle.requests.specs.Line.{wordsWith, valueOr, formOf, optionsAfter}
+use Rattle.requests.specs.Requests.{onFirst, askedText, askedWords, askedMemory, askedOutput}
 use Rattle.ranges.specs.declared.Answer.{Answer}
 use Rattle.ranges.specs.Ranges.{Result, pairsResult, cellsResult, listAnswer, outputAfter}
 use Rattle.ranges.specs.Ranges as Ranges
@@ -26,12 +26,12 @@ use Rattle.lines.specs.declared.ListsRead.{ListsRead}
 -- ---- a question about lists
 
 -- the words that ask one: two about one list, three about two
-abbrev pub words : List ℕ
-words = ascii "ranges cells union common difference"
+abbrev pub questions : List ℕ
+questions = ascii "ranges cells union common difference"
 
 -- which of them the next field is, counted from 0
 unfoldable pub wordAfter : List ℕ → Place → Read
-wordAfter l p = choiceAfter words 5 Fault.UnknownKind l p
+wordAfter l p = choiceAfter questions 5 Fault.UnknownKind l p
 
 unfoldable pub isAt : Place → Bool
 isAt (Place.At at) = true
@@ -110,63 +110,60 @@ unfoldable pub resultText : Form → Result → List ℕ
 resultText form (Ranges.refused n) = refusedText n
 resultText form (Ranges.done l) = listText form l
 
--- ---- a question of some number: its answer's text, the working memory, in which its lists were read, and the output afterwards
+-- ---- a question of some number: its answer's text, and the output afterwards
 
 unfoldable pub textAt : Place → ℕ → Question → List ℕ → List ℕ
 textAt (Place.At end) number q out = resultText (q .form) (resultOf q out)
 textAt (Place.Bad f) number q out = errorText number f
 
--- a list or two stand in the first words
-unfoldable pub memoryWith : List ℕ → List ℕ → List ℕ → List ℕ
-memoryWith a b mem = (a ++ b) ++ drop (length (a ++ b)) mem
-
 unfoldable pub outputAt : Place → Question → List ℕ → List ℕ
 outputAt (Place.At end) q out = onFirst (q .out) (outputAfter (resultOf q out)) out
 outputAt (Place.Bad f) q out = out
 
--- ---- any line: its lists have at most as many words as the memory
+-- ---- any line: its answer's text, and the words that are lent, the working memory and the output afterwards; its lists have at most as many words as are lent
 
-unfoldable pub textOf : ℕ → List ℕ → List ℕ → List ℕ → List ℕ
-textOf number line mem out = elim (asksList line) [
-  | true ↦ textAt (questionOf (length mem) line .after) number (questionOf (length mem) line) out
-  | false ↦ askedText number line mem out
-]
+unfoldable pub textOf : ℕ → List ℕ → List ℕ → List ℕ → List ℕ → List ℕ
+textOf number line words mem out =
+    let q = questionOf (length words) line in
+    elim (asksList line) [ true ↦ textAt (q .after) number q out | false ↦ askedText number line words mem out ]
 
-unfoldable pub memoryOf : List ℕ → List ℕ → List ℕ → List ℕ
-memoryOf line mem out = elim (asksList line) [
-  | true ↦ memoryWith (questionOf (length mem) line .first) (questionOf (length mem) line .second) mem
-  | false ↦ askedMemory line mem out
-]
+unfoldable pub lentOf : List ℕ → List ℕ → List ℕ
+lentOf line words =
+    let q = questionOf (length words) line in
+    elim (asksList line) [ true ↦ wordsWith (q .first ++ q .second) words | false ↦ askedWords line words ]
 
-unfoldable pub outputOf : List ℕ → List ℕ → List ℕ → List ℕ
-outputOf line mem out = elim (asksList line) [
-  | true ↦ outputAt (questionOf (length mem) line .after) (questionOf (length mem) line) out
-  | false ↦ askedOutput line mem out
-]
+unfoldable pub memoryOf : List ℕ → List ℕ → List ℕ → List ℕ → List ℕ
+memoryOf line words mem out = elim (asksList line) [ true ↦ mem | false ↦ askedMemory line words mem out ]
+
+unfoldable pub outputOf : List ℕ → List ℕ → List ℕ → List ℕ → List ℕ
+outputOf line words mem out =
+    let q = questionOf (length words) line in
+    elim (asksList line) [ true ↦ outputAt (q .after) q out | false ↦ askedOutput line words mem out ]
 
 -- what is ensured of a line: its answer is written whole
-pub record Replied (number : ℕ) (line mem mem' out out' page : List ℕ) (r : ℕ) (page' : List ℕ) : Type 0 where
-  pub wrote : Whole (textOf number line mem out) page r page'
-  pub memory : mem' ≡ memoryOf line mem out
-  pub output : out' ≡ outputOf line mem out
+pub record Replied (number : ℕ) (line words words' mem mem' out out' page : List ℕ) (r : ℕ) (page' : List ℕ) : Type 0 where
+  pub wrote : Whole (textOf number line words mem out) page r page'
+  pub lent : words' ≡ lentOf line words
+  pub memory : mem' ≡ memoryOf line words mem out
+  pub output : out' ≡ outputOf line words mem out
 
 -- ---- for the functions that make up an answer
 
--- the lists were read into the memory: how many words the first has, and both
-pub record ReadLists (n : Lists) (r : ListsRead) (mem mem' : List ℕ) : Type 0 where
+-- the lists were read into the words that are lent: how many the first has, and both
+pub record ReadLists (n : Lists) (r : ListsRead) (words words' : List ℕ) : Type 0 where
   pub count : r .first ≡ length (n .first)
   pub total : r .both ≡ length (n .first ++ n .second)
   pub place : r .after ≡ n .after
-  pub memory : mem' ≡ memoryWith (n .first) (n .second) mem
+  pub lent : words' ≡ wordsWith (n .first ++ n .second) words
 
 -- a question, its lists aside
 abbrev pub readOf : Question → ListRead
 readOf q = record { kind = q .kind; first = length (q .first); both = length (q .first ++ q .second); out = q .out; form = q .form; after = q .after }
 
--- it was read, its lists into the memory
-pub record ReadQuestion (q : Question) (r : ListRead) (mem mem' : List ℕ) : Type 0 where
+-- it was read, its lists into the words that are lent
+pub record ReadQuestion (q : Question) (r : ListRead) (words words' : List ℕ) : Type 0 where
   pub read : r ≡ readOf q
-  pub memory : mem' ≡ memoryWith (q .first) (q .second) mem
+  pub lent : words' ≡ wordsWith (q .first ++ q .second) words
 
 pub record AnsweredIn (kind : ℕ) (a b : List ℕ) (asked : ℕ) (r : Answer) (out out' : List ℕ) : Type 0 where
   pub answer : r ≡ listAnswer (resultIn kind a b asked out)
@@ -178,7 +175,7 @@ answerText form (Answer.Done count) out = listText form (take count out)
 answerText form (Answer.Refused n) out = refusedText n
 
 -- a question of some number was answered
-pub record ListReplied (number : ℕ) (q : Question) (mem mem' out out' page : List ℕ) (r : ℕ) (page' : List ℕ) : Type 0 where
+pub record ListReplied (number : ℕ) (q : Question) (words words' out out' page : List ℕ) (r : ℕ) (page' : List ℕ) : Type 0 where
   pub wrote : Whole (textAt (q .after) number q out) page r page'
-  pub memory : mem' ≡ memoryWith (q .first) (q .second) mem
+  pub lent : words' ≡ wordsWith (q .first ++ q .second) words
   pub output : out' ≡ outputAt (q .after) q out

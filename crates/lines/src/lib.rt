@@ -14,15 +14,15 @@ use text::Place;
 use text::Read;
 use tokens::Form;
 
-// Lists in the memory's first words: how many words the first has, how many both have; and the place after them.
+// Lists in the first of the words that are lent: how many the first has, how many both have; and the place after them.
 struct ListsRead {
     first: usize,
     both: usize,
     after: Place,
 }
 
-// What is asked about the lists in the memory's first words: the number of the word; how many words the first list has, how many both have; how many places
-// of output may be filled; how ids are to be written; and the line's end, or what is wrong with the line.
+// What is asked about the lists in the first of the words that are lent: the number of the word that asks; how many the first list has, how many both have; how
+// many places of output may be filled; how ids are to be written; and the line's end, or what is wrong with the line.
 struct ListRead {
     kind: u64,
     first: usize,
@@ -57,24 +57,24 @@ fn asks_list(line: &[u8]) -> bool
     }
 }
 
-// The second list, into the memory; none where the word asks about one.
-fn read_second(line: &[u8], p: Place, kind: u64, mem: &mut [u64]) -> Read
-    ensures { λ r. ⌜ ReadList (secondAfter kind (length (now (mem .entry))) (now (line .entry)) p) r (now (mem .entry)) (now (mem .exit)) ⌝ }
+// The second list, into the words that are lent; none where one alone is asked about.
+fn read_second(line: &[u8], p: Place, kind: u64, words: &mut [u64]) -> Read
+    ensures { λ r. ⌜ ReadList (secondAfter kind (length (now (words .entry))) (now (line .entry)) p) r (now (words .entry)) (now (words .exit)) ⌝ }
 {
     if kind < 2 {
         return Read { value: 0, after: p };
     }
-    text::read_list(line, p, mem)
+    text::read_list(line, p, words)
 }
 
-// The lists, one behind the other into the memory.
-fn read_lists(line: &[u8], p: Place, kind: u64, mem: &mut [u64]) -> ListsRead
-    ensures { λ r. ⌜ ReadLists (listsAfter kind (length (now (mem .entry))) (now (line .entry)) p) r (now (mem .entry)) (now (mem .exit)) ⌝ }
+// The lists, one behind the other into the words that are lent.
+fn read_lists(line: &[u8], p: Place, kind: u64, words: &mut [u64]) -> ListsRead
+    ensures { λ r. ⌜ ReadLists (listsAfter kind (length (now (words .entry))) (now (line .entry)) p) r (now (words .entry)) (now (words .exit)) ⌝ }
 {
-    let a = text::read_list(line, p, mem);
+    let a = text::read_list(line, p, words);
     let first = a.value as usize;
     let pa = a.after;
-    let b = read_second(line, pa, kind, &mut mem[first..]);
+    let b = read_second(line, pa, kind, &mut words[first..]);
     let after = b.after;
     ListsRead {
         first,
@@ -83,14 +83,14 @@ fn read_lists(line: &[u8], p: Place, kind: u64, mem: &mut [u64]) -> ListsRead
     }
 }
 
-// The question that a line is, its lists read into the memory.
-fn read_question(line: &[u8], mem: &mut [u64]) -> ListRead
-    ensures { λ r. ⌜ ReadQuestion (questionOf (length (now (mem .entry))) (now (line .entry))) r (now (mem .entry)) (now (mem .exit)) ⌝ }
+// The question that a line is, its lists read into the words that are lent.
+fn read_question(line: &[u8], words: &mut [u64]) -> ListRead
+    ensures { λ r. ⌜ ReadQuestion (questionOf (length (now (words .entry))) (now (line .entry))) r (now (words .entry)) (now (words .exit)) ⌝ }
 {
     let start = text::read_start(line);
     let word = read_word(line, start);
     let pw = word.after;
-    let lists = read_lists(line, pw, word.value, mem);
+    let lists = read_lists(line, pw, word.value, words);
     let pl = lists.after;
     let o = requests::read_options(line, pl);
     let po = o.after;
@@ -151,16 +151,22 @@ fn put_answer(form: Form, a: Answer, out: &[u64], page: &mut [u8]) -> usize
 }
 
 // The answer to a line that asks about lists.
-fn answer_list(line: &[u8], number: u64, mem: &mut [u64], out: &mut [u64], page: &mut [u8]) -> usize
+fn answer_list(
+    line: &[u8],
+    number: u64,
+    words: &mut [u64],
+    out: &mut [u64],
+    page: &mut [u8],
+) -> usize
     requires { ⌜ 17 * length (now out) + 256 ≤ length (now page) ⌝ }
-    ensures { λ r. ⌜ ListReplied number (questionOf (length (now (mem .entry))) (now (line .entry))) (now (mem .entry)) (now (mem .exit)) (now (out .entry)) (now (out .exit)) (now (page .entry)) r (now (page .exit)) ⌝ }
+    ensures { λ r. ⌜ ListReplied number (questionOf (length (now (words .entry))) (now (line .entry))) (now (words .entry)) (now (words .exit)) (now (out .entry)) (now (out .exit)) (now (page .entry)) r (now (page .exit)) ⌝ }
 {
-    let q = read_question(line, mem);
+    let q = read_question(line, words);
     let after = q.after;
     match after {
         Place::At(_) => {
             let both = q.both;
-            let a = answer_in(q.kind, &mem[..both], q.first, q.out, out);
+            let a = answer_in(q.kind, &words[..both], q.first, q.out, out);
             let form = q.form;
             put_answer(form, a, out, page)
         }
@@ -169,13 +175,20 @@ fn answer_list(line: &[u8], number: u64, mem: &mut [u64], out: &mut [u64], page:
 }
 
 // The answer to a line of that number, whole, from the first byte of the page on, and how long it is: nothing for a line that asks nothing. The page has
-// room for as many ids as the output has places.
-pub fn answer(line: &[u8], number: u64, mem: &mut [u64], out: &mut [u64], page: &mut [u8]) -> usize
+// room for as many ids as the output has places; lists are read into the words that are lent.
+pub fn answer(
+    line: &[u8],
+    number: u64,
+    words: &mut [u64],
+    mem: &mut [u64],
+    out: &mut [u64],
+    page: &mut [u8],
+) -> usize
     requires { ⌜ 17 * length (now out) + 256 ≤ length (now page) ⌝ }
-    ensures { λ r. ⌜ Replied number (now (line .entry)) (now (mem .entry)) (now (mem .exit)) (now (out .entry)) (now (out .exit)) (now (page .entry)) r (now (page .exit)) ⌝ }
+    ensures { λ r. ⌜ Replied number (now (line .entry)) (now (words .entry)) (now (words .exit)) (now (mem .entry)) (now (mem .exit)) (now (out .entry)) (now (out .exit)) (now (page .entry)) r (now (page .exit)) ⌝ }
 {
     if asks_list(line) {
-        return answer_list(line, number, mem, out, page);
+        return answer_list(line, number, words, out, page);
     }
-    requests::answer(line, number, mem, out, page)
+    requests::answer(line, number, words, mem, out, page)
 }

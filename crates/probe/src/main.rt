@@ -5,7 +5,7 @@ ghost use mathlib.Core.Bool.{true};
 ghost use Prim.Native.Nat.{_<_, _≤_};
 ghost use lib.ListN.{length};
 ghost use Rattle.cellid.specs.CellId as CellId;
-ghost use Rattle.region.specs.Region.{inDomain};
+ghost use Rattle.region.specs.Region.{areaOf, inDomain};
 ghost use Rattle.fast.specs.Memory.{NumbersFit, Cells};
 ghost use Rattle.input.specs.Feed.{Ready};
 use bars::Bar;
@@ -20,7 +20,6 @@ use libc::STDIN_FILENO;
 use point::Point;
 use region::Region;
 use requests::CovererRead;
-use requests::RegionRead;
 use run::MEMORY_WORDS;
 use run::RegionCoverer;
 use text::Base;
@@ -36,13 +35,13 @@ type Page = [u8; 1114368];
 const NOTHING: u64 = 0xffff_ffff_ffff_ffff;
 
 // The questions by their numbers: 0 to 3 are about numbers and have a hexadecimal answer, 4 to 6 a decimal one; 7 to 11 are about a cell and have a
-// decimal answer, 12 to 14 a hexadecimal one; the answer to the others is a list of cells.
+// decimal answer, 12 to 14 a hexadecimal one; the answer to 15 to 20 is a list of cells; 21 and 22 are about a region and a cell and have a decimal answer.
 fn read_question(line: &[u8], p: Place) -> Read {
     text::read_choice(
         line,
         p,
-        b"sqrt st_to_uv uv_to_st cellid_from_point valid level is_unit common_ancestor_level cell_contains_point cap_contains_cell cap_intersects_cell face_ij_orientation cell_cap_bound vertices edges vertex_neighbors bound starts normalize denormalize normalize_covering",
-        21,
+        b"sqrt st_to_uv uv_to_st cellid_from_point valid level is_unit common_ancestor_level cell_contains_point cap_contains_cell cap_intersects_cell face_ij_orientation cell_cap_bound vertices edges vertex_neighbors bound starts normalize denormalize normalize_covering region_contains_cell region_intersects_cell",
+        23,
         Fault::UnknownKind,
     )
 }
@@ -257,7 +256,7 @@ fn ask_numbers(k: u64, line: &[u8], p: Place, number: u64, page: &mut Page) -> u
     finish(page, number, end, n)
 }
 
-// ---- questions whose answer is a list
+// ---- the numbers of a request
 
 // `MIN MOD`.
 fn read_levels(line: &[u8], p: Place) -> CovererRead {
@@ -290,25 +289,94 @@ fn read_coverer(k: u64, line: &[u8], p: Place) -> CovererRead {
     }
 }
 
-// The region, a face where the question has none.
-fn read_region(k: u64, line: &[u8], p: Place) -> RegionRead {
-    match k {
-        16 => requests::read_region(line, p),
-        17 => requests::read_region(line, p),
-        _ => RegionRead {
-            region: Region::Cell(0x1000_0000_0000_0000),
+// ---- questions about a region
+
+fn words() -> [u64; 4096] {
+    [0; 4096]
+}
+
+// Words for a region's list: as many as it can have on the longest line.
+fn list_words() -> [u64; 16384] {
+    [0; 16384]
+}
+
+// The id of a cell, that of a face where the question has none.
+fn read_cell(k: u64, line: &[u8], p: Place) -> Read {
+    if k < 18 {
+        return Read {
+            value: 0x1000_0000_0000_0000,
             after: p,
-        },
+        };
+    }
+    text::read_number(line, p, Base::Sixteen, u64::MAX)
+}
+
+fn put_bound(g: Region, list: &[u64], page: &mut Page) -> usize
+    requires { ⌜ inDomain (areaOf g (now list)) ≡ true ⌝ }
+{
+    let mut mem = words();
+    let count = region::cell_union_bound(g, list, &mut mem);
+    put_list(page, &mem, count)
+}
+
+fn put_starts(c: RegionCoverer, g: Region, list: &[u64], page: &mut Page) -> usize
+    requires { ⌜ NumbersFit c × (inDomain (areaOf g (now list)) ≡ true) ⌝ }
+{
+    let mut mem = words();
+    let s = fast::starts(c, g, list, &mut mem);
+    let ids = s.ids;
+    put_list(page, &ids, s.count)
+}
+
+fn put_region(k: u64, c: RegionCoverer, g: Region, list: &[u64], id: u64, page: &mut Page) -> usize
+    requires { ⌜ NumbersFit c × (inDomain (areaOf g (now list)) ≡ true) × CellId.Cell id ⌝ }
+{
+    match k {
+        16 => put_bound(g, list, page),
+        17 => put_starts(c, g, list, page),
+        21 => replies::put_decimal(page, 0, region::contains_cell(g, list, id) as u64),
+        _ => replies::put_decimal(page, 0, region::intersects_cell(g, list, id) as u64),
     }
 }
 
-// The list of ids, an empty one where the question has none.
-fn read_ids(k: u64, line: &[u8], p: Place, ids: &mut [u64; 4096]) -> Read {
-    if k < 18 {
-        return Read { value: 0, after: p };
+// Writes the answer, and tells how long it is: 0 outside the domain.
+fn answer_region(
+    k: u64,
+    c: RegionCoverer,
+    g: Region,
+    list: &[u64],
+    last: u64,
+    page: &mut Page,
+) -> usize {
+    let id = cell_id(last);
+    let first = bars::first_refusal(c, g, list, MEMORY_WORDS);
+    match first {
+        Bar::Open => {
+            if id == last {
+                return put_region(k, c, g, list, id, page);
+            }
+            0
+        }
+        Bar::Barred(_) => 0,
     }
-    text::read_list(line, p, ids)
 }
+
+fn ask_region(k: u64, line: &[u8], p: Place, number: u64, page: &mut Page) -> usize {
+    let c = read_coverer(k, line, p);
+    let pc = c.after;
+    let mut list = list_words();
+    let g = requests::read_region(line, pc, &mut list);
+    let pg = g.after;
+    let id = read_cell(k, line, pg);
+    let pi = id.after;
+    let end = text::read_end(line, pi);
+    let coverer = c.coverer;
+    let region = g.region;
+    let n = answer_region(k, coverer, region, &list[..g.count], id.value, page);
+    finish(page, number, end, n)
+}
+
+// ---- questions about a list
 
 // How many of the first n words, from the front, are ids of cells.
 fn cells_in_front(ids: &[u64], n: usize) -> usize
@@ -326,22 +394,6 @@ fn cells_in_front(ids: &[u64], n: usize) -> usize
         }
     }
     i
-}
-
-fn put_bound(g: Region, page: &mut Page) -> usize
-    requires { ⌜ inDomain g ≡ true ⌝ }
-{
-    let b = region::cell_union_bound(g);
-    let ids = b.ids;
-    put_list(page, &ids, b.count)
-}
-
-fn put_starts(c: RegionCoverer, g: Region, page: &mut Page) -> usize
-    requires { ⌜ NumbersFit c × (inDomain g ≡ true) ⌝ }
-{
-    let s = fast::starts(c, g);
-    let ids = s.ids;
-    put_list(page, &ids, s.count)
 }
 
 fn put_normal(ids: &mut [u64; 4096], n: usize, page: &mut Page) -> usize
@@ -377,48 +429,34 @@ fn put_covering(k: u64, c: RegionCoverer, ids: &mut [u64; 4096], n: usize, page:
     put_laid(page, laid, &out)
 }
 
-fn put_answer(
-    k: u64,
-    c: RegionCoverer,
-    g: Region,
-    ids: &mut [u64; 4096],
-    n: usize,
-    page: &mut Page,
-) -> usize
-    requires { ⌜ NumbersFit c × (inDomain g ≡ true) × Cells n (now ids) ⌝ }
+fn put_answer(k: u64, c: RegionCoverer, ids: &mut [u64; 4096], n: usize, page: &mut Page) -> usize
+    requires { ⌜ NumbersFit c × Cells n (now ids) ⌝ }
 {
     match k {
-        16 => put_bound(g, page),
-        17 => put_starts(c, g, page),
         18 => put_normal(ids, n, page),
         _ => put_covering(k, c, ids, n, page),
     }
 }
 
-// Writes the answer, and tells how long it is: 0 outside the domain, and where the list is too long.
+// Writes the answer, and tells how long it is: 0 outside the domain, and where the list is too long. A face as the region has the numbers alone tested.
 fn answer_list(
     k: u64,
     c: RegionCoverer,
-    g: Region,
     ids: &mut [u64; 4096],
     n: usize,
     page: &mut Page,
 ) -> usize {
     let m = cells_in_front(ids, n);
-    let first = bars::first_refusal(c, g, MEMORY_WORDS);
+    let first = bars::first_refusal(c, Region::Cell(0x1000_0000_0000_0000), ids, MEMORY_WORDS);
     match first {
         Bar::Open => {
             if m == n {
-                return put_answer(k, c, g, ids, m, page);
+                return put_answer(k, c, ids, m, page);
             }
             0
         }
         Bar::Barred(_) => 0,
     }
-}
-
-fn words() -> [u64; 4096] {
-    [0; 4096]
 }
 
 fn places() -> [u64; 65536] {
@@ -428,15 +466,12 @@ fn places() -> [u64; 65536] {
 fn ask_list(k: u64, line: &[u8], p: Place, number: u64, page: &mut Page) -> usize {
     let c = read_coverer(k, line, p);
     let pc = c.after;
-    let g = read_region(k, line, pc);
-    let pg = g.after;
     let mut ids = words();
-    let list = read_ids(k, line, pg, &mut ids);
+    let list = text::read_list(line, pc, &mut ids);
     let pl = list.after;
     let end = text::read_end(line, pl);
     let coverer = c.coverer;
-    let region = g.region;
-    let n = answer_list(k, coverer, region, &mut ids, list.value as usize, page);
+    let n = answer_list(k, coverer, &mut ids, list.value as usize, page);
     finish(page, number, end, n)
 }
 
@@ -452,6 +487,9 @@ fn answer_line(line: &[u8], number: u64, page: &mut Page) -> usize {
     let p = asked.after;
     if k < 16 {
         return ask_numbers(k, line, p, number, page);
+    }
+    if k < 18 || 20 < k {
+        return ask_region(k, line, p, number, page);
     }
     ask_list(k, line, p, number, page)
 }

@@ -8,8 +8,7 @@ use lib.ListN.{length, take}
 use Rattle.cellid.specs.CellId.{levelOf}
 use Rattle.order.specs.Order.{All}
 use Rattle.cellunion.specs.CellUnion.{covers, Apart, SameLeaves, OnStep}
-use Rattle.region.specs.declared.Region.{Region}
-use Rattle.region.specs.Region.{boundOf}
+use Rattle.region.specs.Region.{Area, boundOf}
 use Rattle.region.proofs.Laws.{bound-cells}
 use Rattle.run.specs.declared.RegionCoverer.{RegionCoverer}
 use Rattle.fast.specs.Memory.{startsFor, fastCoveringFor}
@@ -23,10 +22,12 @@ use Rattle.covering.specs.declared.Ending.{Ending}
 use Rattle.covering.specs.declared.Kind.{Kind}
 use Rattle.covering.specs.Covering.{listOf, askedOf, ranOf, resultOf, Answered}
 use Rattle.bars.proofs.Early.{Valid}
-use Rattle.covering.proofs.Starts.{starts-fit, run-domain}
+use Rattle.fast.proofs.StartLaws.{starts-laws}
+use Rattle.covering.proofs.Starts.{starts-fit, run-domain, ran-cells}
 use Rattle.covering.proofs.Table.{RunFinished, Finished, answered-done}
 use Rattle.promises.specs.Promises.{OnLevels, Outer, Inner}
 use Rattle.promises.specs.Answers.{OuterDone, InnerDone, FastDone, Promised}
+use Rattle.promises.proofs.Lists.{list-covered, list-within}
 use Rattle.promises.proofs.Runs.{raw-same, normal-same, final-same, final-on, outer-keeps, inner-keeps}
 
 -- 1, 2 and 3 divide 30
@@ -39,24 +40,24 @@ divides (suc (suc (suc (suc m)))) h k = absurd (omega arith)
 
 -- ---- a run that ended, whichever list is asked for
 
-module _ (inner : Bool) (c : RegionCoverer) (g : Region) (allowance memory : ℕ) (v : Valid c g memory) where
-  fit : All (Fit (askedOf c inner)) (startsFor c (boundOf g))
-  fit = starts-fit c g (v .«mod» .0) (v .region) inner
+module _ (inner : Bool) (c : RegionCoverer) (a : Area) (allowance memory : ℕ) (v : Valid c a memory) where
+  fit : All (Fit (askedOf c inner)) (startsFor c (boundOf a))
+  fit = starts-fit c a (v .«mod» .0) (v .region) inner
 
-  module _ (s : State) (ran : ranOf inner c g allowance ≡ going s) where
-    run-is : run (courseOf (askedOf c inner) g) (startsFor c (boundOf g)) allowance ≡ going s
+  module _ (s : State) (ran : ranOf inner c a allowance ≡ going s) where
+    run-is : run (courseOf (askedOf c inner) a) (startsFor c (boundOf a)) allowance ≡ going s
     unfolding ranOf outcomeOf
     run-is = ran
 
     same-list : (e : Ending) → SameLeaves (listOf e c (rawIds s)) (rawIds s)
     unfolding listOf
-    same-list Ending.Raw = raw-same _ (run-domain c g memory v inner) _ (startsFor c (boundOf g)) fit allowance s run-is
-    same-list Ending.CellUnion = normal-same _ (run-domain c g memory v inner) _ (startsFor c (boundOf g)) fit allowance s run-is
-    same-list Ending.Covering = final-same _ (run-domain c g memory v inner) _ (startsFor c (boundOf g)) fit allowance s run-is
+    same-list Ending.Raw = raw-same _ (run-domain c a memory v inner) _ (startsFor c (boundOf a)) fit allowance s run-is
+    same-list Ending.CellUnion = normal-same _ (run-domain c a memory v inner) _ (startsFor c (boundOf a)) fit allowance s run-is
+    same-list Ending.Covering = final-same _ (run-domain c a memory v inner) _ (startsFor c (boundOf a)) fit allowance s run-is
 
     final-list : OnLevels (askedOf c inner) (listOf Ending.Covering c (rawIds s))
     unfolding listOf
-    final-list = final-on _ (run-domain c g memory v inner) _ (startsFor c (boundOf g)) fit allowance s run-is (divides (c .«level_mod») (v .«mod» .0) (v .«mod» .1))
+    final-list = final-on _ (run-domain c a memory v inner) _ (startsFor c (boundOf a)) fit allowance s run-is (divides (c .«level_mod») (v .«mod» .0) (v .«mod» .1))
 
     module _ (e : Ending) (l : List ℕ) (is : l ≡ listOf e c (rawIds s)) where
       words-same : SameLeaves l (rawIds s)
@@ -65,22 +66,22 @@ module _ (inner : Bool) (c : RegionCoverer) (g : Region) (allowance memory : ℕ
       words-levels : e ≡ Ending.Covering → OnLevels (askedOf c inner) l
       words-levels f = subst (OnLevels (askedOf c inner)) (sym (is ∙ ap (λ (x : Ending). listOf x c (rawIds s)) f)) final-list
 
-      outer-list : inner ≡ false → Outer (courseOf (askedOf c inner) g) (startsFor c (boundOf g)) s l
-      outer-list o = outer-keeps _ (run-domain c g memory v inner) _ (startsFor c (boundOf g)) fit allowance s run-is l words-same o
+      outer-list : inner ≡ false → Outer (courseOf (askedOf c inner) a) (startsFor c (boundOf a)) s l
+      outer-list o = outer-keeps _ (run-domain c a memory v inner) _ (startsFor c (boundOf a)) fit allowance s run-is l words-same o
 
-      inner-list : inner ≡ true → Inner (courseOf (askedOf c inner) g) (startsFor c (boundOf g)) s l
-      inner-list i = inner-keeps _ (run-domain c g memory v inner) _ (startsFor c (boundOf g)) fit allowance s run-is l words-same i
+      inner-list : inner ≡ true → Inner (courseOf (askedOf c inner) a) (startsFor c (boundOf a)) s l
+      inner-list i = inner-keeps _ (run-domain c a memory v inner) _ (startsFor c (boundOf a)) fit allowance s run-is l words-same i
 
     none-aside : inner ≡ true → asideTotal s ≡ 0
     unfolding asideTotal sumOf
     none-aside i =
-        let E = run-ends _ _ (startsFor c (boundOf g)) allowance s run-is in
-        ap (sumOf _) (inner-aside _ _ i (startsFor c (boundOf g)) (s .steps) s (E .last))
+        let E = run-ends _ _ (startsFor c (boundOf a)) allowance s run-is in
+        ap (sumOf _) (inner-aside _ _ i (startsFor c (boundOf a)) (s .steps) s (E .last))
 
 -- ---- a success of each kind
 
-module _ (c : RegionCoverer) (g : Region) (allowance memory : ℕ) (v : Valid c g memory) (r : Answer) (out : List ℕ) (counted : r .count ≡ length (take (r .count) out)) where
-  outer-done : (e : Ending) → RunFinished e false c g allowance (take (r .count) out) (r .steps) (r .aside) → OuterDone e c g allowance r out
+module _ (c : RegionCoverer) (a : Area) (allowance memory : ℕ) (v : Valid c a memory) (r : Answer) (out : List ℕ) (counted : r .count ≡ length (take (r .count) out)) where
+  outer-done : (e : Ending) → RunFinished e false c a allowance (take (r .count) out) (r .steps) (r .aside) → OuterDone e c a allowance r out
   outer-done e F = record {
     state = F .state;
     ran = F .ran;
@@ -88,37 +89,41 @@ module _ (c : RegionCoverer) (g : Region) (allowance memory : ℕ) (v : Valid c 
     total = F .total;
     counted = counted;
     list = F .list;
-    keeps = outer-list false c g allowance memory v (F .state) (F .ran) e _ (F .list) refl;
-    levels = words-levels false c g allowance memory v (F .state) (F .ran) e _ (F .list);
+    keeps = outer-list false c a allowance memory v (F .state) (F .ran) e _ (F .list) refl;
+    levels = words-levels false c a allowance memory v (F .state) (F .ran) e _ (F .list);
+    covered = λ ids i. list-covered (askedOf c false) a ids i (v .region) _ _ _ (v .deep) (starts-laws _ _ _ _ (boundOf a) (v .«mod» .0) (bound-cells a (v .region)) .leaves)
+        (outer-list false c a allowance memory v (F .state) (F .ran) e _ (F .list) refl);
   }
 
-  inner-done : (e : Ending) → RunFinished e true c g allowance (take (r .count) out) (r .steps) (r .aside) → InnerDone e c g allowance r out
+  inner-done : (e : Ending) → RunFinished e true c a allowance (take (r .count) out) (r .steps) (r .aside) → InnerDone e c a allowance r out
   inner-done e F = record {
     state = F .state;
     ran = F .ran;
     taken = F .taken;
-    total = F .total ∙ none-aside true c g allowance memory v (F .state) (F .ran) refl;
+    total = F .total ∙ none-aside true c a allowance memory v (F .state) (F .ran) refl;
     counted = counted;
     list = F .list;
-    keeps = inner-list true c g allowance memory v (F .state) (F .ran) e _ (F .list) refl;
-    levels = words-levels true c g allowance memory v (F .state) (F .ran) e _ (F .list);
+    keeps = inner-list true c a allowance memory v (F .state) (F .ran) e _ (F .list) refl;
+    levels = words-levels true c a allowance memory v (F .state) (F .ran) e _ (F .list);
+    within = λ ids i. list-within (askedOf c true) a ids i (v .region) _ _ _ (ran-cells c a memory v true allowance (F .state) (F .ran))
+        (inner-list true c a allowance memory v (F .state) (F .ran) e _ (F .list) refl);
   }
 
-  fast-done : take (r .count) out ≡ fastCoveringFor c (boundOf g) → r .steps ≡ 0 → r .aside ≡ 0 → FastDone c g r out
-  fast-done w t a =
-      let C = bound-cells g (v .region) in
+  fast-done : take (r .count) out ≡ fastCoveringFor c (boundOf a) → r .steps ≡ 0 → r .aside ≡ 0 → FastDone c a r out
+  fast-done w t z =
+      let C = bound-cells a (v .region) in
       record {
         taken = t;
-        total = a;
+        total = z;
         counted = counted;
         list = w;
-        missing = λ n h. subst (λ (l : List ℕ). covers l n ≡ true) (sym w) (fast-leaves (c .«min_level») (c .«max_level») (c .«level_mod») (c .«max_cells») (boundOf g) (v .order) C n h);
-        apart = subst Apart (sym w) (fast-apart (c .«min_level») (c .«max_level») (c .«level_mod») (c .«max_cells») (boundOf g) (v .order) C);
+        missing = λ n h. subst (λ (l : List ℕ). covers l n ≡ true) (sym w) (fast-leaves (c .«min_level») (c .«max_level») (c .«level_mod») (c .«max_cells») (boundOf a) (v .order) C n h);
+        apart = subst Apart (sym w) (fast-apart (c .«min_level») (c .«max_level») (c .«level_mod») (c .«max_cells») (boundOf a) (v .order) C);
         levels = subst (All (λ id. OnStep (c .«min_level») (c .«max_level») (c .«level_mod») (levelOf id))) (sym w)
-            (fast-levels (c .«min_level») (c .«max_level») (c .«level_mod») (c .«max_cells») (boundOf g) (v .order) C (divides (c .«level_mod») (v .«mod» .0) (v .«mod» .1)) (v .deep));
+            (fast-levels (c .«min_level») (c .«max_level») (c .«level_mod») (c .«max_cells») (boundOf a) (v .order) C (divides (c .«level_mod») (v .«mod» .0) (v .«mod» .1)) (v .deep));
       }
 
-  done : (k : Kind) → Finished k c g allowance (take (r .count) out) (r .steps) (r .aside) → Promised k c g allowance r out
+  done : (k : Kind) → Finished k c a allowance (take (r .count) out) (r .steps) (r .aside) → Promised k c a allowance r out
   unfolding Finished Promised
   done (Kind.Outer e) F = outer-done e F
   done (Kind.Inner e) F = inner-done e F
@@ -126,8 +131,8 @@ module _ (c : RegionCoverer) (g : Region) (allowance memory : ℕ) (v : Valid c 
 
 -- ---- the theorem for the public functions: each ensures `Answered` of its kind
 
-pub keeps : (k : Kind) (c : RegionCoverer) (g : Region) (allowance : ℕ) (r : Answer) (mem mem′ out out′ : List ℕ)
-    → Answered (resultOf k c g allowance (length mem) (length out)) r mem mem′ out out′ → r .number ≡ 0 → Promised k c g allowance r out′
-keeps k c g allowance r mem mem′ out out′ A z =
-    let d = answered-done k c g allowance r mem mem′ out out′ A z in
-    done c g allowance (length mem) (d .valid) r out′ (d .counted) k (d .finished)
+pub keeps : (k : Kind) (c : RegionCoverer) (a : Area) (allowance : ℕ) (r : Answer) (mem mem′ out out′ : List ℕ)
+    → Answered (resultOf k c a allowance (length mem) (length out)) r mem mem′ out out′ → r .number ≡ 0 → Promised k c a allowance r out′
+keeps k c a allowance r mem mem′ out out′ A z =
+    let d = answered-done k c a allowance r mem mem′ out out′ A z in
+    done c a allowance (length mem) (d .valid) r out′ (d .counted) k (d .finished)

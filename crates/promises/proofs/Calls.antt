@@ -3,7 +3,7 @@ use mathlib.Core.Path.{_≡_}
 use mathlib.Core.List.{List}
 use Prim.Native.Nat.{ℕ}
 use lib.ListN.{length}
-use Rattle.region.specs.declared.Region.{Region}
+use Rattle.region.specs.Region.{Area}
 use Rattle.run.specs.declared.RegionCoverer.{RegionCoverer}
 use Rattle.covering.specs.declared.Kind.{Kind}
 use Rattle.covering.specs.Covering.{resultOf}
@@ -12,7 +12,7 @@ use Rattle.capi.proofs.Laws.{called-answered}
 use Rattle.promises.specs.Answers.{Promised}
 use Rattle.promises.proofs.Answers.{keeps}
 
-pub call-keeps : (k : Kind) (c : RegionCoverer) (g : Region) (allowance number : ℕ) (mem mem′ out out′ : List ℕ) (count steps aside : ℕ)
-    → Called (resultOf k c g allowance (length mem) (length out)) number mem mem′ out out′ count steps aside → number ≡ 0
-    → Promised k c g allowance (record { number = number; count = count; steps = steps; aside = aside }) out′
-call-keeps k c g allowance number mem mem′ out out′ count steps aside C z = keeps k c g allowance _ mem mem′ out out′ (called-answered C) z
+pub call-keeps : (k : Kind) (c : RegionCoverer) (a : Area) (allowance number : ℕ) (mem mem′ out out′ : List ℕ) (count steps aside : ℕ)
+    → Called (resultOf k c a allowance (length mem) (length out)) number mem mem′ out out′ count steps aside → number ≡ 0
+    → Promised k c a allowance (record { number = number; count = count; steps = steps; aside = aside }) out′
+call-keeps k c a allowance number mem mem′ out out′ count steps aside C z = keeps k c a allowance _ mem mem′ out out′ (called-answered C) z

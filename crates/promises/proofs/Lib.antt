@@ -1,5 +1,6 @@
 pub mod Runs
 pub mod Example
 pub mod Rows
+pub mod Lists
 pub mod Answers
 pub mod Calls

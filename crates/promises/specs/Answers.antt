@@ -8,8 +8,7 @@ use lib.ListN.{length, take}
 use Rattle.cellid.specs.CellId.{levelOf}
 use Rattle.order.specs.Order.{All}
 use Rattle.cellunion.specs.CellUnion.{covers, OnStep, Apart}
-use Rattle.region.specs.declared.Region.{Region}
-use Rattle.region.specs.Region.{boundOf}
+use Rattle.region.specs.Region.{Area, listArea, boundOf}
 use Rattle.run.specs.declared.RegionCoverer.{RegionCoverer}
 use Rattle.fast.specs.Memory.{startsFor, fastCoveringFor}
 use Rattle.run.specs.Run.{State, going, rawIds, asideTotal}
@@ -20,40 +19,46 @@ use Rattle.covering.specs.declared.Kind.{Kind}
 use Rattle.covering.specs.Covering.{askedOf, ranOf, listOf}
 use Rattle.promises.specs.Promises.{OnLevels, Outer, Inner}
 
+-- every leaf of the first list lies under the second
+abbrev pub CoversAll : List ℕ → List ℕ → Type 0
+CoversAll l m = (n : ℕ) → covers l n ≡ true → covers m n ≡ true
+
 -- an outer function answered r with success, with `out` as the output afterwards
-pub record OuterDone (e : Ending) (c : RegionCoverer) (g : Region) (allowance : ℕ) (r : Answer) (out : List ℕ) : Type 0 where
+pub record OuterDone (e : Ending) (c : RegionCoverer) (a : Area) (allowance : ℕ) (r : Answer) (out : List ℕ) : Type 0 where
   pub state : State
-  pub ran : ranOf false c g allowance ≡ going state  -- demand 2's run
+  pub ran : ranOf false c a allowance ≡ going state  -- demand 2's run
   pub taken : r .steps ≡ state .steps
   pub total : r .aside ≡ asideTotal state  -- "the reported set-aside total is theirs"
   pub counted : r .count ≡ length (take (r .count) out)  -- the output has so many words
   pub list : take (r .count) out ≡ listOf e c (rawIds state)  -- the raw list in the order kept, or the one that is made of it
-  pub keeps : Outer (courseOf (askedOf c false) g) (startsFor c (boundOf g)) state (take (r .count) out)
+  pub keeps : Outer (courseOf (askedOf c false) a) (startsFor c (boundOf a)) state (take (r .count) out)
   pub levels : e ≡ Ending.Covering → OnLevels (askedOf c false) (take (r .count) out)
+  pub covered : (ids : List ℕ) → a ≡ listArea ids → CoversAll ids (take (r .count) out)  -- "covers every leaf of the list, with nothing asked about the tests"
 
 -- an inner function: the set-aside total is 0
-pub record InnerDone (e : Ending) (c : RegionCoverer) (g : Region) (allowance : ℕ) (r : Answer) (out : List ℕ) : Type 0 where
+pub record InnerDone (e : Ending) (c : RegionCoverer) (a : Area) (allowance : ℕ) (r : Answer) (out : List ℕ) : Type 0 where
   pub state : State
-  pub ran : ranOf true c g allowance ≡ going state
+  pub ran : ranOf true c a allowance ≡ going state
   pub taken : r .steps ≡ state .steps
   pub total : r .aside ≡ 0
   pub counted : r .count ≡ length (take (r .count) out)
   pub list : take (r .count) out ≡ listOf e c (rawIds state)
-  pub keeps : Inner (courseOf (askedOf c true) g) (startsFor c (boundOf g)) state (take (r .count) out)
+  pub keeps : Inner (courseOf (askedOf c true) a) (startsFor c (boundOf a)) state (take (r .count) out)
   pub levels : e ≡ Ending.Covering → OnLevels (askedOf c true) (take (r .count) out)
+  pub within : (ids : List ℕ) → a ≡ listArea ids → CoversAll (take (r .count) out) ids  -- of a list, "the inner answer has no leaf outside it"
 
 -- the quick covering of the region's bound: its leaves are covered, by cells that don't overlap, of levels from min to max in whole steps
-pub record FastDone (c : RegionCoverer) (g : Region) (r : Answer) (out : List ℕ) : Type 0 where
+pub record FastDone (c : RegionCoverer) (a : Area) (r : Answer) (out : List ℕ) : Type 0 where
   pub taken : r .steps ≡ 0
   pub total : r .aside ≡ 0
   pub counted : r .count ≡ length (take (r .count) out)
-  pub list : take (r .count) out ≡ fastCoveringFor c (boundOf g)
-  pub missing : (n : ℕ) → covers (boundOf g) n ≡ true → covers (take (r .count) out) n ≡ true
+  pub list : take (r .count) out ≡ fastCoveringFor c (boundOf a)
+  pub missing : CoversAll (boundOf a) (take (r .count) out)
   pub apart : Apart (take (r .count) out)
   pub levels : All (λ id. OnStep (c .«min_level») (c .«max_level») (c .«level_mod») (levelOf id)) (take (r .count) out)
 
 -- what is promised of each kind of answer
-unfoldable pub Promised : Kind → RegionCoverer → Region → ℕ → Answer → List ℕ → Type 0
-Promised (Kind.Outer e) c g allowance r out = OuterDone e c g allowance r out
-Promised (Kind.Inner e) c g allowance r out = InnerDone e c g allowance r out
-Promised Kind.Fast c g allowance r out = FastDone c g r out
+unfoldable pub Promised : Kind → RegionCoverer → Area → ℕ → Answer → List ℕ → Type 0
+Promised (Kind.Outer e) c a allowance r out = OuterDone e c a allowance r out
+Promised (Kind.Inner e) c a allowance r out = InnerDone e c a allowance r out
+Promised Kind.Fast c a allowance r out = FastDone c a r out

@@ -1,6 +1,6 @@
 -- Laws of `specs/Requests.antt`: a request is answered within parts of the memory and of the output, the answer's text is that of its result, and a page with
 -- room for as many ids as the output has places holds it whole.
-use mathlib.Core.Path.{_≡_, refl, ap, _∙_}
+use mathlib.Core.Path.{_≡_, refl, sym, ap, _∙_}
 use mathlib.Core.Bool.{true, false}
 use mathlib.Core.List.{List, [], _∷_, _++_, append-assoc}
 use Prim.Native.Nat.{ℕ, zero, suc, _+_, _*_, min, _≤_}
@@ -18,9 +18,10 @@ use Rattle.text.specs.Text.{isSilent}
 use Rattle.tokens.specs.declared.Form.{Form}
 use Rattle.replies.specs.Write.{Wrote, okText, refusedText, errorText}
 use Rattle.replies.proofs.Lengths.{wrote-whole, error-length, refused-length, ok-length}
+use Rattle.region.specs.Region.{Area, capArea, cellArea, listArea, areaOf}
 use Rattle.requests.specs.declared.line.Asked.{Asked}
-use Rattle.requests.specs.Line.{askedBy}
-use Rattle.requests.specs.Requests.{allowanceOf, resultFor, resultIn, resultText, onFirst, textAt, memoryAt, outputAt, askedText, askedMemory, askedOutput, answerText, AnsweredIn, Replied}
+use Rattle.requests.specs.Line.{Wish, wishOf, regionOf, idsOf, wordsWith, askedRead, askedWith, ReadAsked}
+use Rattle.requests.specs.Requests.{allowanceOf, resultFor, resultIn, resultText, onFirst, textAt, memoryAt, outputAt, askedText, askedWords, askedMemory, askedOutput, answerText, AnsweredIn, Replied}
 
 -- ---- a part no longer than the whole
 
@@ -40,24 +41,24 @@ length-min n l = ap length (take-min n l) ∙ length-take n l
 -- ---- what a request comes to, within its parts
 
 -- what the coverer answers, with the allowance as a u32, is what the line comes to
-pub answered-for : (q : Asked) (r : Answer) (mem mem' out out' : List ℕ) (allowance : ℕ) → allowance ≡ allowanceOf (q .allowance)
-    → Answered (resultOf (q .kind) (q .coverer) (q .region) allowance (length mem) (length out)) r mem mem' out out' → Answered (resultFor q (length mem) (length out)) r mem mem' out out'
+pub answered-for : (w : Wish) (r : Answer) (mem mem' out out' : List ℕ) (allowance : ℕ) → allowance ≡ allowanceOf (w .allowance)
+    → Answered (resultOf (w .kind) (w .coverer) (w .area) allowance (length mem) (length out)) r mem mem' out out' → Answered (resultFor w (length mem) (length out)) r mem mem' out out'
 unfolding resultFor
-answered-for q r mem mem' out out' allowance e = rw e (λ A. A)
+answered-for w r mem mem' out out' allowance e = rw e (λ A. A)
 
-module _ (q : Asked) (r : Answer) (mem part out places : List ℕ) (m o : ℕ) (em : m ≡ min (q .mem) (length mem)) (eo : o ≡ min (q .out) (length out)) where
-  pub answered-in : Answered (resultFor q (length (take m mem)) (length (take o out))) r (take m mem) part (take o out) places
-      → AnsweredIn q r mem (part ++ drop m mem) out (places ++ drop o out)
+module _ (w : Wish) (r : Answer) (mem part out places : List ℕ) (m o : ℕ) (em : m ≡ min (w .mem) (length mem)) (eo : o ≡ min (w .out) (length out)) where
+  pub answered-in : Answered (resultFor w (length (take m mem)) (length (take o out))) r (take m mem) part (take o out) places
+      → AnsweredIn w r mem (part ++ drop m mem) out (places ++ drop o out)
   unfolding resultIn
   answered-in = rw (em, eo, length-min, length-min, take-min, take-min, drop-min, drop-min) (λ A. record {
     answer = A .answer;
-    memory = ap (λ (l : List ℕ). l ++ drop (q .mem) mem) (A .memory);
-    output = ap (λ (l : List ℕ). l ++ drop (q .out) out) (A .output);
+    memory = ap (λ (l : List ℕ). l ++ drop (w .mem) mem) (A .memory);
+    output = ap (λ (l : List ℕ). l ++ drop (w .out) out) (A .output);
   })
 
-in-sound : (q : Asked) (mem out : List ℕ) → Sound (min (q .out) (length out)) (resultIn q mem out)
+in-sound : (w : Wish) (mem out : List ℕ) → Sound (min (w .out) (length out)) (resultIn w mem out)
 unfolding resultIn resultFor
-in-sound q mem out = result-sound (q .kind) (q .coverer) (q .region) (allowanceOf (q .allowance)) (min (q .mem) (length mem)) (min (q .out) (length out))
+in-sound w mem out = result-sound (w .kind) (w .coverer) (w .area) (allowanceOf (w .allowance)) (min (w .mem) (length mem)) (min (w .out) (length out))
 
 -- ---- the answer to a result, with the output that it leaves
 
@@ -67,8 +68,8 @@ count-fits (barred n) out rest = omega arith
 count-fits (refused n) out rest = omega arith
 count-fits (done l steps aside) out rest = simp length-append (omega arith)
 
-pub asked-fits : (q : Asked) (a : Answer) (mem mem' out out' : List ℕ) → AnsweredIn q a mem mem' out out' → a .count ≤ length out'
-asked-fits q a mem mem' out out' A = rw (A .answer, A .output) (count-fits (resultIn q mem out) _ _)
+pub asked-fits : (w : Wish) (a : Answer) (mem mem' out out' : List ℕ) → AnsweredIn w a mem mem' out out' → a .count ≤ length out'
+asked-fits w a mem mem' out out' A = rw (A .answer, A .output) (count-fits (resultIn w mem out) _ _)
 
 module _ (form : Form) (a : Answer) (out : List ℕ) where
   done-text : a .number ≡ 0 → answerText form a out ≡ okText form (a .steps) (a .aside) (take (a .count) out)
@@ -101,61 +102,97 @@ sound-short form room (barred n) h = omega (arith, refused-length n)
 sound-short form room (refused n) h = omega (arith, refused-length n)
 sound-short form room (done l steps aside) h = omega (arith, ok-length form steps aside l, h)
 
-in-short : (q : Asked) (mem out : List ℕ) → length (resultText (q .form) (resultIn q mem out)) ≤ 17 * length out + 256
-in-short q mem out =
-    let room = min (q .out) (length out) in
-    omega (arith, sound-short (q .form) room (resultIn q mem out) (in-sound q mem out))
+in-short : (w : Wish) (mem out : List ℕ) → length (resultText (w .form) (resultIn w mem out)) ≤ 17 * length out + 256
+in-short w mem out =
+    let room = min (w .out) (length out) in
+    omega (arith, sound-short (w .form) room (resultIn w mem out) (in-sound w mem out))
 
 -- ---- a line
 
-module _ (q : Asked) (number : ℕ) (mem out : List ℕ) (p : Place) where
+module _ (w : Wish) (number : ℕ) (mem out : List ℕ) (p : Place) where
   module _ (end : ℕ) (e : p ≡ Place.At end) where
-    text-asked : textAt p number q mem out ≡ resultText (q .form) (resultIn q mem out)
+    text-asked : textAt p number w mem out ≡ resultText (w .form) (resultIn w mem out)
     unfolding textAt
     text-asked = rw e
 
-    memory-asked : memoryAt p q mem out ≡ onFirst (q .mem) (memoryAfter (resultIn q mem out)) mem
+    memory-asked : memoryAt p w mem out ≡ onFirst (w .mem) (memoryAfter (resultIn w mem out)) mem
     unfolding memoryAt
     memory-asked = rw e
 
-    output-asked : outputAt p q mem out ≡ onFirst (q .out) (outputAfter (resultIn q mem out)) out
+    output-asked : outputAt p w mem out ≡ onFirst (w .out) (outputAfter (resultIn w mem out)) out
     unfolding outputAt
     output-asked = rw e
 
   module _ (f : Fault) (e : p ≡ Place.Bad f) where
-    text-bad : textAt p number q mem out ≡ errorText number f
+    text-bad : textAt p number w mem out ≡ errorText number f
     unfolding textAt
     text-bad = rw e
 
-    memory-bad : memoryAt p q mem out ≡ mem
+    memory-bad : memoryAt p w mem out ≡ mem
     unfolding memoryAt
     memory-bad = rw e
 
-    output-bad : outputAt p q mem out ≡ out
+    output-bad : outputAt p w mem out ≡ out
     unfolding outputAt
     output-bad = rw e
 
-module _ (number : ℕ) (line mem out page : List ℕ) where
-  pub replied-nothing : isSilent line ≡ true → Replied number line mem mem out out page 0 page
-  unfolding askedText askedMemory askedOutput
-  replied-nothing e = record { wrote = rw (askedText, e) (record { count = refl; bytes = refl }); memory = rw (askedMemory, e); output = rw (askedOutput, e) }
+-- ---- what was read is what is asked, with the ids that stand in the words
 
-  module _ (q : Asked) (r : ℕ) (page' : List ℕ) (asks : isSilent line ≡ false) (read : q ≡ askedBy line) (room : 17 * length out + 256 ≤ length page) where
-    pub replied-bad : (f : Fault) → q .after ≡ Place.Bad f → Wrote 0 (errorText number f) page r page' → Replied number line mem mem out out page r page'
-    unfolding askedText askedMemory askedOutput
-    replied-bad f e w = record {
-      wrote = rw (askedText, asks, ← read, text-bad q number mem out (q .after) f e) (wrote-whole (omega (arith, error-length number f)) w);
-      memory = rw (askedMemory, asks, ← read, memory-bad q number mem out (q .after) f e);
-      output = rw (askedOutput, asks, ← read, output-bad q number mem out (q .after) f e);
-    }
+area-back : (a : Area) → areaOf (regionOf a) (idsOf a) ≡ a
+unfolding areaOf regionOf idsOf
+area-back (capArea c) = refl
+area-back (cellArea own) = refl
+area-back (listArea ids) = refl
 
-    pub replied-asked : (end : ℕ) (a : Answer) (mem' out' : List ℕ) → q .after ≡ Place.At end → AnsweredIn q a mem mem' out out' → Wrote 0 (answerText (q .form) a out') page r page'
-        → Replied number line mem mem' out out' page r page'
-    unfolding askedText askedMemory askedOutput
-    replied-asked end a mem' out' e A w =
-        let t : answerText (q .form) a out' ≡ resultText (q .form) (resultIn q mem out) = rw (A .answer, A .output) (answer-text (q .form) _ (resultIn q mem out) _ _ (in-sound q mem out)) in
+pub words-fit : (ids words words' : List ℕ) (count : ℕ) → count ≡ length ids → words' ≡ wordsWith ids words → count ≤ length words'
+unfolding wordsWith
+words-fit ids words words' count e d = rw (e, d) (simp length-append (omega arith))
+
+module _ (w : Wish) (q : Asked) (words words' : List ℕ) (R : ReadAsked w q words words') where
+  pub ids-fit : q .count ≤ length words'
+  ids-fit = words-fit (idsOf (w .area)) words words' (q .count) (ap (λ (x : Asked). x .count) (R .read)) (R .ids)
+
+  asked-back : askedWith q (take (q .count) words') ≡ w
+  unfolding wordsWith
+  asked-back =
+      let ids : take (q .count) words' ≡ idsOf (w .area) = rw (R .read, R .ids) (take-append-seam (idsOf (w .area)) _) in
+      ap (λ (x : Asked). askedWith x (take (q .count) words')) (R .read) ∙ ap (λ (l : List ℕ). askedWith (askedRead w) l) ids ∙ ap (λ (a : Area). record { kind = w .kind; coverer = w .coverer; area = a; allowance = w .allowance; out = w .out; mem = w .mem; form = w .form; after = w .after }) (area-back (w .area))
+
+module _ (number : ℕ) (line words mem out page : List ℕ) where
+  pub replied-nothing : isSilent line ≡ true → Replied number line words words mem mem out out page 0 page
+  unfolding askedText askedWords askedMemory askedOutput
+  replied-nothing e = record { wrote = rw (askedText, e) (record { count = refl; bytes = refl }); lent = rw (askedWords, e); memory = rw (askedMemory, e); output = rw (askedOutput, e) }
+
+  module _ (q : Asked) (words' : List ℕ) (r : ℕ) (page' : List ℕ) (asks : isSilent line ≡ false) (R : ReadAsked (wishOf (length words) line) q words words') (room : 17 * length out + 256 ≤ length page) where
+    w : Wish
+    w = wishOf (length words) line
+
+    there : words' ≡ askedWords line words
+    unfolding askedWords
+    there = rw (askedWords, asks) (R .ids)
+
+    pub replied-bad : (f : Fault) → q .after ≡ Place.Bad f → Wrote 0 (errorText number f) page r page' → Replied number line words words' mem mem out out page r page'
+    unfolding askedText askedMemory askedOutput w
+    replied-bad f e v =
+        let b : w .after ≡ Place.Bad f = sym (ap (λ (x : Asked). x .after) (R .read)) ∙ e in
         record {
-          wrote = rw (askedText, asks, ← read, text-asked q number mem out (q .after) end e) (wrote-whole (omega (arith, in-short q mem out)) (rw t at w));
-          memory = rw (askedMemory, asks, ← read, memory-asked q number mem out (q .after) end e) (A .memory);
-          output = rw (askedOutput, asks, ← read, output-asked q number mem out (q .after) end e) (A .output);
+          wrote = rw (askedText, asks, text-bad w number mem out (w .after) f b) (wrote-whole (omega (arith, error-length number f)) v);
+          lent = there;
+          memory = rw (askedMemory, asks, memory-bad w number mem out (w .after) f b);
+          output = rw (askedOutput, asks, output-bad w number mem out (w .after) f b);
+        }
+
+    pub replied-asked : (end : ℕ) (a : Answer) (mem' out' : List ℕ) → q .after ≡ Place.At end → AnsweredIn (askedWith q (take (q .count) words')) a mem mem' out out' → Wrote 0 (answerText (q .form) a out') page r page'
+        → Replied number line words words' mem mem' out out' page r page'
+    unfolding askedText askedMemory askedOutput w
+    replied-asked end a mem' out' e B v =
+        let A : AnsweredIn w a mem mem' out out' = rw (asked-back w q words words' R) at B in
+        let b : w .after ≡ Place.At end = sym (ap (λ (x : Asked). x .after) (R .read)) ∙ e in
+        let t : answerText (q .form) a out' ≡ resultText (w .form) (resultIn w mem out) =
+        ap (λ (x : Asked). answerText (x .form) a out') (R .read) ∙ rw (A .answer, A .output) (answer-text (w .form) _ (resultIn w mem out) _ _ (in-sound w mem out)) in
+        record {
+          wrote = rw (askedText, asks, text-asked w number mem out (w .after) end b) (wrote-whole (omega (arith, in-short w mem out)) (rw t at v));
+          lent = there;
+          memory = rw (askedMemory, asks, memory-asked w number mem out (w .after) end b) (A .memory);
+          output = rw (askedOutput, asks, output-asked w number mem out (w .after) end b) (A .output);
         }

@@ -1,5 +1,5 @@
 -- Laws of `specs/Line.antt`: what was read, part by part, is what the line asks.
-use mathlib.Core.Path.{_≡_}
+use mathlib.Core.Path.{_≡_, refl}
 use mathlib.Core.List.{List, [], _∷_}
 use Prim.Native.Nat.{ℕ, _+_, _-_, _≤_, _<_}
 use native.Mathlib.Omega.{arith}
@@ -11,7 +11,7 @@ use Rattle.text.specs.declared.Fault.{Fault}
 use Rattle.text.specs.declared.Field.{Field}
 use Rattle.text.specs.declared.Place.{Place}
 use Rattle.text.specs.declared.Read.{Read}
-use Rattle.text.specs.Text.{until, fieldAt, bytesOf, placeAmong, numberIn, numberAfter, numbersAfter, choiceAfter, endAfter, startOf}
+use Rattle.text.specs.Text.{until, fieldAt, bytesOf, placeAmong, numberIn, numberAfter, numbersAfter, listAfter, ReadList, choiceAfter, endAfter, startOf}
 use Rattle.cell.specs.declared.Cap.{Cap}
 use Rattle.region.specs.declared.Region.{Region}
 use Rattle.run.specs.Run.{memoryWords}
@@ -21,7 +21,7 @@ use Rattle.requests.specs.declared.line.Four.{Four}
 use Rattle.requests.specs.declared.line.CovererRead.{CovererRead}
 use Rattle.requests.specs.declared.line.RegionRead.{RegionRead}
 use Rattle.requests.specs.declared.line.Options.{Options}
-use Rattle.requests.specs.Line.{kinds, kindOf, fourAfter, covererAfter, capOf, capAfter, cellAfter, regions, regionAfter, keys, mostOf, none, valueOr, formOf, badOption, optionGiven, optionOf, optionFrom, nextOption, optionsAfter, askedBy}
+use Rattle.requests.specs.Line.{kinds, kindOf, fourAfter, covererAfter, capOf, AreaRead, capAfter, cellAfter, idsAfter, shapes, areaAfter, keys, mostOf, none, valueOr, formOf, badOption, optionGiven, optionOf, optionFrom, nextOption, optionsAfter, wishOf, regionOf, idsOf, wordsWith, regionRead, ReadRegion, ReadAsked}
 
 -- ---- the parts of a request
 
@@ -36,22 +36,35 @@ module _ (l : List ℕ) (p : Place) where
   coverer-read n e = rw e
 
   pub cap-read : (n : Four) (c : Cap) → n ≡ fourAfter Base.Sixteen l p → c ≡ capOf (getD (n .values) 0 0) (getD (n .values) 1 0) (getD (n .values) 2 0) (getD (n .values) 3 0)
-      → record { region = Region.Cap c; after = n .after } ≡ capAfter l p
-  unfolding capAfter
+      → record { region = Region.Cap c; count = 0; after = n .after } ≡ regionRead (capAfter l p)
+  unfolding capAfter regionOf idsOf
   cap-read n c e d = rw (d, e)
 
-  pub cell-read : (id : Read) → id ≡ numberAfter Base.Sixteen 0xffff_ffff_ffff_ffff l p → record { region = Region.Cell (id .value); after = id .after } ≡ cellAfter l p
-  unfolding cellAfter
+  pub cell-read : (id : Read) → id ≡ numberAfter Base.Sixteen 0xffff_ffff_ffff_ffff l p → record { region = Region.Cell (id .value); count = 0; after = id .after } ≡ regionRead (cellAfter l p)
+  unfolding cellAfter regionOf idsOf
   cell-read id e = rw e
 
-  module _ (which : Read) (e : which ≡ choiceAfter regions 2 Fault.UnknownRegion l p) where
-    pub region-cap : (r : RegionRead) → which .value ≡ 0 → r ≡ capAfter l (which .after) → r ≡ regionAfter l p
-    unfolding regionAfter
-    region-cap r h d = rw (regionAfter, ← e, eq-eqb _ _ h, ← e) d
+  pub ids-read : (most : ℕ) (n : Read) (words words' : List ℕ) → ReadList (listAfter most l p) n words words' → ReadRegion (idsAfter most l p) (record { region = Region.List; count = n .value; after = n .after }) words words'
+  unfolding idsAfter regionOf idsOf wordsWith
+  ids-read most n words words' R = record { read = rw (R .count, R .place); ids = R .words }
 
-    pub region-cell : (r : RegionRead) → (which .value ≡ 0 → ⊥) → r ≡ cellAfter l (which .after) → r ≡ regionAfter l p
-    unfolding regionAfter
-    region-cell r h d = rw (regionAfter, ← e, ne-eqb _ _ h, ← e) d
+  -- a region without ids leaves the words as they are
+  none-read : (n : AreaRead) (r : RegionRead) (words : List ℕ) → r ≡ regionRead n → idsOf (n .area) ≡ [] → ReadRegion n r words words
+  unfolding wordsWith
+  none-read n r words e d = record { read = e; ids = rw d }
+
+  module _ (most : ℕ) (which : Read) (e : which ≡ choiceAfter shapes 3 Fault.UnknownRegion l p) (r : RegionRead) (words : List ℕ) where
+    pub region-cap : which .value ≡ 0 → r ≡ regionRead (capAfter l (which .after)) → ReadRegion (areaAfter most l p) r words words
+    unfolding areaAfter capAfter idsOf
+    region-cap h d = rw (areaAfter, ← e, eq-eqb _ _ h, ← e) (none-read (capAfter l (which .after)) r words d refl)
+
+    pub region-cell : (which .value ≡ 0 → ⊥) → which .value ≡ 1 → r ≡ regionRead (cellAfter l (which .after)) → ReadRegion (areaAfter most l p) r words words
+    unfolding areaAfter cellAfter idsOf
+    region-cell z h d = rw (areaAfter, ← e, ne-eqb _ _ z, ← e, eq-eqb _ _ h, ← e) (none-read (cellAfter l (which .after)) r words d refl)
+
+    pub region-list : (words' : List ℕ) → (which .value ≡ 0 → ⊥) → (which .value ≡ 1 → ⊥) → ReadRegion (idsAfter most l (which .after)) r words words' → ReadRegion (areaAfter most l p) r words words'
+    unfolding areaAfter
+    region-list words' z h d = rw (areaAfter, ← e, ne-eqb _ _ z, ← e, ne-eqb _ _ h, ← e) d
 
 -- ---- options
 
@@ -103,9 +116,12 @@ options-read l p a b c d e ea eb ec ed ee = rw (ee, ed, ec, eb, ea)
 
 -- ---- all that a line asks
 
-pub asked-read : (l : List ℕ) (start : Place) (word : Read) (c : CovererRead) (g : RegionRead) (o : Options) (end : Place) (k : Kind) (allowance out mem : ℕ) (form : Form)
-    → start ≡ startOf l → word ≡ choiceAfter kinds 7 Fault.UnknownKind l start → c ≡ covererAfter l (word .after) → g ≡ regionAfter l (c .after) → o ≡ optionsAfter l (g .after)
+pub asked-read : (most : ℕ) (l words words' : List ℕ) (start : Place) (word : Read) (c : CovererRead) (g : RegionRead) (o : Options) (end : Place) (k : Kind) (allowance out mem : ℕ) (form : Form)
+    → start ≡ startOf l → word ≡ choiceAfter kinds 7 Fault.UnknownKind l start → c ≡ covererAfter l (word .after) → ReadRegion (areaAfter most l (c .after)) g words words' → o ≡ optionsAfter l (g .after)
     → end ≡ endAfter l (o .after) → k ≡ kindOf (word .value) → allowance ≡ valueOr 4294967295 (getD (o .values) 0 0) → out ≡ valueOr 65536 (getD (o .values) 1 0) → mem ≡ valueOr memoryWords (getD (o .values) 2 0) → form ≡ formOf (getD (o .values) 3 0)
-    → record { kind = k; coverer = c .coverer; region = g .region; allowance = allowance; out = out; mem = mem; form = form; after = end } ≡ askedBy l
-unfolding askedBy
-asked-read l start word c g o end k allowance out mem form es ek ec eg eo ee e1 e2 e3 e4 e5 = rw (e1, e2, e3, e4, e5, ee, eo, eg, ec, ek, es)
+    → ReadAsked (wishOf most l) (record { kind = k; coverer = c .coverer; region = g .region; count = g .count; allowance = allowance; out = out; mem = mem; form = form; after = end }) words words'
+unfolding wishOf
+asked-read most l words words' start word c g o end k allowance out mem form es ek ec G eo ee e1 e2 e3 e4 e5 = record {
+  read = rw (e1, e2, e3, e4, e5, ee, eo, G .read, ec, ek, es);
+  ids = rw (← es, ← ek, ← ec) (G .ids);
+}

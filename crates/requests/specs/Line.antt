@@ -1,6 +1,7 @@
 -- A request of `cover` as a line: `KIND MIN MAX MOD MAX_CELLS REGION [allow=N] [out=N] [mem=N] [tokens=N]`, the options in any order.
+use mathlib.Core.Path.{_≡_}
 use mathlib.Core.Bool.{true, false}
-use mathlib.Core.List.{List, [], _∷_}
+use mathlib.Core.List.{List, [], _∷_, _++_}
 use Prim.Native.Nat.{ℕ, _+_}
 use lib.Dec.{ltb, eqb}
 use lib.Ieee.{Float, binary64, ofBits}
@@ -9,10 +10,12 @@ use Rattle.text.specs.Ascii.{ascii}
 use Rattle.text.specs.declared.Base.{Base}
 use Rattle.text.specs.declared.Fault.{Fault}
 use Rattle.text.specs.declared.Place.{Place}
-use Rattle.text.specs.Text.{until, fieldAt, bytesOf, isThere, placeAmong, numberIn, numberAfter, numbersAfter, choiceAfter, endAfter, startOf}
+use Rattle.text.specs.Text.{until, fieldAt, bytesOf, isThere, placeAmong, numberIn, numberAfter, numbersAfter, listAfter, choiceAfter, endAfter, startOf}
 use Rattle.point.specs.declared.Point.{Point}
 use Rattle.cell.specs.declared.Cap.{Cap}
 use Rattle.region.specs.declared.Region.{Region}
+use Rattle.region.specs.Region.{Area, capArea, cellArea, listArea, areaOf}
+use Rattle.run.specs.declared.RegionCoverer.{RegionCoverer}
 use Rattle.run.specs.Run.{memoryWords}
 use Rattle.covering.specs.declared.Ending.{Ending}
 use Rattle.covering.specs.declared.Kind.{Kind}
@@ -62,7 +65,12 @@ covererAfter l p =
       after = n .after;
     }
 
--- ---- REGION: `cap X Y Z R` or `cell ID`
+-- ---- REGION: `cap X Y Z R`, `cell ID` or `list COUNT ID...`
+
+-- what is asked about, and the place after it
+pub record AreaRead : Type 0 where
+  pub area : Area
+  pub after : Place
 
 -- "Floats are the 16 hex digits of their bits"
 abbrev pub float : ℕ → Float
@@ -74,21 +82,31 @@ pointOf x y z = record { x = float x; y = float y; z = float z }
 unfoldable pub capOf : ℕ → ℕ → ℕ → ℕ → Cap
 capOf x y z r = record { center = pointOf x y z; radius = float r }
 
-unfoldable pub capAfter : List ℕ → Place → RegionRead
+unfoldable pub capAfter : List ℕ → Place → AreaRead
 capAfter l p =
     let v = fourAfter Base.Sixteen l p in
-    record { region = Region.Cap (capOf (getD (v .values) 0 0) (getD (v .values) 1 0) (getD (v .values) 2 0) (getD (v .values) 3 0)); after = v .after }
+    record { area = capArea (capOf (getD (v .values) 0 0) (getD (v .values) 1 0) (getD (v .values) 2 0) (getD (v .values) 3 0)); after = v .after }
 
-unfoldable pub cellAfter : List ℕ → Place → RegionRead
-cellAfter l p = let id = numberAfter Base.Sixteen 0xffff_ffff_ffff_ffff l p in record { region = Region.Cell (id .value); after = id .after }
+unfoldable pub cellAfter : List ℕ → Place → AreaRead
+cellAfter l p = let id = numberAfter Base.Sixteen 0xffff_ffff_ffff_ffff l p in record { area = cellArea (id .value); after = id .after }
 
-abbrev pub regions : List ℕ
-regions = ascii "cap cell"
+-- at most so many ids
+unfoldable pub idsAfter : ℕ → List ℕ → Place → AreaRead
+idsAfter most l p = let n = listAfter most l p in record { area = listArea (n .values); after = n .after }
 
-unfoldable pub regionAfter : List ℕ → Place → RegionRead
-regionAfter l p =
-    let which = choiceAfter regions 2 Fault.UnknownRegion l p in
-    elim (eqb (which .value) 0) [ true ↦ capAfter l (which .after) | false ↦ cellAfter l (which .after) ]
+abbrev pub shapes : List ℕ
+shapes = ascii "cap cell list"
+
+unfoldable pub areaAfter : ℕ → List ℕ → Place → AreaRead
+areaAfter most l p =
+    let which = choiceAfter shapes 3 Fault.UnknownRegion l p in
+    elim (eqb (which .value) 0) [
+      | true ↦ capAfter l (which .after)
+      | false ↦ elim (eqb (which .value) 1) [
+        | true ↦ cellAfter l (which .after)
+        | false ↦ idsAfter most l (which .after)
+      ]
+    ]
 
 -- ---- options: the allowance, the places of output, the words of working memory, whether ids are written as tokens
 
@@ -146,19 +164,87 @@ optionsAfter l p = nextOption l (nextOption l (nextOption l (nextOption l (nextO
 
 -- ---- what a line asks: one part after another; the place after it is a fault's where the line is no request
 
-unfoldable pub askedBy : List ℕ → Asked
-askedBy l =
+pub record Wish : Type 0 where
+  pub kind : Kind
+  pub coverer : RegionCoverer
+  pub area : Area
+  pub allowance : ℕ
+  pub out : ℕ
+  pub mem : ℕ
+  pub form : Form
+  pub after : Place
+
+-- of a list at most so many ids
+unfoldable pub wishOf : ℕ → List ℕ → Wish
+wishOf most l =
     let word = choiceAfter kinds 7 Fault.UnknownKind l (startOf l) in
     let c = covererAfter l (word .after) in
-    let g = regionAfter l (c .after) in
+    let g = areaAfter most l (c .after) in
     let o = optionsAfter l (g .after) in
     record {
       kind = kindOf (word .value);
       coverer = c .coverer;
-      region = g .region;
+      area = g .area;
       allowance = valueOr 4294967295 (getD (o .values) 0 0);
       out = valueOr 65536 (getD (o .values) 1 0);
       mem = valueOr memoryWords (getD (o .values) 2 0);
       form = formOf (getD (o .values) 3 0);
       after = endAfter l (o .after);
     }
+
+-- ---- as the functions have it: a region's kind, with the ids of a list in the first of the words that are lent
+
+unfoldable pub regionOf : Area → Region
+regionOf (capArea c) = Region.Cap c
+regionOf (cellArea own) = Region.Cell own
+regionOf (listArea ids) = Region.List
+
+unfoldable pub idsOf : Area → List ℕ
+idsOf (capArea c) = []
+idsOf (cellArea own) = []
+idsOf (listArea ids) = ids
+
+-- the words that are lent, with ids in the first of them
+unfoldable pub wordsWith : List ℕ → List ℕ → List ℕ
+wordsWith ids words = ids ++ drop (length ids) words
+
+-- what was read, its ids aside
+abbrev pub regionRead : AreaRead → RegionRead
+regionRead n = record { region = regionOf (n .area); count = length (idsOf (n .area)); after = n .after }
+
+-- it was read, its ids into the words that are lent
+pub record ReadRegion (n : AreaRead) (r : RegionRead) (words words' : List ℕ) : Type 0 where
+  pub read : r ≡ regionRead n
+  pub ids : words' ≡ wordsWith (idsOf (n .area)) words
+
+-- what is asked, its ids aside
+abbrev pub askedRead : Wish → Asked
+askedRead w = record {
+  kind = w .kind;
+  coverer = w .coverer;
+  region = regionOf (w .area);
+  count = length (idsOf (w .area));
+  allowance = w .allowance;
+  out = w .out;
+  mem = w .mem;
+  form = w .form;
+  after = w .after;
+}
+
+-- likewise
+pub record ReadAsked (w : Wish) (r : Asked) (words words' : List ℕ) : Type 0 where
+  pub read : r ≡ askedRead w
+  pub ids : words' ≡ wordsWith (idsOf (w .area)) words
+
+-- what is asked with these ids
+abbrev pub askedWith : Asked → List ℕ → Wish
+askedWith q ids = record {
+  kind = q .kind;
+  coverer = q .coverer;
+  area = areaOf (q .region) ids;
+  allowance = q .allowance;
+  out = q .out;
+  mem = q .mem;
+  form = q .form;
+  after = q .after;
+}

@@ -12,20 +12,19 @@ use Rattle.text.specs.declared.Place.{Place}
 use Rattle.text.specs.Text.{isSilent}
 use Rattle.tokens.specs.declared.Form.{Form}
 use Rattle.replies.specs.Write.{Whole, refusedText, okText, errorText}
-use Rattle.requests.specs.declared.line.Asked.{Asked}
-use Rattle.requests.specs.Line.{askedBy}
+use Rattle.requests.specs.Line.{Wish, wishOf, idsOf, wordsWith}
 
 -- a u32: no run takes more steps than that allows
 unfoldable pub allowanceOf : ℕ → ℕ
 allowanceOf n = min n 4294967295
 
 -- what a line asks, with so many words of working memory and places of output
-unfoldable pub resultFor : Asked → ℕ → ℕ → Result
-resultFor q memory room = resultOf (q .kind) (q .coverer) (q .region) (allowanceOf (q .allowance)) memory room
+unfoldable pub resultFor : Wish → ℕ → ℕ → Result
+resultFor w memory room = resultOf (w .kind) (w .coverer) (w .area) (allowanceOf (w .allowance)) memory room
 
 -- it has as much of the working memory and of the output as it asks for, as far as there is
-unfoldable pub resultIn : Asked → List ℕ → List ℕ → Result
-resultIn q mem out = resultFor q (min (q .mem) (length mem)) (min (q .out) (length out))
+unfoldable pub resultIn : Wish → List ℕ → List ℕ → Result
+resultIn w mem out = resultFor w (min (w .mem) (length mem)) (min (w .out) (length out))
 
 -- `ok STEPS ASIDE COUNT ID...` or `refused NUMBER`
 unfoldable pub resultText : Form → Result → List ℕ
@@ -39,33 +38,37 @@ onFirst n change l = change (take n l) ++ drop n l
 
 -- ---- a line of some number, and what it asks: its answer's text, and the working memory and the output afterwards
 
-unfoldable pub textAt : Place → ℕ → Asked → List ℕ → List ℕ → List ℕ
-textAt (Place.At end) number q mem out = resultText (q .form) (resultIn q mem out)
-textAt (Place.Bad f) number q mem out = errorText number f
+unfoldable pub textAt : Place → ℕ → Wish → List ℕ → List ℕ → List ℕ
+textAt (Place.At end) number w mem out = resultText (w .form) (resultIn w mem out)
+textAt (Place.Bad f) number w mem out = errorText number f
 
-unfoldable pub memoryAt : Place → Asked → List ℕ → List ℕ → List ℕ
-memoryAt (Place.At end) q mem out = onFirst (q .mem) (memoryAfter (resultIn q mem out)) mem
-memoryAt (Place.Bad f) q mem out = mem
+unfoldable pub memoryAt : Place → Wish → List ℕ → List ℕ → List ℕ
+memoryAt (Place.At end) w mem out = onFirst (w .mem) (memoryAfter (resultIn w mem out)) mem
+memoryAt (Place.Bad f) w mem out = mem
 
-unfoldable pub outputAt : Place → Asked → List ℕ → List ℕ → List ℕ
-outputAt (Place.At end) q mem out = onFirst (q .out) (outputAfter (resultIn q mem out)) out
-outputAt (Place.Bad f) q mem out = out
+unfoldable pub outputAt : Place → Wish → List ℕ → List ℕ → List ℕ
+outputAt (Place.At end) w mem out = onFirst (w .out) (outputAfter (resultIn w mem out)) out
+outputAt (Place.Bad f) w mem out = out
 
--- nothing for a line that asks nothing
-unfoldable pub askedText : ℕ → List ℕ → List ℕ → List ℕ → List ℕ
-askedText number line mem out = elim (isSilent line) [ true ↦ [] | false ↦ textAt (askedBy line .after) number (askedBy line) mem out ]
+-- of a list no more ids are read than there are words for it; nothing for a line that asks nothing
+unfoldable pub askedText : ℕ → List ℕ → List ℕ → List ℕ → List ℕ → List ℕ
+askedText number line words mem out = let w = wishOf (length words) line in elim (isSilent line) [ true ↦ [] | false ↦ textAt (w .after) number w mem out ]
 
-unfoldable pub askedMemory : List ℕ → List ℕ → List ℕ → List ℕ
-askedMemory line mem out = elim (isSilent line) [ true ↦ mem | false ↦ memoryAt (askedBy line .after) (askedBy line) mem out ]
+unfoldable pub askedWords : List ℕ → List ℕ → List ℕ
+askedWords line words = elim (isSilent line) [ true ↦ words | false ↦ wordsWith (idsOf (wishOf (length words) line .area)) words ]
 
-unfoldable pub askedOutput : List ℕ → List ℕ → List ℕ → List ℕ
-askedOutput line mem out = elim (isSilent line) [ true ↦ out | false ↦ outputAt (askedBy line .after) (askedBy line) mem out ]
+unfoldable pub askedMemory : List ℕ → List ℕ → List ℕ → List ℕ → List ℕ
+askedMemory line words mem out = let w = wishOf (length words) line in elim (isSilent line) [ true ↦ mem | false ↦ memoryAt (w .after) w mem out ]
+
+unfoldable pub askedOutput : List ℕ → List ℕ → List ℕ → List ℕ → List ℕ
+askedOutput line words mem out = let w = wishOf (length words) line in elim (isSilent line) [ true ↦ out | false ↦ outputAt (w .after) w mem out ]
 
 -- what is ensured of a line: its answer is written whole
-pub record Replied (number : ℕ) (line mem mem' out out' page : List ℕ) (r : ℕ) (page' : List ℕ) : Type 0 where
-  pub wrote : Whole (askedText number line mem out) page r page'
-  pub memory : mem' ≡ askedMemory line mem out
-  pub output : out' ≡ askedOutput line mem out
+pub record Replied (number : ℕ) (line words words' mem mem' out out' page : List ℕ) (r : ℕ) (page' : List ℕ) : Type 0 where
+  pub wrote : Whole (askedText number line words mem out) page r page'
+  pub lent : words' ≡ askedWords line words
+  pub memory : mem' ≡ askedMemory line words mem out
+  pub output : out' ≡ askedOutput line words mem out
 
 -- ---- for the functions that make up an answer
 
@@ -76,7 +79,7 @@ answerText form a out = elim (eqb (a .number) 0) [
   | false ↦ refusedText (a .number)
 ]
 
-pub record AnsweredIn (q : Asked) (r : Answer) (mem mem' out out' : List ℕ) : Type 0 where
-  pub answer : r ≡ answerOf (resultIn q mem out)
-  pub memory : mem' ≡ onFirst (q .mem) (memoryAfter (resultIn q mem out)) mem
-  pub output : out' ≡ onFirst (q .out) (outputAfter (resultIn q mem out)) out
+pub record AnsweredIn (w : Wish) (r : Answer) (mem mem' out out' : List ℕ) : Type 0 where
+  pub answer : r ≡ answerOf (resultIn w mem out)
+  pub memory : mem' ≡ onFirst (w .mem) (memoryAfter (resultIn w mem out)) mem
+  pub output : out' ≡ onFirst (w .out) (outputAfter (resultIn w mem out)) out

@@ -6,6 +6,7 @@ ghost use lib.ListN.{length};
 ghost use Prim.Native.Nat.{_+_, _*_, _≤_, min};
 ghost use Rattle.covering.specs.Covering.{Answered};
 ghost use Rattle.replies.specs.Write.{Wrote};
+ghost use Rattle.requests.specs.Line.{askedWith};
 ghost use Rattle.requests.specs.Requests.{allowanceOf, resultFor, AnsweredIn, answerText, Replied};
 use covering::Answer;
 use line::Asked;
@@ -32,14 +33,22 @@ fn allowance_of(n: u64) -> u32
     4294967295
 }
 
-// Answers a request with the working memory and the output that are lent: their lengths are those that it is answered for.
-fn answer_run(q: Asked, mem: &mut [u64], out: &mut [u64]) -> Answer
-    ensures { λ r. ⌜ Answered (resultFor q (length (now (mem .entry))) (length (now (out .entry)))) r (now (mem .entry)) (now (mem .exit)) (now (out .entry)) (now (out .exit)) ⌝ }
+// Answers a request with the ids of its list, and with the working memory and the output that are lent: their lengths are those that it is answered for.
+fn answer_run(q: Asked, list: &[u64], mem: &mut [u64], out: &mut [u64]) -> Answer
+    ensures { λ r. ⌜ Answered (resultFor (askedWith q (now (list .entry))) (length (now (mem .entry))) (length (now (out .entry)))) r (now (mem .entry)) (now (mem .exit)) (now (out .entry)) (now (out .exit)) ⌝ }
 {
     let kind = q.kind;
     let coverer = q.coverer;
     let region = q.region;
-    covering::respond(kind, coverer, region, allowance_of(q.allowance), mem, out)
+    covering::respond(
+        kind,
+        coverer,
+        region,
+        list,
+        allowance_of(q.allowance),
+        mem,
+        out,
+    )
 }
 
 // The lesser of two lengths.
@@ -50,12 +59,12 @@ pub fn lesser(a: usize, b: usize) -> usize
 }
 
 // Answers a request with as much of the memory and of the output as it asks for.
-fn answer_in(q: Asked, mem: &mut [u64], out: &mut [u64]) -> Answer
-    ensures { λ r. ⌜ AnsweredIn q r (now (mem .entry)) (now (mem .exit)) (now (out .entry)) (now (out .exit)) ⌝ }
+fn answer_in(q: Asked, list: &[u64], mem: &mut [u64], out: &mut [u64]) -> Answer
+    ensures { λ r. ⌜ AnsweredIn (askedWith q (now (list .entry))) r (now (mem .entry)) (now (mem .exit)) (now (out .entry)) (now (out .exit)) ⌝ }
 {
     let m = lesser(q.mem as usize, mem.len());
     let o = lesser(q.out as usize, out.len());
-    answer_run(q, &mut mem[..m], &mut out[..o])
+    answer_run(q, list, &mut mem[..m], &mut out[..o])
 }
 
 // Writes an answer, with the ids that stand in the output's first places.
@@ -70,19 +79,26 @@ fn put_answer(form: Form, a: Answer, out: &[u64], page: &mut [u8]) -> usize
 }
 
 // The answer to a line of that number, whole, from the first byte of the page on, and how long it is: nothing for a line that asks nothing. The page has
-// room for as many ids as the output has places.
-pub fn answer(line: &[u8], number: u64, mem: &mut [u64], out: &mut [u64], page: &mut [u8]) -> usize
+// room for as many ids as the output has places; the ids of a list are read into the words that are lent.
+pub fn answer(
+    line: &[u8],
+    number: u64,
+    words: &mut [u64],
+    mem: &mut [u64],
+    out: &mut [u64],
+    page: &mut [u8],
+) -> usize
     requires { ⌜ 17 * length (now out) + 256 ≤ length (now page) ⌝ }
-    ensures { λ r. ⌜ Replied number (now (line .entry)) (now (mem .entry)) (now (mem .exit)) (now (out .entry)) (now (out .exit)) (now (page .entry)) r (now (page .exit)) ⌝ }
+    ensures { λ r. ⌜ Replied number (now (line .entry)) (now (words .entry)) (now (words .exit)) (now (mem .entry)) (now (mem .exit)) (now (out .entry)) (now (out .exit)) (now (page .entry)) r (now (page .exit)) ⌝ }
 {
     if text::is_silent(line) {
         return 0;
     }
-    let q = read_asked(line);
+    let q = read_asked(line, words);
     let after = q.after;
     match after {
         Place::At(_) => {
-            let a = answer_in(q, mem, out);
+            let a = answer_in(q, &words[..q.count], mem, out);
             let form = q.form;
             put_answer(form, a, out, page)
         }

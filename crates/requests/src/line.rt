@@ -4,7 +4,8 @@ ghost use mathlib.Core.Path.{_≡_};
 ghost use Prim.Native.Nat.{_<_};
 ghost use Rattle.text.specs.Text.{choiceAfter};
 ghost use Rattle.text.specs.declared.Fault.{Fault};
-ghost use Rattle.requests.specs.Line.{kinds, regions, kindOf, fourAfter, covererAfter, pointOf, capOf, capAfter, cellAfter, regionAfter, mostOf, valueOr, formOf, badOption, optionGiven, optionOf, nextOption, optionsAfter, askedBy};
+ghost use Rattle.requests.specs.Line.{kinds, shapes, kindOf, fourAfter, covererAfter, pointOf, capOf, capAfter, cellAfter, idsAfter, areaAfter, regionRead, ReadRegion, mostOf, valueOr, formOf, badOption, optionGiven, optionOf, nextOption, optionsAfter, wishOf, ReadAsked};
+ghost use lib.ListN.{length};
 use cell::Cap;
 use covering::Ending;
 use covering::Kind;
@@ -30,9 +31,10 @@ pub struct CovererRead {
     pub after: Place,
 }
 
-// A region, and the place after it.
+// A region, how many ids of a list were read for it, and the place after it.
 pub struct RegionRead {
     pub region: Region,
+    pub count: usize,
     pub after: Place,
 }
 
@@ -42,11 +44,13 @@ pub struct Options {
     pub after: Place,
 }
 
-// What a line asks: the kind of answer, of what, with how much, and how ids are to be written; and the line's end, or what is wrong with the line.
+// What a line asks: the kind of answer, of what, how many ids of a list were read for it, with how much, and how ids are to be written; and the line's end, or
+// what is wrong with the line.
 pub struct Asked {
     pub kind: Kind,
     pub coverer: RegionCoverer,
     pub region: Region,
+    pub count: usize,
     pub allowance: u64,
     pub out: u64,
     pub mem: u64,
@@ -125,42 +129,66 @@ pub fn cap_of(x: u64, y: u64, z: u64, r: u64) -> Cap
 
 // `X Y Z R`.
 fn read_cap(line: &[u8], p: Place) -> RegionRead
-    ensures { λ r. ⌜ r ≡ capAfter (now (line .entry)) p ⌝ }
+    ensures { λ r. ⌜ r ≡ regionRead (capAfter (now (line .entry)) p) ⌝ }
 {
     let n = read_four(line, p, Base::Sixteen);
     let v = n.values;
     let after = n.after;
     let region = Region::Cap(cap_of(v[0], v[1], v[2], v[3]));
-    RegionRead { region, after }
+    RegionRead {
+        region,
+        count: 0,
+        after,
+    }
 }
 
 // `ID`.
 fn read_cell(line: &[u8], p: Place) -> RegionRead
-    ensures { λ r. ⌜ r ≡ cellAfter (now (line .entry)) p ⌝ }
+    ensures { λ r. ⌜ r ≡ regionRead (cellAfter (now (line .entry)) p) ⌝ }
 {
     let id = text::read_number(line, p, Base::Sixteen, u64::MAX);
     let after = id.after;
     let region = Region::Cell(id.value);
-    RegionRead { region, after }
+    RegionRead {
+        region,
+        count: 0,
+        after,
+    }
+}
+
+// `COUNT ID...`, the ids into the words that are lent.
+fn read_ids(line: &[u8], p: Place, words: &mut [u64]) -> RegionRead
+    ensures { λ r. ⌜ ReadRegion (idsAfter (length (now (words .entry))) (now (line .entry)) p) r (now (words .entry)) (now (words .exit)) ⌝ }
+{
+    let n = text::read_list(line, p, words);
+    let after = n.after;
+    RegionRead {
+        region: Region::List,
+        count: n.value as usize,
+        after,
+    }
 }
 
 // The word for a region, counted from 0.
 fn read_shape(line: &[u8], p: Place) -> Read
-    ensures { λ r. ⌜ r ≡ choiceAfter regions 2 Fault.UnknownRegion (now (line .entry)) p ⌝ }
+    ensures { λ r. ⌜ r ≡ choiceAfter shapes 3 Fault.UnknownRegion (now (line .entry)) p ⌝ }
 {
-    text::read_choice(line, p, b"cap cell", 2, Fault::UnknownRegion)
+    text::read_choice(line, p, b"cap cell list", 3, Fault::UnknownRegion)
 }
 
-// `cap X Y Z R` or `cell ID`.
-pub fn read_region(line: &[u8], p: Place) -> RegionRead
-    ensures { λ r. ⌜ r ≡ regionAfter (now (line .entry)) p ⌝ }
+// `cap X Y Z R`, `cell ID` or `list COUNT ID...`, the ids of a list into the words that are lent.
+pub fn read_region(line: &[u8], p: Place, words: &mut [u64]) -> RegionRead
+    ensures { λ r. ⌜ ReadRegion (areaAfter (length (now (words .entry))) (now (line .entry)) p) r (now (words .entry)) (now (words .exit)) ⌝ }
 {
     let which = read_shape(line, p);
     let after = which.after;
     if which.value == 0 {
         return read_cap(line, after);
     }
-    read_cell(line, after)
+    if which.value == 1 {
+        return read_cell(line, after);
+    }
+    read_ids(line, after, words)
 }
 
 // The most that the k-th option may be.
@@ -271,16 +299,16 @@ pub fn form_of(v: u64) -> Form
     Form::Digits
 }
 
-// What a line asks.
-pub fn read_asked(line: &[u8]) -> Asked
-    ensures { λ r. ⌜ r ≡ askedBy (now (line .entry)) ⌝ }
+// What a line asks, the ids of a list into the words that are lent.
+pub fn read_asked(line: &[u8], words: &mut [u64]) -> Asked
+    ensures { λ r. ⌜ ReadAsked (wishOf (length (now (words .entry))) (now (line .entry))) r (now (words .entry)) (now (words .exit)) ⌝ }
 {
     let start = text::read_start(line);
     let word = read_kind(line, start);
     let pk = word.after;
     let c = read_coverer(line, pk);
     let pc = c.after;
-    let g = read_region(line, pc);
+    let g = read_region(line, pc, words);
     let pg = g.after;
     let o = read_options(line, pg);
     let po = o.after;
@@ -293,6 +321,7 @@ pub fn read_asked(line: &[u8]) -> Asked
         kind,
         coverer,
         region,
+        count: g.count,
         allowance: value_or(4294967295, values[0]),
         out: value_or(65536, values[1]),
         mem: value_or(MEMORY_WORDS as u64, values[2]),

@@ -3,47 +3,23 @@ use mathlib.Core.Path.{_≡_, refl, sym, ap, _∙_, subst}
 use mathlib.Core.Logic.{⊎-elim, _↔_}
 use mathlib.Core.Bool.{Bool, true, false}
 use mathlib.Core.List.{List}
-use Prim.Native.Nat.{ℕ, _+_, _≤_, _<_}
+use Prim.Native.Nat.{ℕ, _+_, _≤_}
 use native.Mathlib.Omega.{arith}
 use lib.ListN.{length, take}
 use lib.Seq.{sets}
 use lib.Dec.{leb}
-use borrow.Author.Tests.{leb-true, leb-false, le-leb, lt-leb}
-use Rattle.cellid.specs.CellId.{Cell}
-use Rattle.cellid.proofs.Laws.{and-true}
-use Rattle.order.specs.Order.{All}
+use borrow.Author.Tests.{leb-true, leb-false, le-leb}
 use Rattle.order.proofs.OrderLaws.{which}
-use Rattle.cellunion.specs.CellUnion.{Apart, isList}
 use Rattle.ranges.specs.declared.Answer.{Answer}
 use Rattle.ranges.specs.Ranges.{Result, refused, done, fitted, Answered}
 use Rattle.cellunion.proofs.Lists.{is-list}
 use Rattle.ranges.proofs.Answers.{answered-refused, answered-full, answered-done, Fitted, fitted→, fitted←, fitted-list, written}
 use Rattle.sets.specs.declared.Op.{Op}
-use Rattle.sets.specs.Sets.{combined, isPickList, setResult}
+use Rattle.picklist.specs.PickList.{isPickList}
+use Rattle.picklist.proofs.Laws.{pick-list}
+use Rattle.sets.specs.Sets.{combined, setResult}
 use Rattle.sets.specs.Steps.{isShort}
 use Rattle.sets.proofs.Lengths.{short-is}
-
--- ---- what may come in
-
-pub pick-yes : (l : List ℕ) (b : Bool) → length l ≤ 4096 → b ≡ isList l → b ≡ isPickList l
-unfolding isPickList
-pick-yes l b h e = rw (isPickList, le-leb (length l) 4096 h) e
-
-pub pick-no : (l : List ℕ) → 4096 < length l → false ≡ isPickList l
-unfolding isPickList
-pick-no l h = rw (isPickList, lt-leb (length l) 4096 h)
-
-pub pick-list : (l : List ℕ) → isPickList l ≡ true → isList l ≡ true
-unfolding isPickList
-pick-list l t = and-true (leb (length l) 4096) (isList l) t .1
-
--- exactly the lists of cells, ascending and free of overlap, up to 4,096
-pub pick-is : (l : List ℕ) → (isPickList l ≡ true) ↔ ((length l ≤ 4096) × All Cell l × Apart l)
-unfolding isPickList
-pick-is l = (
-  λ t. (let r = and-true (leb (length l) 4096) (isList l) t in let T = is-list l .0 (r .1) in (leb-true (length l) 4096 (r .0), T .0, T .1)),
-  λ T. rw (le-leb (length l) 4096 (T .0), is-list l .1 (T .1, T .2)),
-)
 
 -- ---- room for the answer
 

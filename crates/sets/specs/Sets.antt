@@ -2,9 +2,8 @@
 use mathlib.Core.Bool.{Bool, true, false, _&&_, _||_, not}
 use mathlib.Core.List.{List}
 use Prim.Native.Nat.{ℕ}
-use lib.ListN.{length}
-use lib.Dec.{leb}
-use Rattle.cellunion.specs.CellUnion.{covers, isList}
+use Rattle.cellunion.specs.CellUnion.{covers}
+use Rattle.picklist.specs.PickList.{isPickList}
 use Rattle.ranges.specs.Ranges.{tile, Result, refused, fitted}
 use Rattle.ranges.specs.Stretches.{stretches}
 use Rattle.sets.specs.declared.Op.{Op}
@@ -25,11 +24,7 @@ wanted op a b n = wants op (covers a n) (covers b n)
 unfoldable pub combined : Op → List ℕ → List ℕ → List ℕ
 combined op a b = stretches tile (wanted op a b)
 
--- "valid, ascending and free of overlap, up to 4,096 ids"
-unfoldable pub isPickList : List ℕ → Bool
-isPickList l = leb (length l) 4096 && isList l
-
--- with so many places of output: "15 first list bad or too long, 16 the second likewise, 17 answer longer than the output; in this order"
+-- with so many places of output, of lists "up to 4,096 ids": "15 first list bad or too long, 16 the second likewise, 17 answer longer than the output; in this order"
 unfoldable pub setResult : Op → List ℕ → List ℕ → ℕ → Result
 setResult op a b room = elim (isPickList a) [
   | false ↦ refused 15

@@ -11,7 +11,8 @@ ghost use Rattle.cellid.specs.CellId.{Cell};
 ghost use Rattle.order.specs.Order.{All};
 ghost use Rattle.cellunion.specs.CellUnion.{lo, hi, isList};
 ghost use Rattle.ranges.specs.Ranges.{leaves, Answered};
-ghost use Rattle.sets.specs.Sets.{wants, combined, isPickList, setResult};
+ghost use Rattle.picklist.specs.PickList.{isPickList};
+ghost use Rattle.sets.specs.Sets.{wants, combined, setResult};
 ghost use Rattle.sets.specs.Steps.{cursorAt, movedTo, doneWith, openFrom, isShort};
 use ranges::Answer;
 
@@ -178,24 +179,13 @@ fn has_room(op: Op, a: &[u64], b: &[u64], room: usize) -> bool
     count(op, a, b) <= room
 }
 
-// Whether a list may come in: valid, ascending, free of overlap, at most 4,096 ids.
-fn is_pick_list(l: &[u64]) -> bool
-    ensures { λ r. ⌜ r ≡ isPickList (now (l .entry)) ⌝ }
-{
-    if l.len() <= 4096 {
-        cellunion::is_valid(l)
-    } else {
-        false
-    }
-}
-
 // The normalised list of the leaves that are wanted of two lists. Refusals: 15 the first list is not valid, ascending and free of overlap, or longer than
 // 4,096 ids; 16 the second likewise; 17 more ids than the output has places.
 pub fn combine(op: Op, a: &[u64], b: &[u64], out: &mut [u64]) -> Answer
     ensures { λ r. ⌜ Answered (setResult op (now (a .entry)) (now (b .entry)) (length (now (out .entry)))) r (now (out .entry)) (now (out .exit)) ⌝ }
 {
-    if is_pick_list(a) {
-        if is_pick_list(b) {
+    if picklist::is_pick_list(a) {
+        if picklist::is_pick_list(b) {
             if has_room(op, a, b, out.len()) {
                 return Answer::Done(sweep(op, a, b, out));
             }

@@ -4,8 +4,7 @@ use mathlib.Core.Logic.{⊎-elim}
 use native.Mathlib.Numerals.{add-one}
 use native.Mathlib.Omega.{arith}
 use Rattle.cellid.specs.CellId.{childOf}
-use Rattle.region.specs.Region.{intersectsCell, containsCell}
-use Rattle.region.specs.declared.Region.{Region}
+use Rattle.region.specs.Region.{Area, areaOf, intersectsCell, containsCell}
 use Rattle.run.specs.declared.Found.{Found}
 use Rattle.run.specs.Masks.{upTo, found, foundPart}
 use Rattle.run.proofs.Masks.{part-more, part-none, found-four}
@@ -26,40 +25,40 @@ use Rattle.region.proofs.look_children.Reads as look-children-reads
 use Rattle.candidate.proofs.+expand_children.{statement}
 use Rattle.candidate.proofs.+expand_children.Tie.{close}
 
-abbrev μ-expand-children : Measures 0 expand-children-kinds.ps ℕ
-μ-expand-children κs a = a .1 .1 .1 .0
+abbrev μ-expand-children : Measures 1 expand-children-kinds.ps ℕ
+μ-expand-children κs a = a .1 .1 .1 .1 .0
 
-abbrev expand-children-at : ℕ → In 0 expand-children-kinds.ps
+abbrev expand-children-at : ℕ → In 1 expand-children-kinds.ps
 expand-children-at t =
     and
-    0
+    1
     expand-children-kinds.ps
-    (is 0 expand-children-kinds.ps μ-expand-children t)
+    (is 1 expand-children-kinds.ps μ-expand-children t)
     expand-children.Pre
 
-abbrev expand-children-below : ℕ → In 0 expand-children-kinds.ps
+abbrev expand-children-below : ℕ → In 1 expand-children-kinds.ps
 expand-children-below t =
     and
-    0
+    1
     expand-children-kinds.ps
-    (falls 0 expand-children-kinds.ps _<_ μ-expand-children t)
+    (falls 1 expand-children-kinds.ps _<_ μ-expand-children t)
     expand-children.Pre
 
 abbrev expand-children-claims : ℕ → expand-children-lts.Claims
 expand-children-claims t = (children-reads.Asked, children-reads.Learnt, look-children-reads.Asked, look-children-reads.Learnt, child-reads.Asked, child-reads.Learnt, expand-children-below t, expand-children.Post, placed-reads.Asked, placed-reads.Learnt)
 
 -- a child's sets, with n levels left beneath it
-abbrev part : Request → Region → ℕ → ℕ → Found
-part q g = foundPart (taskOf q g)
+abbrev part : Request → Area → ℕ → ℕ → Found
+part q a = foundPart (taskOf q a)
 
 abbrev expand-children-Inv-loop : expand-children-lts.InvT-loop
-expand-children-Inv-loop q g id left less width meets acc₀ k₀ acc k = (k ≤ 4) × (acc ≡ upTo (part q g less) (2 ^ (2 * less)) id k)
+expand-children-Inv-loop q g list id left less width meets acc₀ k₀ acc k = (k ≤ 4) × (acc ≡ upTo (part q (areaOf g list) less) (2 ^ (2 * less)) id k)
 
 abbrev expand-children-μ-loop : expand-children-lts.MeasureT-loop
-expand-children-μ-loop q g id left less width meets acc₀ k₀ acc k = 4 - k
+expand-children-μ-loop q g list id left less width meets acc₀ k₀ acc k = 4 - k
 
 expand-children-children-requires : (t : ℕ) → expand-children-lts.Need-children-requires (expand-children-claims t) (expand-children-at t) expand-children.Post expand-children-Inv-loop expand-children-μ-loop
-expand-children-children-requires t c κs = (c .before .pre .1 .0, (c .before .pre .1 .1 .1 .0, omega (arith, c .before .pre .1 .1 .1 .1, c .before .pre .1 .1 .0 .0)))
+expand-children-children-requires t c κs = (c .before .before .pre .1 .0, (c .before .before .pre .1 .1 .1 .0, omega (arith, c .before .before .pre .1 .1 .1 .1, c .before .before .pre .1 .1 .0 .0)))
 
 expand-children-returns : (t : ℕ) → expand-children-lts.Need-returns (expand-children-claims t) (expand-children-at t) expand-children.Post expand-children-Inv-loop expand-children-μ-loop
 expand-children-returns t c = rw (c .before .if1 .taken) (c .children .ensures)
@@ -74,7 +73,7 @@ expand-children-shl-width : (t : ℕ) → expand-children-lts.Need-shl-width (ex
 expand-children-shl-width t c = omega arith
 
 expand-children-look-children-requires : (t : ℕ) → expand-children-lts.Need-look-children-requires (expand-children-claims t) (expand-children-at t) expand-children.Post expand-children-Inv-loop expand-children-μ-loop
-expand-children-look-children-requires t c κs = (c .before .pre .1 .0 .region, c .before .pre .1 .1 .1 .0, omega (arith, c .before .pre .1 .1 .1 .1, c .before .pre .1 .1 .0 .0))
+expand-children-look-children-requires t c κs = (c .before .before .pre .1 .0 .region, c .before .before .pre .1 .1 .1 .0, omega (arith, c .before .before .pre .1 .1 .1 .1, c .before .before .pre .1 .1 .0 .0))
 
 expand-children-loop-holds : (t : ℕ) → expand-children-lts.Need-loop-holds (expand-children-claims t) (expand-children-at t) expand-children.Post expand-children-Inv-loop expand-children-μ-loop
 unfolding upTo
@@ -84,11 +83,11 @@ expand-children-shr-if2 : (t : ℕ) → expand-children-lts.Need-shr-if2 (expand
 expand-children-shr-if2 t c = omega arith
 
 expand-children-child-requires : (t : ℕ) → expand-children-lts.Need-child-requires (expand-children-claims t) (expand-children-at t) expand-children.Post expand-children-Inv-loop expand-children-μ-loop
-expand-children-child-requires t c κs = (positive _ (c .before .before .before .before .before .pre .1 .1 .1 .0), omega arith)
+expand-children-child-requires t c κs = (positive _ (c .before .before .before .before .before .before .pre .1 .1 .1 .0), omega arith)
 
 expand-children-expand-children-requires : (t : ℕ) → expand-children-lts.Need-expand-children-requires (expand-children-claims t) (expand-children-at t) expand-children.Post expand-children-Inv-loop expand-children-μ-loop
 expand-children-expand-children-requires t c κs =
-    let z = c .before .before .before .before .before .before in
+    let z = c .before .before .before .before .before .before .before in
     let k = c .before .before .before .loop .k in (
       omega (arith, z .pre .0, z .pre .1 .1 .0 .0),
       (
@@ -102,12 +101,12 @@ expand-children-expand-children-requires t c κs =
 
 -- what the two ways give is the child's sets
 part-is : (t : ℕ) (c : expand-children-lts.Joined2 (expand-children-claims t) (expand-children-at t) expand-children.Post expand-children-Inv-loop expand-children-μ-loop)
-    → let z = c .before .before .before .before .before in c .if2 .f ≡ part (z .args .q) (z .args .g) (z .args .left - 1) (childOf (z .args .id) (c .before .before .loop .k))
+    → let z = c .before .before .before .before .before .before in c .if2 .f ≡ part (z .args .q) (areaOf (z .args .g) (z .args .list .now)) (z .args .left - 1) (childOf (z .args .id) (c .before .before .loop .k))
 part-is t c =
-    let z = c .before .before .before .before .before in
-    let T = taskOf (z .args .q) (z .args .g) in
-    let hits = intersectsCell (z .args .g) in
-    let within = containsCell (z .args .g) in
+    let z = c .before .before .before .before .before .before in
+    let T = taskOf (z .args .q) (areaOf (z .args .g) (z .args .list .now)) in
+    let hits = intersectsCell (areaOf (z .args .g) (z .args .list .now)) in
+    let within = containsCell (areaOf (z .args .g) (z .args .list .now)) in
     let some : 0 < z .args .left - 1 = omega (arith, z .pre .1 .1 .0 .0, c .before .before .before .before .if1 .left) in
     let k = c .before .before .loop .k in
     let n = z .args .left - 1 in
@@ -119,11 +118,11 @@ part-is t c =
 
 expand-children-placed-requires : (t : ℕ) → expand-children-lts.Need-placed-requires (expand-children-claims t) (expand-children-at t) expand-children.Post expand-children-Inv-loop expand-children-μ-loop
 expand-children-placed-requires t c κs =
-    let z = c .before .before .before .before .before in
+    let z = c .before .before .before .before .before .before in
     let n = z .args .left - 1 in
     let l : n ≤ 2 = omega (arith, z .pre .1 .1 .0 .1) in
     rw (part-is t c, c .before .before .loop .inv .1, width-is n l)
-    (roomy (taskOf (z .args .q) (z .args .g)) n (z .args .id) (c .before .before .loop .k) l (c .before .loop-test .taken))
+    (roomy (taskOf (z .args .q) (areaOf (z .args .g) (z .args .list .now))) n (z .args .id) (c .before .before .loop .k) l (c .before .loop-test .taken))
 
 expand-children-add-k : (t : ℕ) → expand-children-lts.Need-add-k (expand-children-claims t) (expand-children-at t) expand-children.Post expand-children-Inv-loop expand-children-μ-loop
 expand-children-add-k t c = omega arith
@@ -134,18 +133,18 @@ expand-children-loop-less t c = omega arith
 expand-children-loop-again : (t : ℕ) → expand-children-lts.Need-loop-again (expand-children-claims t) (expand-children-at t) expand-children.Post expand-children-Inv-loop expand-children-μ-loop
 unfolding upTo
 expand-children-loop-again t c =
-    let z = c .before .before .before .before .before .before in
+    let z = c .before .before .before .before .before .before .before in
     let l : z .args .left - 1 ≤ 2 = omega (arith, z .pre .1 .1 .0 .1) in
     (omega arith, c .placed .ensures ∙ rw (part-is t (c .before), c .before .before .before .loop .inv .1, width-is (z .args .left - 1) l, add-one))
 
 expand-children-returns-2 : (t : ℕ) → expand-children-lts.Need-returns-2 (expand-children-claims t) (expand-children-at t) expand-children.Post expand-children-Inv-loop expand-children-μ-loop
 expand-children-returns-2 t c =
-    let z = c .before .before .before .before in
+    let z = c .before .before .before .before .before in
     let four : c .before .loop .k ≡ 4 = omega arith in
     let more : z .args .left ≡ suc (z .args .left - 1) = omega (arith, z .pre .1 .1 .0 .0) in
-    c .before .loop .inv .1 ∙ ap (upTo (part (z .args .q) (z .args .g) (z .args .left - 1)) (2 ^ (2 * (z .args .left - 1))) (z .args .id)) four
-    ∙ sym (found-four (taskOf (z .args .q) (z .args .g)) (z .args .left - 1) (z .args .id))
-    ∙ ap (λ (n : ℕ). found (taskOf (z .args .q) (z .args .g)) n (z .args .id)) (sym more)
+    c .before .loop .inv .1 ∙ ap (upTo (part (z .args .q) (areaOf (z .args .g) (z .args .list .now)) (z .args .left - 1)) (2 ^ (2 * (z .args .left - 1))) (z .args .id)) four
+    ∙ sym (found-four (taskOf (z .args .q) (areaOf (z .args .g) (z .args .list .now))) (z .args .left - 1) (z .args .id))
+    ∙ ap (λ (n : ℕ). found (taskOf (z .args .q) (areaOf (z .args .g) (z .args .list .now))) n (z .args .id)) (sym more)
 
 pub +expand-children-spec : {M : Type 1} → statement M
 +expand-children-spec = close μ-expand-children λ t. expand-children-lts.spec (expand-children-claims t)

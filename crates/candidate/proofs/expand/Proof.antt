@@ -10,20 +10,20 @@ use Rattle.candidate.proofs.expand.Statement.{statement}
 use Rattle.candidate.proofs.expand.Tie as tie
 
 -- the depth in the two arms
-below : (c : tie.Then1) → let a = c .before .before .before .args in depth ((a .q)) (a .id) ≡ 1
-below c = let a = c .before .before .before .args in depth-low ((a .q)) (a .id) (omega (arith, c .before .before .level .ensures))
+below : (c : tie.Then1) → let a = c .before .before .before .before .args in depth ((a .q)) (a .id) ≡ 1
+below c = let a = c .before .before .before .before .args in depth-low ((a .q)) (a .id) (omega (arith, c .before .before .level .ensures))
 
-deeper : (c : tie.Else1) → let a = c .before .before .before .args in depth ((a .q)) (a .id) ≡ a .q .coverer .«level_mod»
-deeper c = let a = c .before .before .before .args in depth-high ((a .q)) (a .id) (omega (arith, c .before .before .level .ensures))
+deeper : (c : tie.Else1) → let a = c .before .before .before .before .args in depth ((a .q)) (a .id) ≡ a .q .coverer .«level_mod»
+deeper c = let a = c .before .before .before .before .args in depth-high ((a .q)) (a .id) (omega (arith, c .before .before .level .ensures))
 
 children-requires-2 : tie.Need-children-requires-2
 children-requires-2 c κs =
-    let z = c .before .before .before .before .before in
+    let z = c .before .before .before .before .before .before in
     (z .pre .0, (z .pre .1 .0, omega (arith, z .pre .1 .1, deeper (c .before .before), c .if2 .taken)))
 
 expand-children-requires : tie.Need-expand-children-requires
 expand-children-requires c κs =
-    let z = c .before .before .before .before .before in
+    let z = c .before .before .before .before .before .before in
     (z .pre .0, ((z .pre .0 .some, z .pre .0 .few), (z .pre .1 .0, subst (λ (n : ℕ). levelOf (z .args .id) + n ≤ 30) (deeper (c .before .before)) (z .pre .1 .1))))
 
 returns : tie.Need-returns

@@ -11,6 +11,7 @@ pub call-spec : {M : Type 1} → statement M
 call-spec =
     tie.close
     (tie.spec
+    (λ c. search needs)
     (λ c κs. search needs)
     (λ c κs. search needs)
     (λ c. search needs)

@@ -1,63 +1,17 @@
-use mathlib.Core.Path.{refl}
-use Prim.Native.Nat.{_-_}
-use native.Mathlib.Omega.{arith}
-use Rattle.cellunion.proofs.Memory.{Laying, lay-turn, lay-done, lay-none}
+-- `cellunion::lay`: there is no room, or the words are copied.
+use borrow.Author.Needs.{needs}
+use Rattle.cellunion.proofs.Memory.{lay-done, lay-none}
 use Rattle.cellunion.proofs.lay.Statement.{statement}
 use Rattle.cellunion.proofs.lay.Tie as tie
 
-abbrev Inv-loop : tie.InvT-loop
-Inv-loop mem n out₀ i₀ out i = Laying mem n out₀ out i
+returns : tie.Need-returns
+returns c = lay-none _ _ _ (c .before .before .before .pre) (c .if1 .taken)
 
-abbrev μ-loop : tie.MeasureT-loop
-μ-loop mem n out₀ i₀ out i = n - i
-
-returns : tie.Need-returns Inv-loop μ-loop
-returns c = lay-none _ _ _ (c .before .pre) (c .if1 .taken)
-
-loop-holds : tie.Need-loop-holds Inv-loop μ-loop
-loop-holds c = record { within = omega arith; have = c .before .pre; room = c .if1 .left; len = refl; same = refl }
-
-mul-out : tie.Need-mul-out Inv-loop μ-loop
-mul-out c = omega (arith, c .before .loop .inv .have)
-
-shared-slice-read-out : tie.Need-shared-slice-read-out Inv-loop μ-loop
-shared-slice-read-out c = omega (arith, c .before .before .loop .inv .have)
-
-mul-out-2 : tie.Need-mul-out-2 Inv-loop μ-loop
-mul-out-2 c = omega (arith, c .before .before .loop .inv .room, c .before .before .loop .inv .len)
-
-slice-write-out : tie.Need-slice-write-out Inv-loop μ-loop
-slice-write-out c = omega (arith, c .before .before .loop .inv .room, c .before .before .loop .inv .len)
-
-add-i : tie.Need-add-i Inv-loop μ-loop
-add-i c = omega arith
-
-loop-less : tie.Need-loop-less Inv-loop μ-loop
-loop-less c = omega arith
-
-loop-again : tie.Need-loop-again Inv-loop μ-loop
-loop-again c = lay-turn _ _ _ _ _ (c .before .before .loop .inv) (c .before .loop-test .taken)
-
-same-length : tie.Need-same-length Inv-loop μ-loop
-same-length c = c .before .loop .inv .len
-
-returns-2 : tie.Need-returns-2 Inv-loop μ-loop
-returns-2 c = lay-done _ _ _ _ _ (c .before .loop .inv) (c .loop-test .left)
+returns-2 : tie.Need-returns-2
+returns-2 c =
+    let k = c .before .before in
+    let t = k .before .before in
+    lay-done _ _ _ _ (t .before .before .before .pre) (t .if1 .left) (k .copy .ensures)
 
 pub lay-spec : {M : Type 1} → statement M
-lay-spec =
-    tie.close
-    (tie.spec
-    Inv-loop
-    μ-loop
-    returns
-    loop-holds
-    mul-out
-    shared-slice-read-out
-    mul-out-2
-    slice-write-out
-    add-i
-    loop-less
-    loop-again
-    same-length
-    returns-2)
+lay-spec = tie.close (tie.spec returns (λ c κs. search needs) (λ c. search needs) returns-2)

@@ -7,11 +7,11 @@ use Rattle.cover.proofs.run.Statement.{statement}
 use Rattle.cover.proofs.run.Tie as tie
 
 abbrev Inv-loop : tie.InvT-loop
-Inv-loop buf₀ mem₀ out₀ page₀ longest next₀ filled₀ number₀ answered₀ waiting₀ buf mem out page next filled number answered waiting =
-    (length buf ≡ length buf₀) × (length mem ≡ length mem₀) × (length out ≡ length out₀) × (length page ≡ length page₀) × (next ≤ filled) × (filled ≤ length buf₀) × (answered ≤ number) × (waiting ≤ length page₀)
+Inv-loop buf₀ words₀ mem₀ out₀ page₀ longest next₀ filled₀ number₀ answered₀ waiting₀ buf words mem out page next filled number answered waiting =
+    (length buf ≡ length buf₀) × (length words ≡ length words₀) × (length mem ≡ length mem₀) × (length out ≡ length out₀) × (length page ≡ length page₀) × (next ≤ filled) × (filled ≤ length buf₀) × (answered ≤ number) × (waiting ≤ length page₀)
 
 abbrev μ-loop : tie.MeasureT-loop
-μ-loop buf₀ mem₀ out₀ page₀ longest next₀ filled₀ number₀ answered₀ waiting₀ buf mem out page next filled number answered waiting = 18446744073709551615 - number
+μ-loop buf₀ words₀ mem₀ out₀ page₀ longest next₀ filled₀ number₀ answered₀ waiting₀ buf words mem out page next filled number answered waiting = 18446744073709551615 - number
 
 pub run-spec : {M : Type 1} → statement M
 run-spec =
@@ -29,19 +29,22 @@ run-spec =
     (λ c. search needs)
     (λ c. search needs)
     (λ c. search needs)
-    (λ c κs. search needs)
-    (λ c κs. search needs)
-    (λ c. search needs)
-    (λ c. search needs)
-    (λ c. search needs)
-    (λ c. search needs)
-    (λ c. search needs)
-    (λ c. search needs)
-    (λ c. search needs)
-    (λ c. search needs)
-    (λ c. search needs)
     (λ c. search needs)
     (λ c κs. search needs)
+    (λ c κs. search needs)
+    (λ c. search needs)
+    (λ c. search needs)
+    (λ c. search needs)
+    (λ c. search needs)
+    (λ c. search needs)
+    (λ c. search needs)
+    (λ c. search needs)
+    (λ c. search needs)
+    (λ c. search needs)
+    (λ c. search needs)
+    (λ c. search needs)
+    (λ c κs. search needs)
+    (λ c. search needs)
     (λ c. search needs)
     (λ c. search needs)
     (λ c. search needs)

@@ -14,28 +14,28 @@ same-length c = search needs
 
 returns : tie.Need-returns
 returns c =
-    let at = c .before .before .before .before .before .before in
+    let at = c .before .before .before .before .before .before .before in
     add-kept _ (domain _ _ (at .pre .1 .0 .asks)) _ _ _ _ (at .pre .1 .1 .0) _ _ (c .before .before .before .before .if1 .taken) (c .before .before .keep .ensures .0 _) (c .before .before .keep .ensures .1)
 
 expand-requires : tie.Need-expand-requires
 expand-requires c κs =
-    let at = c .before .before in
+    let at = c .before .before .before in
     let D = domain _ _ (at .pre .1 .0 .asks) in
     (at .pre .1 .0 .asks, expands _ D _ (queued _ D _ _ (c .if1 .left) (at .pre .1 .1 .0)))
 
 lsb-requires : tie.Need-lsb-requires
 lsb-requires c κs =
-    let at = c .before .before .before .before .before in
+    let at = c .before .before .before .before .before .before in
     cell-pos _ _ _ (at .pre .1 .1 .0 .fit .cell)
 
 set-aside-requires : tie.Need-set-aside-requires
 set-aside-requires c κs =
-    let at = c .before .before .before .before .before .before in
+    let at = c .before .before .before .before .before .before .before in
     omega (arith, c .lsb .ensures, low-leaves _ (at .pre .1 .1 .0 .fit .cell), at .pre .1 .1 .1)
 
 returns-2 : tie.Need-returns-2
 returns-2 c =
-    let at = c .before .before .before .before .before .before .before in
+    let at = c .before .before .before .before .before .before .before .before in
     add-empty _ (domain _ _ (at .pre .1 .0 .asks)) _ _ _ _ (at .pre .1 .1 .0) _ _ _ (c .before .before .before .before .before .if1 .left) (c .before .before .before .before .expand .ensures) (c .before .before .if2 .taken) (c .before .lsb .ensures) (c .set-aside .ensures)
 
 lifts-requires : tie.Need-lifts-requires
@@ -49,14 +49,14 @@ same-length-2 c = search needs
 
 returns-3 : tie.Need-returns-3
 returns-3 c =
-    let at = c .before .before .before .before .before .before .before .before .before .before .before in
+    let at = c .before .before .before .before .before .before .before .before .before .before .before .before in
     let go = c .before .before .before .before in
     add-lifted _ (domain _ _ (at .pre .1 .0 .asks)) _ _ _ _ (at .pre .1 .1 .0) _ _ _ _ _ (go .before .before .before .before .before .if1 .left) (go .before .before .before .before .expand .ensures) (go .before .before .if2 .left) (at .pre .1 .0 .rule) (go .before .lifts .ensures) (go .if3 .taken)
     (c .before .before .keep2 .ensures .0 _) (c .before .before .keep2 .ensures .1)
 
 enqueue-requires : tie.Need-enqueue-requires
 enqueue-requires c κs =
-    let at = c .before .before .before .before .before .before .before .before in
+    let at = c .before .before .before .before .before .before .before .before .before in
     (at .pre .0, narrow _ _ _ (at .pre .1 .0))
 
 same-length-3 : tie.Need-same-length-3
@@ -64,7 +64,7 @@ same-length-3 c = search needs
 
 returns-4 : tie.Need-returns-4
 returns-4 c =
-    let at = c .before .before .before .before .before .before .before .before .before .before .before in
+    let at = c .before .before .before .before .before .before .before .before .before .before .before .before in
     let go = c .before .before .before .before in
     add-queued _ (domain _ _ (at .pre .1 .0 .asks)) _ _ _ _ (at .pre .1 .1 .0) _ _ _ _ _ (go .before .before .before .before .before .if1 .left) (go .before .before .before .before .expand .ensures) (go .before .before .if2 .left) (at .pre .1 .0 .rule) (go .before .lifts .ensures) (go .if3 .left)
     (c .before .before .enqueue .ensures .0 _) (c .before .before .enqueue .ensures .1)

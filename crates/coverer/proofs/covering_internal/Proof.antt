@@ -19,7 +19,7 @@ enum-known-r-2 c = search needs
 
 proceed-requires : tie.Need-proceed-requires
 proceed-requires c κs =
-    let z = c .before .before .before .before .before .before .before .before .before in
+    let z = c .before .before .before .before .before .before .before .before .before .before in
     let d = c .before .before .before .before .before .before .initial-candidates in
     let e = c .before .before .r2 .given .1 in
     let six : length (take (z .args .count) (z .args .ids)) ≤ 6 = omega (arith, length-take (z .args .count) (z .args .ids), z .pre .1 .1 .0) in

@@ -10,7 +10,7 @@ use Rattle.coverer.proofs.Steps.{depth-le, Broods, brood-room, brood-fa
 use Rattle.coverer.specs.Engine.{childrenFrom, leavesIn, broodOf, recOf, grown}
 use Rattle.coverer.specs.declared.Brood.{Brood}
 use Rattle.queue.specs.declared.Rec.{Rec}
-use Rattle.region.specs.declared.Region.{Region}
+use Rattle.region.specs.Region.{Area}
 use Rattle.run.specs.Run.{depth}
 use borrow.Author.Needs.{needs}
 use lib.Count.{ones}
@@ -19,41 +19,41 @@ use native.Mathlib.Omega.{arith}
 use Rattle.coverer.proofs.hand_on.Statement.{statement}
 use Rattle.coverer.proofs.hand_on.Tie as tie
 
-made : (q : Request) (g : Region) (A : Asks q g) (r : Rec) (n k : ℕ) (b : Brood) → Queued (taskOf q g) (r .id) × (r ≡ recOf (taskOf q g) (grown 0 (r .id))) → n ≡ depth q (r .id) → k ≡ ones (r .present) → b ≡ broodOf n r
-    → Broods (taskOf q g) (domain q g A) r n k b
-made q g A r n k b Q en ek eb = record { queued = Q .0; sets = Q .1; levels = en; count = ek; is = eb }
+made : (q : Request) (a : Area) (A : Asks q a) (r : Rec) (n k : ℕ) (b : Brood) → Queued (taskOf q a) (r .id) × (r ≡ recOf (taskOf q a) (grown 0 (r .id))) → n ≡ depth q (r .id) → k ≡ ones (r .present) → b ≡ broodOf n r
+    → Broods (taskOf q a) (domain q a A) r n k b
+made q a A r n k b Q en ek eb = record { queued = Q .0; sets = Q .1; levels = en; count = ek; is = eb }
 
 levels-under-requires : tie.Need-levels-under-requires
 levels-under-requires c κs = search needs
 
 cells-under-requires : tie.Need-cells-under-requires
 cells-under-requires c κs =
-    let z = c .before .before in
+    let z = c .before .before .before in
     let A = z .pre .1 .0 .asks in
     let few : depth ((z .args .q)) (z .args .r .id) ≤ 3 = depth-le ((z .args .q)) (z .args .r .id) (A .some) (A .few) in
     (cell-pos _ _ _ (z .pre .1 .1 .0 .0 .fit .cell), omega (arith, c .levels-under .ensures))
 
 sub-failed : tie.Need-sub-failed
 sub-failed c =
-    let z = c .before .before .before .before in
+    let z = c .before .before .before .before .before in
     let h : z .args .children ≤ c .before .cells-under .result .places = brood-room _ _ _ _ _ _ (made _ _ (z .pre .1 .0 .asks) _ _ _ _ (z .pre .1 .1 .0) (c .before .before .levels-under .ensures) (z .pre .1 .1 .1 .0) (c .before .cells-under .ensures)) in
     omega arith
 
 mul-failed : tie.Need-mul-failed
 mul-failed c =
-    let z = c .before .before .before .before .before in
+    let z = c .before .before .before .before .before .before in
     let h : (c .before .before .cells-under .result .places - z .args .children) * c .before .before .cells-under .result .unit ≤ leavesOf (z .args .r .id) = brood-failed-le _ _ _ _ _ _ (made _ _ (z .pre .1 .0 .asks) _ _ _ _ (z .pre .1 .1 .0) (c .before .before .before .levels-under .ensures) (z .pre .1 .1 .1 .0) (c .before .before .cells-under .ensures)) in
     omega (arith, z .pre .1 .1 .1 .1)
 
 set-aside-requires : tie.Need-set-aside-requires
 set-aside-requires c κs =
-    let z = c .before .before .before .before .before .before in
+    let z = c .before .before .before .before .before .before .before in
     let h : (c .before .before .before .cells-under .result .places - z .args .children) * c .before .before .before .cells-under .result .unit ≤ leavesOf (z .args .r .id) = brood-failed-le _ _ _ _ _ _ (made _ _ (z .pre .1 .0 .asks) _ _ _ _ (z .pre .1 .1 .0) (c .before .before .before .before .levels-under .ensures) (z .pre .1 .1 .1 .0) (c .before .before .before .cells-under .ensures)) in
     omega (arith, z .pre .1 .1 .1 .1)
 
 add-children-requires : tie.Need-add-children-requires
 add-children-requires c κs =
-    let z = c .before .before .before .before .before .before .before in
+    let z = c .before .before .before .before .before .before .before .before in
     let A = z .pre .1 .0 .asks in
     let B = made _ _ (z .pre .1 .0 .asks) _ _ _ _ (z .pre .1 .1 .0) (c .before .before .before .before .before .levels-under .ensures) (z .pre .1 .1 .1 .0) (c .before .before .before .before .cells-under .ensures) in
     let h : c .set-aside .result .aside + leavesIn (childrenFrom (c .before .before .before .before .cells-under .result) 0) ≤ z .args .t .aside + leavesOf (z .args .r .id) = brood-leaves _ _ _ _ _ _ B _ _ (c .set-aside .ensures) in
@@ -64,7 +64,7 @@ same-length c = search needs
 
 returns : tie.Need-returns
 returns c =
-    let z = c .before .before .before .before .before .before .before .before .before .before in
+    let z = c .before .before .before .before .before .before .before .before .before .before .before in
     hands _ _ _ _ _ _ (made _ _ (z .pre .1 .0 .asks) _ _ _ _ (z .pre .1 .1 .0) (c .before .before .before .before .before .before .before .before .levels-under .ensures) (z .pre .1 .1 .1 .0) (c .before .before .before .before .before .before .before .cells-under .ensures)) _ _ _ _ _ (c .before .before .before .set-aside .ensures) (c .before .before .add-children .ensures)
 
 pub hand-on-spec : {M : Type 1} → statement M

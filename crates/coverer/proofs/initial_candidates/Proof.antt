@@ -6,7 +6,7 @@ use Rattle.coverer.proofs.Runs.{Starting, starting, starting-turn, star
 use Rattle.coverer.specs.declared.Counts.{Counts}
 use Rattle.order.specs.Order.{All}
 use Rattle.order.proofs.OrderLaws.{all-get}
-use Rattle.region.specs.declared.Region.{Region}
+use Rattle.region.specs.Region.{Area, areaOf}
 use Rattle.run.proofs.Totals.{leaves-le}
 use Rattle.run.specs.Ground.{Fit}
 use borrow.Author.Needs.{needs}
@@ -18,12 +18,12 @@ use native.Mathlib.Omega.{arith}
 use Rattle.coverer.proofs.initial_candidates.Statement.{statement}
 use Rattle.coverer.proofs.initial_candidates.Tie as tie
 
-record Inv (q : Request) (g : Region) (count : ℕ) (ids m₀ m : List ℕ) (t : Counts) (i : ℕ) : Type 0 where
+record Inv (q : Request) (a : Area) (count : ℕ) (ids m₀ m : List ℕ) (t : Counts) (i : ℕ) : Type 0 where
   within : i ≤ count
   six : count ≤ 6
   wide : length ids ≡ 6
   long : length m ≡ length m₀
-  starting : Starting (taskOf q g) (take count ids) m₀ m t i
+  starting : Starting (taskOf q a) (take count ids) m₀ m t i
 
 -- the i-th of the start cells
 inside : (count i : ℕ) (ids : List ℕ) → i < count → count ≤ 6 → length ids ≡ 6 → i < length (take count ids)
@@ -33,13 +33,13 @@ cell : (q : Request) (count i : ℕ) (ids : List ℕ) → i < count → count �
 cell q count i ids h six wide a = subst (Fit q) (getD-take count ids i 0 h) (all-get (Fit q) (take count ids) 0 i (inside count i ids h six wide) a)
 
 abbrev Inv-loop : tie.InvT-loop
-Inv-loop m₀ q g w count ids t₀ i₀ m t i = Inv q g count ids m₀ m t i
+Inv-loop m₀ q g list w count ids t₀ i₀ m t i = Inv q (areaOf g list) count ids m₀ m t i
 
 abbrev μ-loop : tie.MeasureT-loop
-μ-loop m₀ q g w count ids t₀ i₀ m t i = count - i
+μ-loop m₀ q g list w count ids t₀ i₀ m t i = count - i
 
 loop-holds : tie.Need-loop-holds Inv-loop μ-loop
-loop-holds c = record { within = omega arith; six = c .before .pre .1 .1 .0; wide = omega arith; long = refl; starting = starting _ _ _ }
+loop-holds c = record { within = omega arith; six = c .before .before .pre .1 .1 .0; wide = omega arith; long = refl; starting = starting _ _ _ }
 
 mul-start : tie.Need-mul-start Inv-loop μ-loop
 mul-start c = omega arith
@@ -50,10 +50,10 @@ array-read-start c = let I = c .before .before .loop .inv in
 
 start-requires : tie.Need-start-requires Inv-loop μ-loop
 start-requires c κs =
-    let z = c .before .before .before .before in
+    let z = c .before .before .before .before .before in
     let I = c .before .before .loop .inv in
     let F = cell _ _ _ _ (c .before .loop-test .taken) (I .six) (I .wide) (z .pre .1 .1 .1) in
-    (omega (arith, z .pre .0, I .long), (z .pre .1 .0, (F, omega (arith, I .starting .room, I .six, c .before .loop-test .taken, leaves-le (getD (z .args .t5) (c .before .before .loop .i) 0)))))
+    (omega (arith, z .pre .0, I .long), (z .pre .1 .0, (F, omega (arith, I .starting .room, I .six, c .before .loop-test .taken, leaves-le (getD (z .args .t6) (c .before .before .loop .i) 0)))))
 
 enum-known-r : tie.Need-enum-known-r Inv-loop μ-loop
 enum-known-r c = search needs
@@ -95,7 +95,7 @@ same-length-2 c = c .before .loop .inv .long
 returns-2 : tie.Need-returns-2 Inv-loop μ-loop
 returns-2 c =
     let I = c .before .loop .inv in
-    let n : c .before .loop .i ≡ c .before .before .before .args .count = omega (arith, I .within, c .loop-test .left) in
+    let n : c .before .loop .i ≡ c .before .before .before .before .args .count = omega (arith, I .within, c .loop-test .left) in
     starting-end _ _ _ _ _ _ (n ∙ sym (length-take-le _ _ (omega (arith, I .six, I .wide)))) (I .starting)
 
 pub initial-candidates-spec : {M : Type 1} → statement M

@@ -13,16 +13,16 @@ sub-n c = search needs
 
 pop-requires : tie.Need-pop-requires
 pop-requires c κs =
-    let z = c .before .before .before in
+    let z = c .before .before .before .before in
     let few : z .args .t .queued ≤ queueMost = z .pre .1 .1 .0 .2 .few in
     (omega (arith, z .pre .0, z .pre .1 .1 .1 .0), narrow _ _ _ (z .pre .1 .0))
 
-add-t12 : tie.Need-add-t12
-add-t12 c = search needs
+add-t13 : tie.Need-add-t13
+add-t13 c = search needs
 
 use-taken-requires : tie.Need-use-taken-requires
 use-taken-requires c κs =
-    let z = c .before .before .before .before .before .before .before .before in
+    let z = c .before .before .before .before .before .before .before .before .before in
     let p = c .before .before .before .before .pop in
     let L = z .pre .1 .1 .0 in
     let T = takes _ (domain _ _ (z .pre .1 .0 .asks)) _ _ _ _ (z .pre .0) (z .pre .1 .1 .1 .0) (p .ensures .0) (L .1) (L .2) in
@@ -33,9 +33,9 @@ same-length c = search needs
 
 returns : tie.Need-returns
 returns c =
-    let z = c .before .before .before .before .before .before .before .before .before .before .before in
+    let z = c .before .before .before .before .before .before .before .before .before .before .before .before in
     let p = c .before .before .before .before .before .before .before .pop in
     steps _ (domain _ _ (z .pre .1 .0 .asks)) _ _ _ _ _ _ _ (z .pre .0) (z .pre .1 .1 .1 .0) (z .pre .1 .1 .0 .2 .few) (z .pre .1 .0 .rule) (p .ensures .0) (p .ensures .1) (c .before .before .use-taken .ensures)
 
 pub step-spec : {M : Type 1} → statement M
-step-spec = tie.close (tie.spec sub-n pop-requires add-t12 use-taken-requires same-length returns)
+step-spec = tie.close (tie.spec sub-n pop-requires add-t13 use-taken-requires same-length returns)

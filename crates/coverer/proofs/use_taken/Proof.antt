@@ -10,7 +10,7 @@ is-full-requires c κs = search needs
 
 returns : tie.Need-returns
 returns c =
-    let z = c .before .before .before in
+    let z = c .before .before .before .before in
     taken-full _ (domain _ _ (z .pre .1 .0 .asks)) _ _ (z .pre .0) _ (c .before .is-full .ensures) _ (c .if1 .taken)
 
 count-requires : tie.Need-count-requires
@@ -21,7 +21,7 @@ is-handed-on-requires c κs = search needs
 
 hand-on-requires : tie.Need-hand-on-requires
 hand-on-requires c κs =
-    let z = c .before .before .before .before .before .before .before in
+    let z = c .before .before .before .before .before .before .before .before in
     (z .pre .0, (z .pre .1 .0, (z .pre .1 .1 .1 .0, (c .before .before .before .count .ensures .0, z .pre .1 .1 .1 .1))))
 
 keep-requires : tie.Need-keep-requires
@@ -32,7 +32,7 @@ same-length c = search needs
 
 returns-2 : tie.Need-returns-2
 returns-2 c =
-    let z = c .before .before .before .before .before .before .before .before .before .before in
+    let z = c .before .before .before .before .before .before .before .before .before .before .before in
     let go = c .before .before .before .before in
     taken-handed _ (domain _ _ (z .pre .1 .0 .asks)) _ _ (z .pre .0) _ (go .before .before .before .before .is-full .ensures) _ (z .pre .1 .1 .1 .0 .1) _ (go .before .before .count .ensures .0) _ (go .before .is-handed-on .ensures) (go .before .before .before .if1 .left) _ _ (go .if2 .taken) (c .before .before .hand-on .ensures)
 
@@ -41,7 +41,7 @@ same-length-2 c = search needs
 
 returns-3 : tie.Need-returns-3
 returns-3 c =
-    let z = c .before .before .before .before .before .before .before .before .before .before in
+    let z = c .before .before .before .before .before .before .before .before .before .before .before in
     let go = c .before .before .before .before in
     taken-kept _ (domain _ _ (z .pre .1 .0 .asks)) _ _ (z .pre .0) _ (go .before .before .before .before .is-full .ensures) _ (z .pre .1 .1 .1 .0 .1) _ (go .before .before .count .ensures .0) _ (go .before .is-handed-on .ensures) (go .before .before .before .if1 .left) _ _ (go .if2 .left) (c .before .before .keep .ensures .0 _)
 

@@ -1,4 +1,5 @@
 -- `covering::run_from_starts` meets its contract: the start cells are as the run asks. Assumes nothing.
+use mathlib.Core.Path.{refl}
 use Rattle.bars.proofs.Early.{early-none}
 use Rattle.covering.proofs.Starts.{valid-domain, run-asks, run-gives}
 use borrow.Author.Needs.{needs}
@@ -7,25 +8,22 @@ use Rattle.covering.proofs.run_from_starts.Tie as tie
 
 starts-requires : tie.Need-starts-requires
 starts-requires c κs =
-    let v = early-none _ _ _ (c .before .pre) in
-    (valid-domain _ _ _ v, v .region)
+    let v = early-none _ _ _ (c .before .before .before .pre) in
+    (valid-domain _ _ _ v, v .region, v .long)
 
 run-requires : tie.Need-run-requires
 run-requires c κs =
-    let b = c .before .before in
-    let s = b .before .before in
-    let a = run-asks _ _ _ (early-none _ _ _ (s .pre)) (s .args .inner) _ _ _ (b .starts .ensures .0) (b .starts .ensures .1) in
+    let b = c .before .before .before .before in
+    let z = b .before .before .before .before in
+    let a = run-asks _ _ _ (early-none _ _ _ (z .pre)) (z .args .inner) _ _ _ (b .starts .ensures .0 .0) (b .starts .ensures .0 .1) _ (b .starts .kept .1 .1 .1 .0) in
     (a .0, (a .1, (a .2, a .3)))
-
-same-length : tie.Need-same-length
-same-length c = search needs
 
 returns : tie.Need-returns
 returns c =
     let r = c .before .before in
-    let b = r .before .before .before in
-    let s = b .before .before in
-    run-gives _ _ _ (early-none _ _ _ (s .pre)) (s .args .inner) _ _ _ (b .starts .ensures .0) (b .starts .ensures .1) _ _ _ _ (r .run .ensures .0, r .run .ensures .1)
+    let b = r .before .before .before .before .before in
+    let z = b .before .before .before .before in
+    run-gives _ _ _ (early-none _ _ _ (z .pre)) (z .args .inner) _ _ _ (b .starts .ensures .0 .0) (b .starts .ensures .0 .1) _ _ _ _ _ refl (b .starts .kept .1 .1 .1 .0) (b .starts .ensures .1) (r .run .ensures .0, r .run .ensures .1)
 
 pub run-from-starts-spec : {M : Type 1} → statement M
-run-from-starts-spec = tie.close (tie.spec starts-requires run-requires same-length returns)
+run-from-starts-spec = tie.close (tie.spec starts-requires run-requires (λ c. search needs) returns)

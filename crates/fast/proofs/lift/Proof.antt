@@ -6,7 +6,8 @@ use borrow.Author.Needs.{needs}
 use Rattle.cellid.specs.CellId.{levelOf, parentAt}
 use Rattle.fast.specs.Fast.{adjusted, lifted}
 use Rattle.fast.proofs.Levels.{adjusted-le}
-use Rattle.fast.proofs.Turns.{Lifting, lift-turn, lift-done}
+use Rattle.fast.proofs.Laws.{lifted-all}
+use Rattle.fast.proofs.Turns.{Lifting, lift-none, lift-turn, lift-done}
 use Rattle.fast.proofs.lift.Statement.{statement}
 use Rattle.fast.proofs.lift.Tie as tie
 
@@ -20,8 +21,14 @@ up-is : (low top step id level least up r : ℕ) → level ≡ levelOf id → le
 unfolding lifted
 up-is low top step id level least up r e f g h = h ∙ ap (parentAt id) (g ∙ ap (adjusted low step) (f ∙ ap (λ (l : ℕ). min l top) e))
 
+returns : tie.Need-returns Inv-loop μ-loop
+returns c =
+    let z = c .before .before .before in
+    let k = z .args .c in
+    lift-none (lifted (k .«min_level») (k .«max_level») (k .«level_mod»)) (z .args .n) (z .args .mem .now) (lifted-all (k .«min_level») (k .«max_level») (k .«level_mod») _ _ (z .pre .0 .some) (z .pre .1 .1) (c .before .takes-all-levels .ensures) (c .if1 .taken))
+
 loop-holds : tie.Need-loop-holds Inv-loop μ-loop
-loop-holds c = record { within = omega arith; room = c .before .pre .1; len = refl; same = refl }
+loop-holds c = record { within = omega arith; room = c .before .before .before .pre .1 .0; len = refl; same = refl }
 
 mul-id : tie.Need-mul-id Inv-loop μ-loop
 mul-id c = omega arith
@@ -36,11 +43,11 @@ lesser-requires : tie.Need-lesser-requires Inv-loop μ-loop
 lesser-requires c κs = search needs
 
 adjust-level-requires : tie.Need-adjust-level-requires Inv-loop μ-loop
-adjust-level-requires c κs = c .before .before .before .before .before .before .pre .0
+adjust-level-requires c κs = c .before .before .before .before .before .before .before .before .pre .0
 
 parent-requires : tie.Need-parent-requires Inv-loop μ-loop
 parent-requires c κs =
-    let s = c .before .before .before .before .before .before .before in
+    let s = c .before .before .before .before .before .before .before .before .before in
     omega (arith, s .pre .0 .deep, c .adjust-level .ensures, adjusted-le (s .args .c .«min_level») (s .args .c .«level_mod») (c .before .lesser .result), c .before .lesser .ensures)
 
 mul-mem : tie.Need-mul-mem Inv-loop μ-loop
@@ -63,8 +70,8 @@ loop-again c =
 same-length : tie.Need-same-length Inv-loop μ-loop
 same-length c = c .before .loop .inv .len
 
-returns : tie.Need-returns Inv-loop μ-loop
-returns c = lift-done _ _ _ _ _ (c .before .loop .inv) (c .loop-test .left)
+returns-2 : tie.Need-returns-2 Inv-loop μ-loop
+returns-2 c = lift-done _ _ _ _ _ (c .before .loop .inv) (c .loop-test .left)
 
 pub lift-spec : {M : Type 1} → statement M
 lift-spec =
@@ -72,6 +79,8 @@ lift-spec =
     (tie.spec
     Inv-loop
     μ-loop
+    (λ c κs. search needs)
+    returns
     loop-holds
     mul-id
     slice-read-id
@@ -85,4 +94,4 @@ lift-spec =
     loop-less
     loop-again
     same-length
-    returns)
+    returns-2)

@@ -4,10 +4,10 @@ use mathlib.Core.Path.{_≡_, refl, _∙_}
 use mathlib.Core.Logic.{⊎-elim}
 use Prim.Native.Nat.{_+_, _-_, _≤_, _<_}
 use native.Mathlib.Omega.{arith}
-use lib.ListN.{length, take, length-set}
+use lib.ListN.{length, take}
 use Rattle.fast.specs.Fast.{bestOf}
 use Rattle.fast.proofs.Merging.{merged-short, merged-stop}
-use Rattle.fast.proofs.Turns.{scan-better, scan-same, Going, going-start, going-size, going-cell, going-done, turn-place, turn-level, turn-cells, going-turn}
+use Rattle.fast.proofs.Turns.{scan-better, scan-same, Going, going-start, going-size, going-cell, going-done, turn-place, turn-level, turn-wide, going-turn}
 use Rattle.fast.proofs.merge.Statement.{statement}
 use Rattle.fast.proofs.merge.Tie as tie
 
@@ -37,7 +37,7 @@ scanned h =
     h .before .scan .inv .1 ∙ rw (i, going-size _ _ _ _ _ _ _ (at .merge .inv))
 
 merge-holds : tie.Need-merge-holds Inv-scan μ-scan Inv-merge μ-merge
-merge-holds c = let s = c .before in going-start _ _ _ _ _ (s .pre .1 .0) (s .pre .1 .1)
+merge-holds c = let s = c .before in going-start _ _ _ _ _ (s .pre .1) (s .pre .2)
 
 scan-holds : tie.Need-scan-holds Inv-scan μ-scan Inv-merge μ-merge
 unfolding bestOf
@@ -98,29 +98,28 @@ sub-parent c = omega (arith, c .before .if2 .left)
 parent-requires : tie.Need-parent-requires Inv-scan μ-scan Inv-merge μ-merge
 parent-requires c κs = omega (arith, turn-level _ _ _ _ _ _ _ (c .before .before .before .before .before .merge .inv) _ (scanned (c .before .before)) (c .before .if2 .left))
 
-mul-mem : tie.Need-mul-mem Inv-scan μ-scan Inv-merge μ-merge
-mul-mem c = omega (arith, turn-place _ _ _ _ _ _ _ (c .before .before .before .before .before .before .merge .inv) _ (scanned (c .before .before .before)) (c .before .before .if2 .left), room (c .before .before .before .before .before))
-
-slice-write-mem : tie.Need-slice-write-mem Inv-scan μ-scan Inv-merge μ-merge
-slice-write-mem c = omega (arith, turn-place _ _ _ _ _ _ _ (c .before .before .before .before .before .before .merge .inv) _ (scanned (c .before .before .before)) (c .before .before .if2 .left), room (c .before .before .before .before .before))
-
-normalize-requires : tie.Need-normalize-requires Inv-scan μ-scan Inv-merge μ-merge
-normalize-requires c κs =
+widen-requires : tie.Need-widen-requires Inv-scan μ-scan Inv-merge μ-merge
+widen-requires c κs =
     let e = c .before .before .before in
     let at = e .before .before .before .before in
-    (rw (length-set _ _ _) (room (e .before .before .before)), turn-cells _ _ _ _ _ _ _ (at .merge .inv) _ (scanned (e .before)) (e .if2 .left) _ (c .before .parent .ensures))
+    let w = turn-wide _ _ _ _ _ _ _ (at .merge .inv) _ (scanned (e .before)) (e .if2 .left) _ (c .before .parent .ensures) in
+    (room (e .before .before .before), at .merge .inv .normal, omega (arith, turn-place _ _ _ _ _ _ _ (at .merge .inv) _ (scanned (e .before)) (e .if2 .left)), w .0, w .1)
 
 merge-less : tie.Need-merge-less Inv-scan μ-scan Inv-merge μ-merge
 merge-less c =
-    let e = c .before .before .before .before .before .before in
+    let w = c .before .before in
+    let p = w .before .before in
+    let e = p .before .before in
     let at = e .before .before .before .before in
-    going-turn _ _ _ _ _ _ _ (at .merge .inv) _ (scanned (e .before)) (e .if2 .left) _ (c .before .before .before .before .parent .ensures) _ _ (e .before .before .before .merge-test .taken) (c .before .before .normalize .ensures .0) (c .before .before .normalize .ensures .1) .0
+    going-turn _ _ _ _ _ _ _ (at .merge .inv) _ (scanned (e .before)) (e .if2 .left) _ (p .parent .ensures) _ _ (e .before .before .before .merge-test .taken) (w .widen .ensures .0) (w .widen .ensures .1) .0
 
 merge-again : tie.Need-merge-again Inv-scan μ-scan Inv-merge μ-merge
 merge-again c =
-    let e = c .before .before .before .before .before .before in
+    let w = c .before .before in
+    let p = w .before .before in
+    let e = p .before .before in
     let at = e .before .before .before .before in
-    going-turn _ _ _ _ _ _ _ (at .merge .inv) _ (scanned (e .before)) (e .if2 .left) _ (c .before .before .before .before .parent .ensures) _ _ (e .before .before .before .merge-test .taken) (c .before .before .normalize .ensures .0) (c .before .before .normalize .ensures .1) .1
+    going-turn _ _ _ _ _ _ _ (at .merge .inv) _ (scanned (e .before)) (e .if2 .left) _ (p .parent .ensures) _ _ (e .before .before .before .merge-test .taken) (w .widen .ensures .0) (w .widen .ensures .1) .1
 
 same-length : tie.Need-same-length Inv-scan μ-scan Inv-merge μ-merge
 same-length c = c .before .merge .inv .len
@@ -162,9 +161,7 @@ merge-spec =
     slice-read-parent
     sub-parent
     parent-requires
-    mul-mem
-    slice-write-mem
-    normalize-requires
+    widen-requires
     merge-less
     merge-again
     same-length

@@ -5,7 +5,7 @@ use Rattle.fast.proofs.merge_covering.Statement.{statement}
 use Rattle.fast.proofs.merge_covering.Tie as tie
 
 lift-requires : tie.Need-lift-requires
-lift-requires c κs = (c .before .before .pre .0, c .before .before .pre .1 .0)
+lift-requires c κs = (c .before .before .pre .0, c .before .before .pre .1)
 
 normalize-requires : tie.Need-normalize-requires
 normalize-requires c κs =
@@ -18,7 +18,8 @@ merge-requires c κs =
     let k = c .before .before .before in
     let l = k .before .before .before .before in
     let s = l .before .before .before in
-    (s .pre .0, merge-asks _ _ _ 0 _ _ (s .pre .1 .0) (s .pre .1 .1) _ (l .lift .ensures) _ _ (k .normalize .ensures .0) (k .normalize .ensures .1))
+    let a = merge-asks _ _ _ 0 _ _ (s .pre .1 .0) (s .pre .1 .1) _ (l .lift .ensures) _ _ (k .normalize .ensures .0) (k .normalize .ensures .1) in
+    (s .pre .0, a .0, a .1)
 
 same-length : tie.Need-same-length
 same-length c = search needs

@@ -6,10 +6,18 @@ use Rattle.lines.proofs.answer.Statement.{statement}
 use Rattle.lines.proofs.answer.Tie as tie
 
 returns : tie.Need-returns
-returns c = replied-list _ _ _ _ _ _ _ _ _ (sym (c .before .before .before .before .before .before .before .before .before .before .before .asks-list .ensures) ∙ c .before .before .before .before .before .before .before .before .before .before .if1 .taken) (c .before .before .before .before .before .before .answer-list .ensures)
+returns c =
+    let a = c .before .before .before .before .before .before in
+    let i = a .before .before .before .before in
+    let l = i .before in
+    replied-list _ _ _ _ _ _ _ _ _ _ (sym (l .asks-list .ensures) ∙ i .if1 .taken) (a .answer-list .ensures)
 
 returns-2 : tie.Need-returns-2
-returns-2 c = replied-other _ _ _ _ _ _ _ _ _ (sym (c .before .before .before .before .before .before .before .before .before .before .before .asks-list .ensures) ∙ c .before .before .before .before .before .before .before .before .before .before .if1 .left) (c .before .before .before .before .before .before .answer .ensures)
+returns-2 c =
+    let a = c .before .before .before .before .before .before .before .before in
+    let i = a .before .before .before .before .before in
+    let l = i .before in
+    replied-other _ _ _ _ _ _ _ _ _ _ _ (sym (l .asks-list .ensures) ∙ i .if1 .left) (a .answer .ensures)
 
 pub answer-spec : {M : Type 1} → statement M
 answer-spec =
@@ -22,6 +30,7 @@ answer-spec =
     (λ c. search needs)
     returns
     (λ c κs. search needs)
+    (λ c. search needs)
     (λ c. search needs)
     (λ c. search needs)
     (λ c. search needs)

@@ -20,7 +20,7 @@ add-t14 c = omega (arith, read-fits _ _ _ _ (c .before .before .before .before .
 returns : tie.Need-returns
 returns c = let first = c .before .before .before .before .before .before in
     let second = c .before .before in
-    lists-read _ _ _ (first .read-list .result) (second .read-second .result) (first .before .before .before .before .args .mem .now) (first .read-list .last .1 .1 .0) (second .read-second .last .1 .1 .1 .0) (first .read-list .ensures) (second .read-second .ensures)
+    lists-read _ _ _ (first .read-list .result) (second .read-second .result) (first .before .before .before .before .args .words .now) (first .read-list .last .1 .1 .0) (second .read-second .last .1 .1 .1 .0) (first .read-list .ensures) (second .read-second .ensures)
 
 pub read-lists-spec : {M : Type 1} → statement M
 read-lists-spec =

@@ -1,4 +1,4 @@
--- `probe::answer_list`: none of the refusals 1 to 6 is due, and the ids are cells.
+-- `probe::answer_list`: none of the refusals 1 to 4 is due, and the ids are cells.
 use mathlib.Core.Path.{sym, _∙_}
 use Rattle.bars.proofs.Early.{early-none}
 use Rattle.covering.proofs.Starts.{valid-domain}
@@ -10,8 +10,9 @@ put-answer-requires : tie.Need-put-answer-requires
 put-answer-requires c κs =
     let e = c .before .before .before in
     let f = e .before .before in
+    let i = f .before .before .before in
     let v = early-none _ _ _ (sym (f .first-refusal .ensures) ∙ e .enum-told .given .1) in
-    (valid-domain _ _ _ v, v .region, f .before .cells-in-front .ensures)
+    (valid-domain _ _ _ v, i .cells-in-front .ensures)
 
 pub answer-list-spec : {M : Type 1} → statement M
 answer-list-spec =

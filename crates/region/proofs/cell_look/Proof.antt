@@ -1,6 +1,5 @@
 -- `region::cell_look` meets its contract.
-use native.Mathlib.Omega.{arith}
-use Rattle.cellid.proofs.Laws.{cell-pos, one-le}
+use Rattle.cellid.proofs.Laws.{cell-pos}
 use Rattle.cellid.proofs.Leaves.{child-valid}
 use borrow.Author.Needs.{needs}
 use Rattle.region.proofs.cell_look.Statement.{statement}
@@ -12,16 +11,8 @@ child-requires c κs = (cell-pos _ _ _ (c .pre .1 .2), c .pre .3)
 cell-intersects-requires : tie.Need-cell-intersects-requires
 cell-intersects-requires c κs = (c .before .pre .0, child-valid _ _ _ (c .before .pre .1) (c .before .pre .2) (c .before .pre .3) (c .child .ensures))
 
-mul-result : tie.Need-mul-result
-mul-result c = omega (arith, c .mark2 .ensures, one-le (c .before .cell-contains .result))
-
-add-result : tie.Need-add-result
-add-result c =
-    omega (arith, c .before .before .mark .ensures, c .mark2 .ensures, one-le (c .before .before .before .cell-intersects .result), one-le (c .before .cell-contains .result))
-
 returns : tie.Need-returns
-returns c =
-    rw (c .before .before .mark .ensures, c .mark2 .ensures, c .before .cell-contains .ensures, c .before .before .before .cell-intersects .ensures, c .before .before .before .before .child .ensures)
+returns c = rw (c .look .ensures, c .before .cell-contains .ensures, c .before .before .cell-intersects .ensures, c .before .before .before .child .ensures)
 
 pub cell-look-spec : {M : Type 1} → statement M
 cell-look-spec =
@@ -31,7 +22,4 @@ cell-look-spec =
     cell-intersects-requires
     (λ c κs. search needs)
     (λ c κs. search needs)
-    (λ c κs. search needs)
-    mul-result
-    add-result
     returns)

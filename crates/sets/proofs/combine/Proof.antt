@@ -1,7 +1,8 @@
 -- `sets::combine`: 15, 16 or 17, or the answer is written.
 use mathlib.Core.Path.{sym, _∙_}
 use borrow.Author.Needs.{needs}
-use Rattle.sets.proofs.Answers.{pick-list, answer-first, answer-second, answer-full, answer-done}
+use Rattle.picklist.proofs.Laws.{pick-list}
+use Rattle.sets.proofs.Answers.{answer-first, answer-second, answer-full, answer-done}
 use Rattle.sets.proofs.combine.Statement.{statement}
 use Rattle.sets.proofs.combine.Tie as tie
 

@@ -3,7 +3,8 @@ use mathlib.Core.Path.{ap}
 use Prim.Native.Nat.{ℕ}
 use lib.Dec.{leb}
 use borrow.Author.Needs.{needs}
-use Rattle.sets.proofs.Answers.{pick-list, room-sure}
+use Rattle.picklist.proofs.Laws.{pick-list}
+use Rattle.sets.proofs.Answers.{room-sure}
 use Rattle.sets.proofs.has_room.Statement.{statement}
 use Rattle.sets.proofs.has_room.Tie as tie
 

@@ -6,12 +6,18 @@ use Rattle.requests.proofs.line.read_asked.Tie as tie
 
 returns : tie.Need-returns
 returns c =
-    let e = c .before .before .before .before .before in
-    let o = e .before .before .before in
-    let k = o .before .before .before in
-    asked-read _ (k .before .read-start .result) (k .read-kind .result) (o .before .before .read-coverer .result) (o .before .read-region .result) (o .read-options .result) _ _ _ _ _ _
-    (k .before .read-start .ensures) (k .read-kind .ensures) (o .before .before .read-coverer .ensures) (o .before .read-region .ensures) (o .read-options .ensures) (e .read-end .ensures)
-    (c .before .before .before .before .kind-of .ensures) (c .before .before .before .value-or .ensures) (c .before .before .value-or2 .ensures) (c .before .value-or3 .ensures) (c .form-of .ensures)
+    let v = c .before .before in
+    let o = v .before in
+    let k = o .before in
+    let r = k .before in
+    let e = r .before .before .before in
+    let a = e .before .before .before in
+    let d = a .before .before in
+    let i = d .before in
+    let s = i .before in
+    asked-read _ _ _ _ (s .read-start .result) (i .read-kind .result) (d .read-coverer .result) (a .read-region .result) (e .read-options .result) _ _ _ _ _ _
+    (s .read-start .ensures) (i .read-kind .ensures) (d .read-coverer .ensures) (a .read-region .ensures) (e .read-options .ensures) (r .read-end .ensures) (k .kind-of .ensures) (o .value-or .ensures)
+    (v .value-or2 .ensures) (c .before .value-or3 .ensures) (c .form-of .ensures)
 
 pub read-asked-spec : {M : Type 1} → statement M
 read-asked-spec =
@@ -32,4 +38,5 @@ read-asked-spec =
     (λ c κs. search needs)
     (λ c. search needs)
     (λ c κs. search needs)
+    (λ c. search needs)
     returns)

@@ -1,8 +1,8 @@
--- `sets::is_pick_list`: short enough and a list, or too long.
+-- `picklist::is_pick_list`: short enough and a list, or too long.
 use borrow.Author.Needs.{needs}
-use Rattle.sets.proofs.Answers.{pick-yes, pick-no}
-use Rattle.sets.proofs.is_pick_list.Statement.{statement}
-use Rattle.sets.proofs.is_pick_list.Tie as tie
+use Rattle.picklist.proofs.Laws.{pick-yes, pick-no}
+use Rattle.picklist.proofs.is_pick_list.Statement.{statement}
+use Rattle.picklist.proofs.is_pick_list.Tie as tie
 
 returns : tie.Need-returns
 returns c = pick-yes _ _ (c .before .if1 .taken) (c .is-valid .ensures)
