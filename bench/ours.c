@@ -1,5 +1,5 @@
 /* ours FILE TIMES: answers the request lines of FILE, TIMES times over, by the functions of include/flaxbadger.h; the last time it writes
- * the answers as `cover` does. Takes `covering` and `interior`, without options. See bench/run and bench/lists. */
+ * the answers as `cover` does. Takes `covering` and `interior`, without options. See bench/run. */
 #include <inttypes.h>
 #include <stdio.h>
 #include <stdlib.h>
@@ -8,15 +8,12 @@
 #include "flaxbadger.h"
 
 #define PLACES 65536
-#define LINE 262144
 #define ALLOWANCE UINT32_MAX
 
 struct request {
     int inner, cap;
     uint64_t min, max, mod, cells, id;
     double x, y, z, radius;
-    uint64_t *list; /* NULL where the region is a cap or a cell */
-    size_t list_len;
 };
 
 static uint64_t mem[FLAXBADGER_MEMORY];
@@ -27,19 +24,6 @@ static double real(const char *digits) {
     double value;
     memcpy(&value, &bits, sizeof value);
     return value;
-}
-
-static int read_list(const char *words, struct request *r) {
-    char *at;
-    r->list = NULL;
-    if (strncmp(words, "list ", 5) == 0) {
-        r->list_len = strtoull(words + 5, &at, 10);
-        r->list = calloc(r->list_len + 1, sizeof *r->list);
-        for (size_t i = 0; r->list != NULL && i < r->list_len; i++) {
-            r->list[i] = strtoull(at, &at, 16);
-        }
-    }
-    return r->list != NULL;
 }
 
 static int read_line(const char *line, struct request *r) {
@@ -56,17 +40,13 @@ static int read_line(const char *line, struct request *r) {
         r->z = real(z);
         r->radius = real(radius);
     }
-    return (r->inner || strcmp(kind, "covering") == 0) && (read_list(line + start, r) || r->cap || sscanf(line + start, "cell %" SCNx64, &r->id) == 1);
+    return (r->inner || strcmp(kind, "covering") == 0) && (r->cap || sscanf(line + start, "cell %" SCNx64, &r->id) == 1);
 }
 
 static uint64_t answer(const struct request *r, uint64_t *count, uint64_t *steps, uint64_t *aside) {
     if (r->cap) {
         return (r->inner ? flaxbadger_interior_covering_cap : flaxbadger_covering_cap)(
             r->x, r->y, r->z, r->radius, r->min, r->max, r->mod, r->cells, ALLOWANCE, mem, FLAXBADGER_MEMORY, out, PLACES, count, steps, aside);
-    }
-    if (r->list != NULL) {
-        return (r->inner ? flaxbadger_interior_covering_list : flaxbadger_covering_list)(
-            r->list, r->list_len, r->min, r->max, r->mod, r->cells, ALLOWANCE, mem, FLAXBADGER_MEMORY, out, PLACES, count, steps, aside);
     }
     return (r->inner ? flaxbadger_interior_covering_cell : flaxbadger_covering_cell)(
         r->id, r->min, r->max, r->mod, r->cells, ALLOWANCE, mem, FLAXBADGER_MEMORY, out, PLACES, count, steps, aside);
@@ -85,7 +65,7 @@ static void write_answer(uint64_t number, uint64_t count, uint64_t steps, uint64
 }
 
 int main(int argc, char **argv) {
-    static char line[LINE];
+    char line[256];
     struct request *requests = NULL;
     size_t many = 0, room = 0;
     FILE *file = argc == 3 ? fopen(argv[1], "r") : NULL;

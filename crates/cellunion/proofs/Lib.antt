@@ -8,6 +8,7 @@ pub mod Lists
 pub mod Memory
 pub mod Mask
 pub mod Runs
+pub mod Settled
 pub mod Wider
 pub mod Writes
 pub mod Results

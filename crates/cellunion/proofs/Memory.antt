@@ -117,6 +117,37 @@ lay-none m n out h g =
     let r = room-no (take n m) out (omega (arith, length-take-le n m h)) in
     (sym (r .0), sym (r .1))
 
+-- ---- words moved down: what is left of them, laid over the slice as it is now, makes the slice that is wanted
+
+pub record Shifting (m₀ : List ℕ) (to from end : ℕ) (m : List ℕ) (at i : ℕ) : Type 0 where
+  pub behind : at ≤ i
+  pub within : i ≤ end
+  pub place : at + (end - i) ≡ to + (end - from)
+  pub room : end ≤ length m₀
+  pub len : length m ≡ length m₀
+  pub same : laid at (drop i (take end m)) m ≡ laid to (drop from (take end m₀)) m₀
+
+pub shift-turn : (m₀ : List ℕ) (to from end : ℕ) (m : List ℕ) (at i : ℕ) → Shifting m₀ to from end m at i → i < end → Shifting m₀ to from end (set m at (getD m i 0)) (at + 1) (i + 1)
+shift-turn m₀ to from end m at i G h =
+    let x = getD m i 0 in
+    let r : end ≤ length m = omega (arith, G .room, G .len) in
+    record {
+      behind = omega (arith, G .behind);
+      within = omega arith;
+      place = omega (arith, G .place);
+      room = G .room;
+      len = length-set m at x ∙ G .len;
+      same = ap (λ (l : List ℕ). laid (at + 1) l (set m at x)) (drop-take-same end (i + 1) (set m at x) m (drop-set-lt (i + 1) m at x (omega (arith, G .behind))))
+          ∙ sym (laid-cons at x (drop (i + 1) (take end m)) m (omega (arith, G .behind)))
+          ∙ sym (ap (λ (l : List ℕ). laid at l m) (next-word m end i r h)) ∙ G .same;
+    }
+
+pub shift-done : (m₀ : List ℕ) (to from end : ℕ) (m : List ℕ) (at i : ℕ) → Shifting m₀ to from end m at i → end ≤ i → (at ≡ to + (end - from)) × (m ≡ laid to (drop from (take end m₀)) m₀)
+shift-done m₀ to from end m at i G h = (
+  omega (arith, G .place),
+  sym (laid-nil at m) ∙ sym (ap (λ (l : List ℕ). laid at l m) (no-more m end i (omega (arith, G .room, G .len)) h)) ∙ G .same,
+)
+
 -- ---- zeros
 
 pub length-zeros : (n : ℕ) → length (zeros n) ≡ n

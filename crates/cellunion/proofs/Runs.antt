@@ -249,16 +249,15 @@ pub pass-done : (n : ℕ) (m₀ : List ℕ) (k₀ i₀ : ℕ) (m : List ℕ) (k 
 unfolding pass
 pass-done n m₀ k₀ i₀ m k i G h = record {
   within = omega (arith, G .asks .few, G .asks .within);
-  is = sym (ap (pass (topFirst k m)) (no-more m n i (G .asks .room) h)) ∙ G .same;
+  is = rev-top k m (omega (arith, G .asks .few, G .asks .within, G .asks .room)) ∙ ap rev (sym (ap (pass (topFirst k m)) (no-more m n i (G .asks .room) h)) ∙ G .same);
   rest = G .rest;
 }
 
 -- what the pass left over is cleared
-pub clear-normal : (n : ℕ) (m m' : List ℕ) (k : ℕ) (out : List ℕ) → k ≤ n → n ≤ length m' → rev (topFirst k m') ≡ normalise (take n m) → drop n m' ≡ drop n m → out ≡ laid k (zeros (n - k)) m'
+pub clear-normal : (n : ℕ) (m m' : List ℕ) (k : ℕ) (out : List ℕ) → k ≤ n → n ≤ length m' → take k m' ≡ normalise (take n m) → drop n m' ≡ drop n m → out ≡ laid k (zeros (n - k)) m'
     → (k ≡ length (normalise (take n m))) × (out ≡ normalised n m)
 unfolding normalised laid
-clear-normal n m m' k out h g t d e =
-    let f : take k m' ≡ normalise (take n m) = rev-top k m' (omega arith) ∙ t in
+clear-normal n m m' k out h g f d e =
     let q : k ≡ length (normalise (take n m)) = sym (length-take-le k m' (omega arith)) ∙ ap length f in
     let w : k + length (zeros (n - k)) ≡ n = omega (arith, length-zeros (n - k)) in (
       q,
@@ -299,4 +298,4 @@ pass-asks n m s C S = record {
 pub normalize-done : (n : ℕ) (m s m' : List ℕ) (k : ℕ) (out : List ℕ) → SortDone n m s → length m' ≡ length s → PassDone n s 0 0 m' k → out ≡ laid k (zeros (n - k)) m' → (k ≡ length (normalise (take n m))) × (out ≡ normalised n m)
 unfolding normalise topFirst
 normalize-done n m s m' k out S l P e =
-    clear-normal n m m' k out (P .within) (omega (arith, S .room)) (ap rev (P .is ∙ ap (pass []) (S .front))) (P .rest ∙ S .back) e
+    clear-normal n m m' k out (P .within) (omega (arith, S .room)) (P .is ∙ ap (λ (l : List ℕ). rev (pass [] l)) (S .front)) (P .rest ∙ S .back) e

@@ -153,7 +153,7 @@ clear-laws c C (t ∷ s) S r n = ⊎-elim
 
 -- ---- four siblings stand on top, if they are there at all and were not before
 
-next-is : (z : ℕ) (t : List ℕ) (b w : ℕ) → Cell z → hi z ≤ b → All (λ y. hi y ≤ lo z) t → Member w (z ∷ t) → hi w ≡ b → w ≡ z
+pub next-is : (z : ℕ) (t : List ℕ) (b w : ℕ) → Cell z → hi z ≤ b → All (λ y. hi y ≤ lo z) t → Member w (z ∷ t) → hi w ≡ b → w ≡ z
 unfolding Member
 next-is z t b w Z h a m e = ⊎-elim (λ q. q) (λ m. let g : hi w ≤ lo z = all-at (λ y. hi y ≤ lo z) t a w m in let s = span Z in absurd (omega arith)) m
 

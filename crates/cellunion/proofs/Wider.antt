@@ -9,9 +9,8 @@ use native.Mathlib.Omega.{arith}
 use lib.ListN.{length, getD, take, drop, set, take-append-drop}
 use lib.Seq.{length-take-le, set-split, take-take, take-set-lt, drop-set-lt}
 use lib.Dec.{ltb}
-use borrow.Author.Tests.{le-ltb}
 use Rattle.cellid.specs.CellId.{Cell, firstLeaf, lastLeaf, holds}
-use Rattle.order.specs.Order.{All, Le, Sorted}
+use Rattle.order.specs.Order.{All, Sorted}
 use Rattle.order.proofs.OrderLaws.{all-append}
 use Rattle.cellunion.specs.CellUnion.{lo, hi, Member, Apart, NoFour, Normal, clearOf, collapse, pass, rev, normalise}
 use Rattle.cellunion.specs.Stack.{Down, Stack, Ready, topFirst, Topped, Gives, PassAsks, PassDone}
@@ -22,15 +21,11 @@ use Rattle.cellunion.proofs.Stack.{tail, Cov, cov-members, Cleared, cle
 use Rattle.cellunion.proofs.Norm.{Passed, pass-laws, member-rev→, member-rev←, all-rev, stack-normal, same-covered, normal-is}
 use Rattle.cellunion.proofs.Denorm.{member-append→, member-append←}
 use Rattle.cellunion.proofs.Lists.{apart-from}
+use Rattle.cellunion.proofs.Settled.{apart-back, normal-back, apart-sorted}
 use Rattle.cellunion.proofs.Memory.{next-word, all-drop, drop-more, drop-take-same}
 use Rattle.cellunion.proofs.Runs.{rev-top, clear-normal}
 
 -- ---- a normal list cut in two, the cells before the cut as a stack
-
-apart-back : (a b : List ℕ) → Apart (a ++ b) → Apart b
-unfolding Apart
-apart-back [] b A = A
-apart-back (x ∷ a) b A = apart-back a b (A .1)
 
 apart-across : (a b : List ℕ) → Apart (a ++ b) → (x y : ℕ) → Member x a → Member y b → lastLeaf x < firstLeaf y
 unfolding Apart Member
@@ -78,16 +73,6 @@ record Around (s : List ℕ) (a : ℕ) (r : List ℕ) (c : ℕ) : Type 0 where
   pub apart : Apart (a ∷ r)
   pub cell : Cell c
   pub within : In a c
-
-apart-sorted : (l : List ℕ) → All Cell l → Apart l → Sorted ltb l
-unfolding All Sorted Apart
-apart-sorted [] C A = tt
-apart-sorted (x ∷ l) C A = (
-  at-all (Le ltb x) l (λ y m.
-      let h : lastLeaf x < firstLeaf y = all-at (λ y. lastLeaf x < firstLeaf y) l (A .0) y m in
-      let u = span (C .0) in let v = span (all-at Cell l (C .1) y m) in le-ltb y x (omega arith)),
-  apart-sorted l (C .1) (A .1),
-)
 
 module _ (s : List ℕ) (a : ℕ) (r : List ℕ) (c : ℕ) (W : Around s a r c) where
   cleared : Cleared s c (clearOf c s)
@@ -192,6 +177,10 @@ module _ (m : List ℕ) (k at c : ℕ) (room : k ≤ length m) (N : Normal (take
       sym (take-set-lt k m at c h ∙ set-split (take k m) at c (omega arith)
       ∙ ap₂ (λ (x : List ℕ) (j : ℕ). x ++ (c ∷ drop j (take k m))) (take-take at k m (omega arith) ∙ rev-top at m (omega arith)) (sym (add-one at)))
 
+  back : Normal r
+  unfolding r
+  back = normal-back (take (at + 1) (take k m)) (drop (at + 1) (take k m)) (subst Normal (sym (take-append-drop (at + 1) (take k m))) N)
+
   module _ (j : ℕ) (le : j ≤ at) (is : topFirst j m ≡ clearOf c (topFirst at m)) where
     pub widen-topped : (j < length m) × Topped (topFirst j m) c
     unfolding s
@@ -209,24 +198,26 @@ module _ (m : List ℕ) (k at c : ℕ) (room : k ≤ length m) (N : Normal (take
       unfolding r
       rest-is = sym (drop-take-same k (at + 1) m₁ m behind)
 
-      pub widen-asks : PassAsks k m₁ top (at + 1)
+      pub widen-asks : PassAsks k m₁ top (at + 1) × Normal (drop (at + 1) (take k m₁))
       unfolding All Apart
       widen-asks =
-          let W = around in
-          record {
-            few = omega (arith, G .within);
-            within = omega arith;
-            room = omega arith;
-            stack = subst Stack (sym top-is) (collapsed s (getD m at 0) r c W (2 * lo c + 1) (omega arith) .stack);
-            cells = subst (λ (l : List ℕ). All Cell l) rest-is (W .cells .1);
-            sorted = subst (Sorted ltb) rest-is (apart-sorted r (W .cells .1) (W .apart .1));
-            ready = rw (top-is, ← rest-is) (ready s (getD m at 0) r c W);
-          }
+          let W = around in (
+            record {
+              few = omega (arith, G .within);
+              within = omega arith;
+              room = omega arith;
+              stack = subst Stack (sym top-is) (collapsed s (getD m at 0) r c W (2 * lo c + 1) (omega arith) .stack);
+              cells = subst (λ (l : List ℕ). All Cell l) rest-is (W .cells .1);
+              sorted = subst (Sorted ltb) rest-is (apart-sorted r (W .cells .1) (W .apart .1));
+              ready = rw (top-is, ← rest-is) (ready s (getD m at 0) r c W);
+            },
+            subst Normal rest-is back,
+          )
 
       pub widen-done : (m₂ : List ℕ) (n : ℕ) (out : List ℕ) → length m₂ ≡ length m₁ → PassDone k m₁ top (at + 1) m₂ n → out ≡ laid n (zeros (k - n)) m₂
           → (n ≡ length (normalise (take k (set m at c)))) × (out ≡ normalised k (set m at c))
       unfolding list
       widen-done m₂ n out q P e =
-          let f : topFirst n m₂ ≡ pass (collapse (clearOf c s) c) r = P .is ∙ ap₂ pass top-is (sym rest-is) in
-          clear-normal k (set m at c) m₂ n out (P .within) (omega arith) (ap rev f ∙ widened s (getD m at 0) r c around ∙ ap normalise listed)
+          let f : take n m₂ ≡ rev (pass (collapse (clearOf c s) c) r) = P .is ∙ ap₂ (λ (x y : List ℕ). rev (pass x y)) top-is (sym rest-is) in
+          clear-normal k (set m at c) m₂ n out (P .within) (omega arith) (f ∙ widened s (getD m at 0) r c around ∙ ap normalise listed)
           (P .rest ∙ drop-more (at + 1) k m₁ m (omega arith) behind ∙ sym (drop-set-lt k m at c h)) e

@@ -1,12 +1,13 @@
 -- The kept cells of the pass as a stack, the last kept on top, and where they stand in memory.
 use mathlib.Core.Path.{_≡_}
+use mathlib.Core.Bool.{Bool, true}
 use mathlib.Core.List.{List, [], _∷_}
 use Prim.Native.Nat.{ℕ, zero, suc, _+_, _*_, _≤_}
 use lib.ListN.{length, getD, take, drop}
-use lib.Dec.{ltb}
-use Rattle.cellid.specs.CellId.{Cell}
+use lib.Dec.{ltb, leb}
+use Rattle.cellid.specs.CellId.{Cell, firstLeaf, lastLeaf}
 use Rattle.order.specs.Order.{All, Sorted}
-use Rattle.cellunion.specs.CellUnion.{lo, hi, NoFour, pass}
+use Rattle.cellunion.specs.CellUnion.{lo, hi, NoFour, upOne, pass, rev}
 
 -- each cell ends before those above it begin
 unfoldable pub Down : List ℕ → Type 0
@@ -58,5 +59,10 @@ pub record PassAsks (n : ℕ) (m : List ℕ) (k i : ℕ) : Type 0 where
 -- the first r words are what the pass keeps, and what stands from place n on is as before
 pub record PassDone (n : ℕ) (m : List ℕ) (k i : ℕ) (m' : List ℕ) (r : ℕ) : Type 0 where
   pub within : r ≤ n
-  pub is : topFirst r m' ≡ pass (topFirst k m) (drop i (take n m))
+  pub is : take r m' ≡ rev (pass (topFirst k m) (drop i (take n m)))
   pub rest : drop n m' ≡ drop n m
+
+-- the id, behind all of s, begins before the parent of the top ends; so does every sibling of the top
+unfoldable pub nearTop : List ℕ → ℕ → Bool
+nearTop [] id = true
+nearTop (t ∷ s) id = leb (firstLeaf id) (lastLeaf (upOne t))

@@ -2,12 +2,12 @@
 ghost use mathlib.Core.Path.{_≡_};
 ghost use mathlib.Core.Bool.{true};
 ghost use Prim.Native.Nat.{_+_, _-_, _*_, _^_, _≤_, _<_, min, max};
-ghost use lib.ListN.{length, getD, take, set};
+ghost use lib.ListN.{length, getD, take, drop, set};
 ghost use Rattle.cellid.specs.CellId.{Cell, lowBit, levelOf, holds};
 ghost use Rattle.order.specs.Order.{All};
-ghost use Rattle.cellunion.specs.CellUnion.{Normal, normalise, listed, isList, isFour, clearOf, collapse, keepCell, goal, below, denormalise, countOf};
+ghost use Rattle.cellunion.specs.CellUnion.{Normal, normalise, listed, isList, upOne, isFour, clearOf, collapse, keepCell, goal, below, denormalise, countOf};
 ghost use Rattle.cellunion.specs.Memory.{zeros, normalised, laid, roomFor, laidOver, AsksList};
-ghost use Rattle.cellunion.specs.Stack.{topFirst, Topped, Next, Gives, PassAsks, PassDone};
+ghost use Rattle.cellunion.specs.Stack.{topFirst, Topped, Next, Gives, PassAsks, PassDone, nearTop};
 
 // The answer of a function that lays a list over an output: how many words it laid, or that they do not fit and nothing was written.
 pub enum Laid {
@@ -121,13 +121,13 @@ fn keep(mem: &mut [u64], k: usize, c: u64) -> usize
     collapse(mem, left, c)
 }
 
-// The pass over the words from `from` to before n, which are sorted, on top of the first k.
-fn pass(mem: &mut [u64], k: usize, from: usize, n: usize) -> usize
-    requires { ⌜ PassAsks n (now mem) k from ⌝ }
-    ensures { λ r. ⌜ PassDone n (now (mem .entry)) k from (now (mem .exit)) r ⌝ }
+// The pass over the first n words, which are sorted.
+fn pass(mem: &mut [u64], n: usize) -> usize
+    requires { ⌜ PassAsks n (now mem) 0 0 ⌝ }
+    ensures { λ r. ⌜ PassDone n (now (mem .entry)) 0 0 (now (mem .exit)) r ⌝ }
 {
-    let mut kept = k;
-    let mut i = from;
+    let mut kept: usize = 0;
+    let mut i: usize = 0;
     while i < n {
         let c = mem[i];
         kept = keep(mem, kept, c);
@@ -155,20 +155,78 @@ pub fn normalize(mem: &mut [u64], n: usize) -> usize
     ensures { λ r. ⌜ (r ≡ length (normalise (take n (now (mem .entry))))) × (now (mem .exit) ≡ normalised n (now (mem .entry))) ⌝ }
 {
     order::sort(&mut mem[0..n]);
-    let kept = pass(mem, 0, 0, n);
+    let kept = pass(mem, n);
     clear(mem, kept, n);
     kept
 }
 
+// The parent; a face is its own.
+fn above(c: u64) -> u64
+    ensures { λ r. ⌜ r ≡ upOne c ⌝ }
+{
+    let level = cellid::level(c);
+    if 0 < level {
+        cellid::parent(c, level - 1)
+    } else {
+        cellid::parent(c, 0)
+    }
+}
+
+// Whether id, behind all that is kept, can be a sibling of the last of the first k: it begins before that one's parent ends.
+fn near(mem: &[u64], k: usize, id: u64) -> bool
+    requires { ⌜ (k ≤ length (now mem)) × All Cell (topFirst k (now mem)) × (0 < id) ⌝ }
+    ensures { λ r. ⌜ r ≡ nearTop (topFirst k (now (mem .entry))) id ⌝ }
+{
+    if 0 < k {
+        cellid::range_min(id) <= cellid::range_max(above(mem[k - 1]))
+    } else {
+        true
+    }
+}
+
+// Moves the words from `from` to before `end` down to the place `to`; gives the place after them.
+fn shift(mem: &mut [u64], to: usize, from: usize, end: usize) -> usize
+    requires { ⌜ (to ≤ from) × (from ≤ end) × (end ≤ length (now mem)) ⌝ }
+    ensures { λ r. ⌜ (r ≡ to + (end - from)) × (now (mem .exit) ≡ laid to (drop from (take end (now (mem .entry)))) (now (mem .entry))) ⌝ }
+{
+    let mut at = to;
+    let mut i = from;
+    while i < end {
+        mem[at] = mem[i];
+        at += 1;
+        i += 1;
+    }
+    at
+}
+
+// The pass over the words from `from` to before n, a normal list, on top of the first k: as soon as one lies behind the parent of the last kept, it and
+// all after it stay as they are, and are only moved.
+fn settle(mem: &mut [u64], k: usize, from: usize, n: usize) -> usize
+    requires { ⌜ PassAsks n (now mem) k from × Normal (drop from (take n (now mem))) ⌝ }
+    ensures { λ r. ⌜ PassDone n (now (mem .entry)) k from (now (mem .exit)) r ⌝ }
+{
+    let mut kept = k;
+    let mut i = from;
+    while i < n {
+        let id = mem[i];
+        if !near(mem, kept, id) {
+            break;
+        }
+        kept = keep(mem, kept, id);
+        i += 1;
+    }
+    shift(mem, kept, i, n)
+}
+
 // Puts c, a cell around the one at the place `at`, in its place in the first k words, a normal list, and normalises them again: what `normalize` would
-// give, without sorting. The cells before `at` that do not lie in c stay as they are; those behind it go through the pass.
+// give, without sorting.
 pub fn widen(mem: &mut [u64], k: usize, at: usize, c: u64) -> usize
     requires { ⌜ (k ≤ length (now mem)) × Normal (take k (now mem)) × (at < k) × Cell c × (holds c (getD (now mem) at 0) ≡ true) ⌝ }
     ensures { λ r. ⌜ (r ≡ length (normalise (take k (set (now (mem .entry)) at c)))) × (now (mem .exit) ≡ normalised k (set (now (mem .entry)) at c)) ⌝ }
 {
     let left = clear_of(mem, at, c);
     let top = collapse(mem, left, c);
-    let kept = pass(mem, top, at + 1, k);
+    let kept = settle(mem, top, at + 1, k);
     clear(mem, kept, k);
     kept
 }

@@ -1,5 +1,6 @@
 pub mod Levels
 pub mod Merging
+pub mod Scan
 pub mod Laws
 pub mod Six
 pub mod Turns

@@ -1,7 +1,7 @@
 -- Merging from min 0 on down to four cells leaves at most six of any list: it ends before only where no two neighbours share a face.
 use mathlib.Core.Path.{_≡_, refl}
 use mathlib.Core.Logic.{⊎-elim, by-cases}
-use mathlib.Core.List.{List, [], _∷_, map}
+use mathlib.Core.List.{List, map}
 use Prim.Native.Nat.{ℕ, zero, suc, _-_, _≤_, _<_, min}
 use native.Mathlib.Decide.{decLt, ℕ-discrete}
 use native.Mathlib.Omega.{arith}
@@ -17,6 +17,7 @@ use Rattle.cellunion.proofs.Counts.{hi-le}
 use Rattle.cellunion.proofs.Norm.{normalise-normal}
 use Rattle.fast.specs.Fast.{lifted, depthOf, pairDepth, bestOf, mergedCovering}
 use Rattle.fast.proofs.Merging.{best-better, best-same, merged-ends}
+use Rattle.fast.proofs.Scan.{neighbours}
 use Rattle.fast.proofs.Laws.{lifted-cells, merged-covering}
 
 -- no pair that was looked at lies deeper than the best
@@ -37,12 +38,6 @@ unfolding pairDepth
 no-face low step a b h = common-nothing a b .0 (depth-zero low step (commonLevel a b) h)
 
 -- ---- faces climb along a list
-
-neighbours : (l : List ℕ) (i : ℕ) → suc i < length l → Apart l → lastLeaf (getD l i 0) < firstLeaf (getD l (suc i) 0)
-unfolding Apart
-neighbours [] i h A = absurd (omega arith)
-neighbours (x ∷ l) zero h A = all-get (λ y. lastLeaf x < firstLeaf y) l 0 0 (omega arith) (A .0)
-neighbours (x ∷ l) (suc i) h A = neighbours l i (omega arith) (A .1)
 
 face-up : (x y : ℕ) → Cell x → Cell y → lastLeaf x < firstLeaf y → (faceOf x ≡ faceOf y → ⊥) → faceOf x < faceOf y
 face-up x y X Y h d = let u = span X in let v = span Y in by-cases (ℕ-discrete (faceOf x) (faceOf y)) (λ e. absurd (d e)) (λ e. omega arith)

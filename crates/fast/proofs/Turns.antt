@@ -1,5 +1,5 @@
--- The loops over lent memory: what holds at each turn of lifting, scanning and merging.
-use mathlib.Core.Path.{_≡_, refl, sym, ap, _∙_, subst}
+-- The loops over lent memory: what holds at each turn of lifting and merging.
+use mathlib.Core.Path.{_≡_, refl, sym, ap, _∙_}
 use mathlib.Core.Bool.{true}
 use mathlib.Core.List.{List, [], _∷_, _++_, append-assoc, map, map-append}
 use Prim.Native.Nat.{ℕ, suc, _+_, _-_, _≤_, _<_}
@@ -9,16 +9,15 @@ use lib.ListN.{length, getD, set, take, drop, length-append, length-map, length-
 use lib.Seq.{length-take-le, take-suc, drop-cons, getD-at, set-at, take-at, drop-at, getD-take, take-set-lt, drop-set-lt}
 use Rattle.cellid.specs.CellId.{Cell, parentAt, holds}
 use Rattle.order.specs.Order.{All}
-use Rattle.order.proofs.OrderLaws.{all-get}
 use Rattle.cellunion.specs.CellUnion.{Normal, normalise, denormalise}
 use Rattle.cellunion.specs.Memory.{zeros, normalised}
 use Rattle.cellunion.proofs.Norm.{normalise-normal, normalise-short}
 use Rattle.cellunion.proofs.Memory.{length-zeros, zeros-add}
 use Rattle.fast.specs.declared.Best.{Best}
-use Rattle.fast.specs.Fast.{pairDepth, bestOf, lifted, joined, mergedIn, merged, mergedCovering, fastCovering}
+use Rattle.fast.specs.Fast.{bestOf, lifted, joined, mergedIn, merged, mergedCovering, fastCovering}
 use Rattle.fast.specs.Memory.{inPlace}
 use Rattle.fast.proofs.Levels.{pair-small}
-use Rattle.fast.proofs.Merging.{Found, best-found, best-better, best-same, Joined, best-joined, merged-go, merged-laws}
+use Rattle.fast.proofs.Merging.{Found, best-found, Joined, best-joined, merged-go, merged-laws}
 use Rattle.fast.proofs.Laws.{lifted-cells, Covering, merged-covering}
 
 -- ---- each word to its image
@@ -93,18 +92,6 @@ in-place-back n l m h =
     let e : length (l ++ zeros (n - length l)) ≡ n = simp (length-append, length-zeros) (omega arith) in
     ap (drop n) (sym (append-assoc l (zeros (n - length l)) (drop n m))) ∙ drop-at (l ++ zeros (n - length l)) (drop n m) n e
 
--- ---- the scan, in memory
-
-module _ (low step : ℕ) (m : List ℕ) (k i d : ℕ) (b : Best) (h : i + 1 < k) (e : b ≡ bestOf low step (take k m) i) (q : d ≡ pairDepth low step (getD m i 0) (getD m (i + 1) 0)) where
-  here : pairDepth low step (getD (take k m) i 0) (getD (take k m) (suc i) 0) ≡ d
-  here = rw (getD-take k m i 0 (omega arith), getD-take k m (suc i) 0 (omega arith), ← add-one i) (sym q)
-
-  pub scan-better : b .depth < d → record { at = i; depth = d } ≡ bestOf low step (take k m) (i + 1)
-  scan-better l = rw (add-one i) (sym (best-better low step (take k m) i (rw (here, ← e) l) ∙ rw here))
-
-  pub scan-same : d ≤ b .depth → b ≡ bestOf low step (take k m) (i + 1)
-  scan-same l = rw (add-one i) (e ∙ sym (best-same low step (take k m) i (rw (here, ← e) l)))
-
 -- ---- the merge, in memory
 
 module _ (low step cells : ℕ) where
@@ -133,8 +120,9 @@ module _ (low step cells : ℕ) where
   pub going-size : (n : ℕ) (m₀ m : List ℕ) (k : ℕ) → Going n m₀ m k → length (take k m) ≡ k
   going-size n m₀ m k G = length-take-le k m (omega (arith, G .within, G .room, G .len))
 
-  pub going-cell : (n : ℕ) (m₀ m : List ℕ) (k i : ℕ) → Going n m₀ m k → i < k → Cell (getD m i 0)
-  going-cell n m₀ m k i G h = subst Cell (getD-take k m i 0 h) (all-get Cell (take k m) 0 i (omega (arith, going-size n m₀ m k G)) (G .normal .cells))
+  -- the whole list is scanned
+  pub scanned : (n : ℕ) (m₀ m : List ℕ) (k : ℕ) → Going n m₀ m k → (b : Best) → b ≡ bestOf low step (take k m) (k - 1) → b ≡ bestOf low step (take k m) (length (take k m) - 1)
+  scanned n m₀ m k G b e = e ∙ ap (λ (j : ℕ). bestOf low step (take k m) (j - 1)) (sym (going-size n m₀ m k G))
 
   pub going-done : (n : ℕ) (m₀ m : List ℕ) (k : ℕ) (G : Going n m₀ m k) → mergedIn low step cells (G .fuel) (take k m) ≡ take k m
       → (k ≡ length (merged low step cells (take n m₀))) × (m ≡ inPlace n (merged low step cells (take n m₀)) m₀)
@@ -142,7 +130,7 @@ module _ (low step cells : ℕ) where
       let f : take k m ≡ merged low step cells (take n m₀) = sym e ∙ G .rest in
       (sym (going-size n m₀ m k G) ∙ ap length f, G .whole ∙ ap (λ (l : List ℕ). inPlace n l m₀) f)
 
-  -- the whole list is scanned, and the best level found does not lie below min
+  -- the best level found does not lie below min
   module _ (n : ℕ) (m₀ m : List ℕ) (k : ℕ) (G : Going n m₀ m k) (b : Best) (e : b ≡ bestOf low step (take k m) (length (take k m) - 1)) (g : low < b .depth) where
     deep : low < bestOf low step (take k m) (length (take k m) - 1) .depth
     deep = rw (← e) g

@@ -88,7 +88,8 @@ fn lift(c: RegionCoverer, mem: &mut [u64], n: usize)
 }
 
 // Merges the first n cells, a normal list, while they are more than max_cells: the neighbours whose common ancestor lies deepest become that
-// ancestor, as long as it lies at min_level or deeper. Gives how many are left.
+// ancestor, as long as it lies at min_level or deeper. Gives how many are left. The smaller the exclusive or of two neighbours, the deeper lies their ancestor:
+// only a pair with a smaller one than all before it is looked at closer. From 2 ^ 61 on the faces differ, and there is no ancestor.
 fn merge(c: RegionCoverer, mem: &mut [u64], n: usize) -> usize
     requires { ⌜ NumbersFit c × (n ≤ length (now mem)) × Normal (take n (now mem)) ⌝ }
     ensures { λ r. ⌜ (r ≡ length (mergedFor c (take n (now (mem .entry))))) × (now (mem .exit) ≡ inPlace n (mergedFor c (take n (now (mem .entry)))) (now (mem .entry))) ⌝ }
@@ -98,11 +99,17 @@ fn merge(c: RegionCoverer, mem: &mut [u64], n: usize) -> usize
     let mut k = n;
     'merge: while cells < k as u64 {
         let mut best = Best { at: 0, depth: 0 };
+        let mut least: u64 = 1 << 61;
         let mut i: usize = 0;
-        'scan: while i < k - 1 {
-            let d = depth(c, mem[i], mem[i + 1]);
-            if best.depth < d {
-                best = Best { at: i, depth: d };
+        'scan: while i + 1 < k {
+            let a = mem[i];
+            let b = mem[i + 1];
+            if a ^ b < least {
+                least = a ^ b;
+                let d = depth(c, a, b);
+                if best.depth < d {
+                    best = Best { at: i, depth: d };
+                }
             }
             i += 1;
         }

@@ -6,10 +6,10 @@ use Rattle.cellunion.proofs.pass.Statement.{statement}
 use Rattle.cellunion.proofs.pass.Tie as tie
 
 abbrev Inv-loop : tie.InvT-loop
-Inv-loop mem₀ k from n kept₀ i₀ mem kept i = Passing n mem₀ k from mem kept i
+Inv-loop mem₀ n kept₀ i₀ mem kept i = Passing n mem₀ 0 0 mem kept i
 
 abbrev μ-loop : tie.MeasureT-loop
-μ-loop mem₀ k from n kept₀ i₀ mem kept i = n - i
+μ-loop mem₀ n kept₀ i₀ mem kept i = n - i
 
 loop-holds : tie.Need-loop-holds Inv-loop μ-loop
 loop-holds c = record { asks = c .before .pre; len = refl; rest = refl; same = refl }

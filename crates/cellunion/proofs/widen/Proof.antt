@@ -1,4 +1,4 @@
--- `cellunion::widen`: the cells before the place, the wide cell, the pass over those behind it, and the words left over cleared.
+-- `cellunion::widen`: the cells before the place, the wide cell, the pass over what is near behind it behind it, and the words left over cleared.
 use native.Mathlib.Omega.{arith}
 use borrow.Author.Needs.{needs}
 use Rattle.cellid.proofs.Laws.{cell-pos}
@@ -15,8 +15,8 @@ collapse-requires c κs =
     let p = l .before .before .before .pre in
     widen-topped _ _ _ _ (p .0) (p .1) (p .2) (p .3) (p .4) _ (l .clear-of .ensures .0) (l .clear-of .ensures .1)
 
-pass-requires : tie.Need-pass-requires
-pass-requires c κs =
+settle-requires : tie.Need-settle-requires
+settle-requires c κs =
     let t = c .before .before .before in
     let l = t .before .before in
     let p = l .before .before .before .pre in
@@ -29,7 +29,7 @@ returns c =
     let t = q .before .before .before .before in
     let l = t .before .before in
     let p = l .before .before .before .pre in
-    widen-done _ _ _ _ (p .0) (p .1) (p .2) (p .3) (p .4) _ (l .clear-of .ensures .0) (l .clear-of .ensures .1) _ _ (t .collapse .kept .0) (t .collapse .ensures) _ _ _ (q .pass .kept .0) (q .pass .ensures) (d .clear .ensures)
+    widen-done _ _ _ _ (p .0) (p .1) (p .2) (p .3) (p .4) _ (l .clear-of .ensures .0) (l .clear-of .ensures .1) _ _ (t .collapse .kept .0) (t .collapse .ensures) _ _ _ (q .settle .kept .0) (q .settle .ensures) (d .clear .ensures)
 
 pub widen-spec : {M : Type 1} → statement M
 widen-spec =
@@ -38,7 +38,7 @@ widen-spec =
     clear-of-requires
     collapse-requires
     (λ c. search needs)
-    pass-requires
+    settle-requires
     (λ c κs. search needs)
     (λ c. search needs)
     returns)
