@@ -1,4 +1,4 @@
-/* A plugin for the emulator (qemu-user, plugin interface 1): counts the instructions that a program runs and writes `instructions N` to
+/* A plugin for the emulator (qemu-user 7 or 8, plugin interface 1): counts the instructions that a program runs and writes `instructions N` to
  * standard error at its end. See bench/lists. */
 #include <stddef.h>
 #include <stdint.h>

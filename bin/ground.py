@@ -75,7 +75,7 @@ def border(cell, pieces):
 
 
 def frame(centre):
-    """East and north at a point; at a pole any two directions."""
+    """East and north at a point; near a pole any two directions at right angles."""
     east = unit(cross((0.0, 0.0, 1.0) if abs(centre[2]) < 0.999 else (1.0, 0.0, 0.0), centre))
     return east, cross(centre, east)
 

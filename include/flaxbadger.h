@@ -54,6 +54,7 @@ extern "C" {
 #endif
 
 #define FLAXBADGER_MEMORY 4096 /* words of working memory that are always enough */
+#define FLAXBADGER_LIST_MOST 4096 /* ids that a list may have as a region */
 
 #define FLAXBADGER_CAP double x, double y, double z, double radius
 #define FLAXBADGER_CELL uint64_t id

@@ -104,7 +104,7 @@ impl Region for Asked {
         match self {
             Asked::Cap(cap) => cap.cap_bound(),
             Asked::Cell(cell) => cell.cap_bound(),
-            Asked::List(_) => unreachable!(),
+            Asked::List(_) => unreachable!(), // the coverer asks for cell_union_bound alone
         }
     }
 

@@ -3,8 +3,8 @@
 Used by oracle/compare --lists and oracle/picklists. A Picker with the same seed gives the same questions. Lists, and lists that
 break a rule, are those of oracle/idlists.py and some more: cells inside one, runs of neighbours, siblings, one cell a face, what
 discs were covered with, lists whose start cells lie inside one another once they are moved, lists that come to as many cells as
-the limits of a run are. Most are short: a run joins the listed cells two at a time until four are left, which takes the square
-of their number. What stands here only chooses questions and decides no answer.
+the limits of a run are. Most are short: a run joins the listed cells two at a time, all of them looked at each time, which takes
+the square of their number. What stands here only chooses questions and decides no answer.
 """
 
 import idlists

@@ -1,5 +1,5 @@
 /* Coverings from C: a cap that is covered, a cell and a list as regions, a list as leaf ranges and back, two lists as one, a list as tokens and
- * back, and six refusals. Writes what comes back; exits with 1 where it is not what papers 01 and 02 say. */
+ * back, and seven refusals. Writes what comes back; exits with 1 where it is not what papers 01 and 02 say. */
 #include <inttypes.h>
 #include <stdio.h>
 #include <string.h>
@@ -89,7 +89,18 @@ int main(void) {
     const uint64_t descending[2] = {quarters[1], quarters[0]};
     number = flaxbadger_covering_list(descending, 2, 0, 30, 1, 8, 1000, mem, FLAXBADGER_MEMORY, out, 64, &count, &steps, &aside);
     show("descending", number, count, steps, aside);
-    ok &= number == 5;
+    ok &= number == 5 && count == 0 && steps == 0 && aside == 0;
+
+    /* No id at all is a region, whose answer has none; one id too many is none. */
+    static uint64_t many[FLAXBADGER_LIST_MOST + 1];
+    for (uint64_t i = 0; i < FLAXBADGER_LIST_MOST + 1; i++) {
+        many[i] = 2 * i + 1;
+    }
+    number = flaxbadger_covering_list(many, 0, 0, 30, 1, 8, 1000, mem, FLAXBADGER_MEMORY, out, 64, &count, &steps, &aside);
+    ok &= show("an empty list", number, count, steps, aside) && count == 0 && steps == 0 && aside == 0;
+    number = flaxbadger_covering_list(many, FLAXBADGER_LIST_MOST + 1, 0, 30, 1, 8, 1000, mem, FLAXBADGER_MEMORY, out, 64, &count, &steps, &aside);
+    show("one id too many", number, count, steps, aside);
+    ok &= number == 5 && count == 0;
 
     /* The first list as tokens, which survey crews type, a line each; and back. A text of eight bytes is too short; a capital is refused, with the
      * number of its line. */

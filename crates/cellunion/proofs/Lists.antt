@@ -4,7 +4,7 @@ use mathlib.Core.Path.{_≡_, refl, sym, ap, _∙_}
 use mathlib.Core.Logic.{_⊎_, _↔_, ⊎-elim}
 use mathlib.Core.Bool.{Bool, true, false, not, _&&_, _||_, or-assoc}
 use mathlib.Core.List.{List, [], _∷_, _++_}
-use Prim.Native.Nat.{ℕ, _+_, _≤_, _<_}
+use Prim.Native.Nat.{ℕ, zero, suc, _+_, _≤_, _<_}
 use native.Mathlib.Omega.{arith}
 use lib.ListN.{length, getD, drop}
 use lib.Dec.{ltb}
@@ -13,7 +13,7 @@ use Rattle.cellid.specs.CellId.{Cell, validId, firstLeaf, lastLeaf, hasLeaf}
 use Rattle.cellid.proofs.Laws.{and-true, no-true, valid-is, valid-fits, cell-valid, cell-pos}
 use Rattle.cellid.proofs.Puts.{next-of, none-left}
 use Rattle.order.specs.Order.{All}
-use Rattle.order.proofs.OrderLaws.{all-weak}
+use Rattle.order.proofs.OrderLaws.{all-weak, all-get}
 use Rattle.cellunion.specs.CellUnion.{lo, hi, covers, Apart, listed, listFrom, isList}
 use Rattle.cellunion.proofs.Spans.{span, leaf→, leaf←}
 use Rattle.cellunion.proofs.Unique.{all-at, at-all, covers→}
@@ -98,6 +98,15 @@ check-on l last i w b G h e t q = record {
 pub check-end : (l : List ℕ) (last i : ℕ) → Checking l last i → length l ≤ i → true ≡ isList l
 unfolding listFrom
 check-end l last i G h = sym (ap (listFrom last) (none-left l i h)) ∙ G .same
+
+-- a later cell begins after an earlier one ends
+pub apart-get : (l : List ℕ) (i j : ℕ) → Apart l → i < j → j < length l → lastLeaf (getD l i 0) < firstLeaf (getD l j 0)
+unfolding Apart
+apart-get [] i j A h g = absurd (omega arith)
+apart-get (x ∷ l) zero zero A h g = absurd (omega arith)
+apart-get (x ∷ l) zero (suc j) A h g = all-get (λ y. lastLeaf x < firstLeaf y) l 0 j (omega arith) (A .0)
+apart-get (x ∷ l) (suc i) zero A h g = absurd (omega arith)
+apart-get (x ∷ l) (suc i) (suc j) A h g = apart-get l i j (A .1) (omega arith) (omega arith)
 
 -- ---- the leaves of a list
 

@@ -11,7 +11,7 @@ use borrow.Author.Tests.{ltb-false}
 use Rattle.cellid.specs.CellId.{Cell, firstLeaf, lastLeaf}
 use Rattle.cellid.proofs.Laws.{bool-iff}
 use Rattle.cellunion.specs.CellUnion.{lo, hi, covers, SameLeaves, Member, Apart, NoFour, Normal, keepCell, pass, rev, normalise}
-use Rattle.cellunion.specs.Stack.{Down, Stack, Ready}
+use Rattle.cellunion.specs.Stack.{Down, Stack, AllBefore}
 use Rattle.order.specs.Order.{All, Le, insert, sort, Sorted}
 use Rattle.order.proofs.OrderLaws.{which, all-append, all-weak, insert-past, insert-front}
 use Rattle.order.proofs.LexLaws.{numbers}
@@ -41,10 +41,10 @@ pass-step s l r q c K P = record {
   short = omega (arith, K .short, P .short);
 }
 
-pub ready-on : (s : List ℕ) (c : ℕ) (l : List ℕ) → Ready s c → All (Le ltb c) l → All (Ready s) l
-ready-on s c l r a = all-weak (Le ltb c) (Ready s) l (λ x h. let g : c ≤ x = ltb-false _ _ h in all-weak (λ y. 2 * lo y + 1 ≤ c) (λ y. 2 * lo y + 1 ≤ x) s (λ y e. omega arith) r) a
+pub ready-on : (s : List ℕ) (c : ℕ) (l : List ℕ) → AllBefore s c → All (Le ltb c) l → All (AllBefore s) l
+ready-on s c l r a = all-weak (Le ltb c) (AllBefore s) l (λ x h. let g : c ≤ x = ltb-false _ _ h in all-weak (λ y. 2 * lo y + 1 ≤ c) (λ y. 2 * lo y + 1 ≤ x) s (λ y e. omega arith) r) a
 
-pub pass-laws : (l s : List ℕ) → Stack s → All Cell l → Sorted ltb l → All (Ready s) l → Passed s l (pass s l)
+pub pass-laws : (l s : List ℕ) → Stack s → All Cell l → Sorted ltb l → All (AllBefore s) l → Passed s l (pass s l)
 unfolding pass All Sorted
 pass-laws [] s S C o r = record { stack = S; old = λ n k. k; new = λ n k. absurd (unfold Member in k .1); from = λ n k. inl k; short = omega arith }
 pass-laws (c ∷ l) s S C o r =
@@ -129,7 +129,7 @@ cov-none n w = w .1
 
 -- ---- the results
 
-pub all-ready : (l : List ℕ) → All (Ready []) l
+pub all-ready : (l : List ℕ) → All (AllBefore []) l
 unfolding All
 all-ready [] = tt
 all-ready (x ∷ l) = (tt, all-ready l)

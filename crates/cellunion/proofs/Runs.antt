@@ -17,7 +17,7 @@ use Rattle.order.specs.Order.{All, Sorted, sort}
 use Rattle.order.proofs.SortLaws.{sort-sorted, length-sort}
 use Rattle.order.proofs.LexLaws.{numbers}
 use Rattle.cellunion.specs.CellUnion.{lo, hi, Member, isFour, upOne, clearOf, collapse, keepCell, pass, rev, normalise}
-use Rattle.cellunion.specs.Stack.{Down, Stack, Ready, topFirst, Topped, Next, Gives, PassAsks, PassDone}
+use Rattle.cellunion.specs.Stack.{Down, Stack, AllBefore, topFirst, Topped, Next, Gives, PassAsks, PassDone}
 use Rattle.cellunion.specs.Memory.{zeros, laid, normalised}
 use Rattle.cellunion.proofs.Spans.{span, In, holds-no}
 use Rattle.cellunion.proofs.Unique.{all-at, at-all}
@@ -207,7 +207,7 @@ pass-next n m k i P h =
       record {
         stack = P .stack;
         cell = subst (λ (s : List ℕ). All Cell s) e (P .cells) .0;
-        ready = subst (λ (s : List ℕ). All (Ready (topFirst k m)) s) e (P .ready) .0;
+        ready = subst (λ (s : List ℕ). All (AllBefore (topFirst k m)) s) e (P .ready) .0;
       },
     )
 

@@ -15,7 +15,7 @@ use Rattle.cellid.proofs.Ancestors.{parent-cell, parent-holds}
 use Rattle.order.specs.Order.{All, Le, Sorted}
 use Rattle.order.proofs.OrderLaws.{all-append}
 use Rattle.cellunion.specs.CellUnion.{lo, hi, Member, Apart, NoFour, Normal, upOne, keepCell, pass, rev}
-use Rattle.cellunion.specs.Stack.{Down, Stack, Ready, topFirst, Gives, PassDone, nearTop}
+use Rattle.cellunion.specs.Stack.{Down, Stack, AllBefore, topFirst, Gives, PassDone, nearTop}
 use Rattle.cellunion.specs.Memory.{laid}
 use Rattle.cellunion.proofs.Spans.{span, In, kids, Kids, holds-in}
 use Rattle.cellunion.proofs.Unique.{all-at, at-all, Covered, normal-unique}
@@ -135,7 +135,7 @@ module _ (t : ℕ) (s r : List ℕ) (S : Stack (t ∷ s)) (N : Normal r) (far : 
     nofour = far-nofour;
   }
 
-  far-pass : All (Ready (t ∷ s)) r → rev (pass (t ∷ s) r) ≡ rev (t ∷ s) ++ r
+  far-pass : All (AllBefore (t ∷ s)) r → rev (pass (t ∷ s) r) ≡ rev (t ∷ s) ++ r
   far-pass R =
       let P = pass-laws r (t ∷ s) S (N .cells) (apart-sorted r (N .cells) (N .apart)) R in
       let p = pass (t ∷ s) r in
@@ -154,7 +154,7 @@ module _ (t : ℕ) (s r : List ℕ) (S : Stack (t ∷ s)) (N : Normal r) (far : 
       (v .0, member-rev← p (v .0) (v .1), v .2, v .3)))
 
 -- what stands behind the first that is not near is far
-not-near : (s : List ℕ) (x : ℕ) (r : List ℕ) → Stack s → Normal (x ∷ r) → All (Ready s) (x ∷ r) → nearTop s x ≡ false → rev (pass s (x ∷ r)) ≡ rev s ++ (x ∷ r)
+not-near : (s : List ℕ) (x : ℕ) (r : List ℕ) → Stack s → Normal (x ∷ r) → All (AllBefore s) (x ∷ r) → nearTop s x ≡ false → rev (pass s (x ∷ r)) ≡ rev s ++ (x ∷ r)
 unfolding nearTop All
 not-near [] x r S N R e = let z : _≡_ {A = ℕ} 0 1 = cc in absurd (omega arith)
 not-near (t ∷ s) x r S N R e =
@@ -197,7 +197,7 @@ pub rests-far : (n : ℕ) (m₀ : List ℕ) (k₀ i₀ : ℕ) (m : List ℕ) (k 
 rests-far n m₀ k₀ i₀ m k i b G h e t =
     let P = G .passing .asks in
     let w = next-word m n i (P .room) h in
-    record { is = rw w (not-near (topFirst k m) (getD m i 0) (drop (i + 1) (take n m)) (P .stack) (subst Normal w (G .list)) (subst (λ (l : List ℕ). All (Ready (topFirst k m)) l) w (P .ready)) (sym e ∙ not-true b t)) }
+    record { is = rw w (not-near (topFirst k m) (getD m i 0) (drop (i + 1) (take n m)) (P .stack) (subst Normal w (G .list)) (subst (λ (l : List ℕ). All (AllBefore (topFirst k m)) l) w (P .ready)) (sym e ∙ not-true b t)) }
 
 pub settle-done : (n : ℕ) (m₀ : List ℕ) (k₀ i₀ : ℕ) (m : List ℕ) (k i : ℕ) (m' : List ℕ) (r : ℕ) → Settling n m₀ k₀ i₀ m k i → Rests n m k i → r ≡ k + (n - i) → m' ≡ laid k (drop i (take n m)) m → PassDone n m₀ k₀ i₀ m' r
 unfolding laid

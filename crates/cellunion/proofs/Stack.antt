@@ -13,7 +13,7 @@ use Rattle.cellid.specs.CellId.{Cell, IsCell, idOf, bitAt, levelOf, parentAt, c
 use Rattle.cellid.proofs.Laws.{and-true, level-cell, parent-id}
 use Rattle.cellid.proofs.Leaves.{child-cell}
 use Rattle.cellunion.specs.CellUnion.{lo, hi, Member, NoFour, upOne, isFour, collapse, clearOf, keepCell}
-use Rattle.cellunion.specs.Stack.{Down, Stack, Ready}
+use Rattle.cellunion.specs.Stack.{Down, Stack, AllBefore}
 use Rattle.order.specs.Order.{All}
 use Rattle.order.proofs.OrderLaws.{which, all-weak}
 use Rattle.cellunion.proofs.Spans.{span, In, Nest, left, right, inside, around, nest, Kids, kids, holds-in, holds-no}
@@ -122,7 +122,7 @@ not-next t c s C r a y m i =
     let u = span C in omega (arith, i .1)
 
 -- what begins before c does begins before c ends
-pub begun : (s : List ℕ) (c : ℕ) → Cell c → Ready s c → All (λ y. lo y < hi c) s
+pub begun : (s : List ℕ) (c : ℕ) → Cell c → AllBefore s c → All (λ y. lo y < hi c) s
 begun s c C r = all-weak (λ y. 2 * lo y + 1 ≤ c) (λ y. lo y < hi c) s (λ y h. let u = span C in omega arith) r
 
 pub clear-laws : (c : ℕ) → Cell c → (s : List ℕ) → Stack s → All (λ y. lo y < hi c) s → ((y : ℕ) → Member y s → In c y → ⊥) → Cleared s c (clearOf c s)
@@ -212,7 +212,7 @@ pub record Collapsed (s : List ℕ) (c b : ℕ) (r : List ℕ) : Type 0 where
   pub stack : Stack r
   pub to : Cov (c ∷ s) r
   pub from : Cov r (c ∷ s)
-  pub low : Ready r b
+  pub low : AllBefore r b
   pub short : length r ≤ suc (length s)
 
 push-laws : (s : List ℕ) (c b : ℕ) → Stack s → Cell c → All (λ y. hi y ≤ lo c) s → 2 * lo c + 1 ≤ b → ((P L p : ℕ) → IsCell P L p → L < 30 → TopFour s c P → ⊥) → Collapsed s c b (c ∷ s)
@@ -315,7 +315,7 @@ pub record Kept (s : List ℕ) (c : ℕ) (r : List ℕ) : Type 0 where
   pub stack : Stack r
   pub to : Cov (c ∷ s) r
   pub from : Cov r (c ∷ s)
-  pub low : Ready r c
+  pub low : AllBefore r c
   pub short : length r ≤ suc (length s)
 
 two-steps : (s q r : List ℕ) (c : ℕ) → Cleared s c q → Collapsed q c c r → Kept s c r
@@ -329,7 +329,7 @@ two-steps s q r c A B = record {
   short = omega (arith, A .short, B .short);
 }
 
-pub keep-laws : (s : List ℕ) (c : ℕ) → Stack s → Cell c → Ready s c → Kept s c (keepCell s c)
+pub keep-laws : (s : List ℕ) (c : ℕ) → Stack s → Cell c → AllBefore s c → Kept s c (keepCell s c)
 unfolding keepCell All Down Member
 keep-laws [] c S C r =
     let u = span C in

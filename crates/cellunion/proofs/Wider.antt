@@ -13,7 +13,7 @@ use Rattle.cellid.specs.CellId.{Cell, firstLeaf, lastLeaf, holds}
 use Rattle.order.specs.Order.{All, Sorted}
 use Rattle.order.proofs.OrderLaws.{all-append}
 use Rattle.cellunion.specs.CellUnion.{lo, hi, Member, Apart, NoFour, Normal, clearOf, collapse, pass, rev, normalise}
-use Rattle.cellunion.specs.Stack.{Down, Stack, Ready, topFirst, Topped, Gives, PassAsks, PassDone}
+use Rattle.cellunion.specs.Stack.{Down, Stack, AllBefore, topFirst, Topped, Gives, PassAsks, PassDone}
 use Rattle.cellunion.specs.Memory.{zeros, laid, normalised}
 use Rattle.cellunion.proofs.Spans.{span, In, holds-in}
 use Rattle.cellunion.proofs.Unique.{all-at, at-all, Covered}
@@ -91,9 +91,9 @@ module _ (s : List ℕ) (a : ℕ) (r : List ℕ) (c : ℕ) (W : Around s a r c) 
   collapsed b h = collapse-laws (clearOf c s) c b (cleared .stack) (W .cell) (cleared .under) h
 
   -- the wide cell begins before all that is still to come
-  ready : All (Ready (collapse (clearOf c s) c)) r
+  ready : All (AllBefore (collapse (clearOf c s) c)) r
   unfolding All
-  ready = at-all (Ready (collapse (clearOf c s) c)) r (λ x m.
+  ready = at-all (AllBefore (collapse (clearOf c s) c)) r (λ x m.
       let h : hi a ≤ lo x = all-at (λ x. hi a ≤ lo x) r (apart-from a r (W .cells) (W .apart)) x m in
       let u = span (W .cells .0) in
       let v = span (all-at Cell r (W .cells .1) x m) in

@@ -31,14 +31,14 @@ pub record Topped (s : List ℕ) (c : ℕ) : Type 0 where
   pub under : All (λ y. hi y ≤ lo c) s
 
 -- all of s begins before c
-abbrev pub Ready : List ℕ → ℕ → Type 0
-Ready s c = All (λ y. 2 * lo y + 1 ≤ c) s
+abbrev pub AllBefore : List ℕ → ℕ → Type 0
+AllBefore s c = All (λ y. 2 * lo y + 1 ≤ c) s
 
 -- c may be looked at next
 pub record Next (s : List ℕ) (c : ℕ) : Type 0 where
   pub stack : Stack s
   pub cell : Cell c
-  pub ready : Ready s c
+  pub ready : AllBefore s c
 
 -- r words are kept, and what stands from place k + 1 on is as before
 pub record Gives (want : List ℕ) (k : ℕ) (m m' : List ℕ) (r : ℕ) : Type 0 where
@@ -54,7 +54,7 @@ pub record PassAsks (n : ℕ) (m : List ℕ) (k i : ℕ) : Type 0 where
   pub stack : Stack (topFirst k m)
   pub cells : All Cell (drop i (take n m))
   pub sorted : Sorted ltb (drop i (take n m))
-  pub ready : All (Ready (topFirst k m)) (drop i (take n m))
+  pub ready : All (AllBefore (topFirst k m)) (drop i (take n m))
 
 -- the first r words are what the pass keeps, and what stands from place n on is as before
 pub record PassDone (n : ℕ) (m : List ℕ) (k i : ℕ) (m' : List ℕ) (r : ℕ) : Type 0 where
@@ -62,7 +62,7 @@ pub record PassDone (n : ℕ) (m : List ℕ) (k i : ℕ) (m' : List ℕ) (r : �
   pub is : take r m' ≡ rev (pass (topFirst k m) (drop i (take n m)))
   pub rest : drop n m' ≡ drop n m
 
--- the id, behind all of s, begins before the parent of the top ends; so does every sibling of the top
+-- the id begins before the parent of the top ends; on an empty stack every one does
 unfoldable pub nearTop : List ℕ → ℕ → Bool
 nearTop [] id = true
 nearTop (t ∷ s) id = leb (firstLeaf id) (lastLeaf (upOne t))

@@ -11,7 +11,7 @@ use input::Found;
 use libc::STDIN_FILENO;
 use text::Fault;
 
-// Words for the lists of a line: as many as they can have on the longest one.
+// Words for the lists of a line: more than the longest line can fill.
 fn list_words() -> [u64; 16384]
     ensures { λ r. ⌜ 16384 ≡ length r ⌝ }
 {

@@ -1,8 +1,8 @@
 -- The scan for the deepest pair: the smaller the exclusive or of two neighbours, the deeper their common ancestor lies.
 use mathlib.Core.Path.{_≡_, refl, sym, ap, _∙_, subst}
 use mathlib.Core.Logic.{by-cases}
-use mathlib.Core.List.{List, [], _∷_}
-use Prim.Native.Nat.{ℕ, zero, suc, _+_, _-_, _*_, _/_, _%_, _^_, _≤_, _<_}
+use mathlib.Core.List.{List}
+use Prim.Native.Nat.{ℕ, suc, _+_, _-_, _*_, _/_, _%_, _^_, _≤_, _<_}
 use native.Mathlib.Nat.{div-add-mod', mod-lt, mod-le, mul-le-mul-right, add-mul, one-mul}
 use native.Mathlib.Decide.{decLt}
 use native.Mathlib.Numerals.{add-one}
@@ -18,6 +18,7 @@ use Rattle.cellid.proofs.Ancestors.{spread, common-none, common-some}
 use Rattle.order.specs.Order.{All}
 use Rattle.order.proofs.OrderLaws.{all-get}
 use Rattle.cellunion.specs.CellUnion.{lo, hi, Apart}
+use Rattle.cellunion.proofs.Lists.{apart-get}
 use Rattle.cellunion.proofs.Spans.{span, lo-is, hi-is}
 use Rattle.fast.specs.declared.Best.{Best}
 use Rattle.fast.specs.Fast.{adjusted, pairDepth, bestOf}
@@ -113,12 +114,6 @@ least-pair : (low step a b most : ℕ) → 0 < step → Cell a → Cell b → la
 least-pair low step a b most p A B h d x y X Y l =
     omega (arith, depth-falls low step a b x y p A B X Y (omega (arith, apart-spread a b A B h)))
 
-pub neighbours : (l : List ℕ) (i : ℕ) → suc i < length l → Apart l → lastLeaf (getD l i 0) < firstLeaf (getD l (suc i) 0)
-unfolding Apart
-neighbours [] i h A = absurd (omega arith)
-neighbours (x ∷ l) zero h A = all-get (λ y. lastLeaf x < firstLeaf y) l 0 0 (omega arith) (A .0)
-neighbours (x ∷ l) (suc i) h A = neighbours l i (omega arith) (A .1)
-
 -- the best of the first i pairs
 pub record Scanning (low step : ℕ) (m : List ℕ) (k : ℕ) (b : Best) (least i : ℕ) : Type 0 where
   pub within : i ≤ k - 1
@@ -144,7 +139,7 @@ module _ (low step : ℕ) (p : 0 < step) (m : List ℕ) (k : ℕ) (room : k ≤ 
     here = rw (getD-take k m i 0 (omega arith), getD-take k m (suc i) 0 (omega arith), ← add-one i)
 
     next-to : lastLeaf (getD m i 0) < firstLeaf (getD m (i + 1) 0)
-    next-to = rw (add-one i, ← getD-take k m i 0 (omega arith), ← getD-take k m (suc i) 0 (omega arith)) (neighbours (take k m) i (omega (arith, length-take-le k m room)) A)
+    next-to = rw (add-one i, ← getD-take k m i 0 (omega arith), ← getD-take k m (suc i) 0 (omega arith)) (apart-get (take k m) i (suc i) A (omega arith) (omega (arith, length-take-le k m room)))
 
     same : pairDepth low step (getD m i 0) (getD m (i + 1) 0) ≤ b .depth → b ≡ bestOf low step (take k m) (i + 1)
     same l = rw (add-one i) (S .is ∙ sym (best-same low step (take k m) i (rw (here, ← S .is) l)))

@@ -12,12 +12,12 @@ use Rattle.cellid.proofs.Ancestors.{common-nothing}
 use Rattle.order.specs.Order.{All}
 use Rattle.order.proofs.OrderLaws.{all-get}
 use Rattle.cellunion.specs.CellUnion.{Apart, normalise}
+use Rattle.cellunion.proofs.Lists.{apart-get}
 use Rattle.cellunion.proofs.Spans.{span}
 use Rattle.cellunion.proofs.Counts.{hi-le}
 use Rattle.cellunion.proofs.Norm.{normalise-normal}
 use Rattle.fast.specs.Fast.{lifted, depthOf, pairDepth, bestOf, mergedCovering}
 use Rattle.fast.proofs.Merging.{best-better, best-same, merged-ends}
-use Rattle.fast.proofs.Scan.{neighbours}
 use Rattle.fast.proofs.Laws.{lifted-cells, merged-covering}
 
 -- no pair that was looked at lies deeper than the best
@@ -46,7 +46,7 @@ climb : (l : List ℕ) → All Cell l → Apart l → ((i : ℕ) → suc i < len
 climb l C A d zero h = omega arith
 climb l C A d (suc i) h =
     let g = climb l C A d i (omega arith) in
-    let f = face-up (getD l i 0) (getD l (suc i) 0) (all-get Cell l 0 i (omega arith) C) (all-get Cell l 0 (suc i) h C) (neighbours l i h A) (d i h) in
+    let f = face-up (getD l i 0) (getD l (suc i) 0) (all-get Cell l 0 i (omega arith) C) (all-get Cell l 0 (suc i) h C) (apart-get l i (suc i) A (omega arith) h) (d i h) in
     omega arith
 
 face-small : (x : ℕ) → Cell x → faceOf x ≤ 5

@@ -69,7 +69,7 @@ fn takes_all_levels(c: RegionCoverer) -> bool
     }
 }
 
-// Moves each of the first n cells whose level is above max_level or off step to its ancestor that is neither.
+// Moves each of the first n cells that is deeper than max_level or off step to its ancestor that is neither. Where every level is taken there is nothing to move.
 fn lift(c: RegionCoverer, mem: &mut [u64], n: usize)
     requires { ⌜ NumbersFit c × Cells n (now mem) ⌝ }
     ensures { λ _. ⌜ now (mem .exit) ≡ liftedFor c (take n (now (mem .entry))) ++ drop n (now (mem .entry)) ⌝ }
@@ -89,7 +89,7 @@ fn lift(c: RegionCoverer, mem: &mut [u64], n: usize)
 
 // Merges the first n cells, a normal list, while they are more than max_cells: the neighbours whose common ancestor lies deepest become that
 // ancestor, as long as it lies at min_level or deeper. Gives how many are left. The smaller the exclusive or of two neighbours, the deeper lies their ancestor:
-// only a pair with a smaller one than all before it is looked at closer. From 2 ^ 61 on the faces differ, and there is no ancestor.
+// only a pair with a smaller one than all before it, `least`, is looked at closer. It begins with 2 ^ 61: from there on the faces differ, and there is no ancestor.
 fn merge(c: RegionCoverer, mem: &mut [u64], n: usize) -> usize
     requires { ⌜ NumbersFit c × (n ≤ length (now mem)) × Normal (take n (now mem)) ⌝ }
     ensures { λ r. ⌜ (r ≡ length (mergedFor c (take n (now (mem .entry))))) × (now (mem .exit) ≡ inPlace n (mergedFor c (take n (now (mem .entry)))) (now (mem .entry))) ⌝ }
@@ -217,7 +217,7 @@ fn start_cells(c: RegionCoverer, mem: &mut [u64], n: usize) -> usize
     adjust_cell_levels(c, mem, k)
 }
 
-// Six words.
+// Zeros for the start cells.
 fn six_words() -> [u64; 6]
     ensures { λ r. ⌜ r ≡ zeros 6 ⌝ }
 {

@@ -15,7 +15,7 @@ use Rattle.cellid.proofs.Leaves.{contains-leaves, intersects-leaves}
 use Rattle.order.specs.Order.{All}
 use Rattle.order.proofs.OrderLaws.{all-get}
 use Rattle.cellunion.specs.CellUnion.{covers, Apart, isList}
-use Rattle.cellunion.proofs.Lists.{is-list}
+use Rattle.cellunion.proofs.Lists.{is-list, apart-get}
 use Rattle.cellunion.proofs.Spans.{span, holds-in}
 use Rattle.picklist.specs.PickList.{isPickList, some, listMeets, listHolds, Parts}
 
@@ -44,75 +44,32 @@ pick-is l = (
 -- ---- the listed cells, by their places
 
 module _ (l : List ℕ) (P : isPickList l ≡ true) where
-  pub listed-cell : (i : ℕ) → i < length l → Cell (getD l i 0)
+  listed-cell : (i : ℕ) → i < length l → Cell (getD l i 0)
   listed-cell i h = all-get Cell l 0 i h (pick-is l .0 P .1)
 
-  pub listed-pos : (i : ℕ) → i < length l → 0 < getD l i 0
-  listed-pos i h = let C = listed-cell i h in cell-pos _ (C .0) (C .1) (C .2)
+  pub pick-pos : (i : ℕ) → i < length l → 0 < getD l i 0
+  pick-pos i h = let C = listed-cell i h in cell-pos _ (C .0) (C .1) (C .2)
 
--- a later cell begins after an earlier one ends
-later : (l : List ℕ) (i j : ℕ) → Apart l → i < j → j < length l → lastLeaf (getD l i 0) < firstLeaf (getD l j 0)
-unfolding Apart
-later [] i j A h g = absurd (omega arith)
-later (x ∷ l) zero zero A h g = absurd (omega arith)
-later (x ∷ l) zero (suc j) A h g = all-get (λ y. lastLeaf x < firstLeaf y) l 0 j (omega arith) (A .0)
-later (x ∷ l) (suc i) zero A h g = absurd (omega arith)
-later (x ∷ l) (suc i) (suc j) A h g = later l i j (A .1) (omega arith) (omega arith)
-
--- ---- the search: of the places, those before low end before the leaf, those from high on don't
-
-pub record Searching (l : List ℕ) (first low high : ℕ) : Type 0 where
-  pub some : low ≤ high
-  pub within : high ≤ length l
-  pub before : (i : ℕ) → i < low → lastLeaf (getD l i 0) < first
-  pub after : (i : ℕ) → high ≤ i → i < length l → first ≤ lastLeaf (getD l i 0)
-
-pub search-start : (l : List ℕ) (first : ℕ) → Searching l first 0 (length l)
-search-start l first = record { some = omega arith; within = omega arith; before = λ i h. absurd (omega arith); after = λ i h g. absurd (omega arith) }
-
-module _ (l : List ℕ) (P : isPickList l ≡ true) (first low high m : ℕ) (S : Searching l first low high) (a : low ≤ m) (b : m < high) where
+  -- their ends ascend
   ends-up : (i j : ℕ) → i ≤ j → j < length l → lastLeaf (getD l i 0) ≤ lastLeaf (getD l j 0)
   ends-up i j h g = by-cases (decLt i j)
-      (λ k. let s = span (listed-cell l P j g) in omega (arith, later l i j (pick-is l .0 P .2) k g, s .first, s .last, s .some))
+      (λ k. let s = span (listed-cell j g) in omega (arith, apart-get l i j (pick-is l .0 P .2) k g, s .first, s .last, s .some))
       (λ k. let e : i ≡ j = omega arith in rw e (omega arith))
-
-  pub search-up : lastLeaf (getD l m 0) < first → Searching l first (m + 1) high
-  search-up h = record {
-    some = omega arith;
-    within = S .within;
-    before = λ i g. omega (arith, h, ends-up i m (omega arith) (omega (arith, S .within)));
-    after = S .after;
-  }
-
-  pub search-down : first ≤ lastLeaf (getD l m 0) → Searching l first low m
-  search-down h = record {
-    some = a;
-    within = omega (arith, S .within);
-    before = S .before;
-    after = λ i g k. omega (arith, h, ends-up m i g k);
-  }
-
-pub search-done : (l : List ℕ) (first low high : ℕ) → Searching l first low high → high ≤ low → Parts l first low
-search-done l first low high S h = record {
-  within = omega (arith, S .some, S .within);
-  before = S .before;
-  after = λ i g k. S .after i (omega arith) k;
-}
 
 -- ---- some
 
-pub some-at : (test : ℕ → Bool) (l : List ℕ) (i : ℕ) → i < length l → test (getD l i 0) ≡ true → some test l ≡ true
+some-at : (test : ℕ → Bool) (l : List ℕ) (i : ℕ) → i < length l → test (getD l i 0) ≡ true → some test l ≡ true
 unfolding some
 some-at test [] i h t = absurd (omega arith)
 some-at test (y ∷ l) zero h t = true-or (test y) (some test l) (inl t)
 some-at test (y ∷ l) (suc i) h t = true-or (test y) (some test l) (inr (some-at test l i (omega arith) t))
 
-pub some-none : (test : ℕ → Bool) (l : List ℕ) → ((i : ℕ) → i < length l → test (getD l i 0) ≡ true → ⊥) → some test l ≡ false
+some-none : (test : ℕ → Bool) (l : List ℕ) → ((i : ℕ) → i < length l → test (getD l i 0) ≡ true → ⊥) → some test l ≡ false
 unfolding some
 some-none test [] h = refl
 some-none test (y ∷ l) h = rw (no-true (test y) (h 0 (omega arith))) (some-none test l (λ i g t. h (suc i) (omega arith) t))
 
-some-found : (test : ℕ → Bool) (l : List ℕ) → some test l ≡ true → (i : ℕ) × (i < length l) × (test (getD l i 0) ≡ true)
+pub some-found : (test : ℕ → Bool) (l : List ℕ) → some test l ≡ true → (i : ℕ) × (i < length l) × (test (getD l i 0) ≡ true)
 unfolding some
 some-found test [] t = let z : _≡_ {A = ℕ} 0 1 = cc in absurd (omega arith)
 some-found test (y ∷ l) t = ⊎-elim
@@ -123,6 +80,41 @@ some-found test (y ∷ l) t = ⊎-elim
 -- one place decides
 some-one : (test : ℕ → Bool) (l : List ℕ) (at : ℕ) → at < length l → ((i : ℕ) → i < length l → test (getD l i 0) ≡ true → test (getD l at 0) ≡ true) → some test l ≡ test (getD l at 0)
 some-one test l at h g = bool-iff _ _ (λ t. let r = some-found test l t in g (r .0) (r .1) (r .2)) (λ t. some-at test l at h t)
+
+-- ---- the search: of the places, those before low end before the leaf, those from high on don't
+
+pub record Searching (l : List ℕ) (first low high : ℕ) : Type 0 where
+  pub ordered : low ≤ high
+  pub within : high ≤ length l
+  pub before : (i : ℕ) → i < low → lastLeaf (getD l i 0) < first
+  pub after : (i : ℕ) → high ≤ i → i < length l → first ≤ lastLeaf (getD l i 0)
+
+pub search-start : (l : List ℕ) (first : ℕ) → Searching l first 0 (length l)
+search-start l first = record { ordered = omega arith; within = omega arith; before = λ i h. absurd (omega arith); after = λ i h g. absurd (omega arith) }
+
+module _ (l : List ℕ) (P : isPickList l ≡ true) (first low high m : ℕ) (S : Searching l first low high) (a : low ≤ m) (b : m < high) where
+  pub search-up : lastLeaf (getD l m 0) < first → Searching l first (m + 1) high
+  search-up h = record {
+    ordered = omega arith;
+    within = S .within;
+    before = λ i g. omega (arith, h, ends-up l P i m (omega arith) (omega (arith, S .within)));
+    after = S .after;
+  }
+
+  pub search-down : first ≤ lastLeaf (getD l m 0) → Searching l first low m
+  search-down h = record {
+    ordered = a;
+    within = omega (arith, S .within);
+    before = S .before;
+    after = λ i g k. omega (arith, h, ends-up l P m i g k);
+  }
+
+pub search-done : (l : List ℕ) (first low high : ℕ) → Searching l first low high → high ≤ low → Parts l first low
+search-done l first low high S h = record {
+  within = omega (arith, S .ordered, S .within);
+  before = S .before;
+  after = λ i g k. S .after i (omega arith) k;
+}
 
 -- ---- what the first listed cell that doesn't end before a cell says of all
 
@@ -161,7 +153,7 @@ module _ (l : List ℕ) (P : isPickList l ≡ true) (id at : ℕ) (C : Cell id) 
         let k = meets-late i g t in
         by-cases (decLt at i)
         (λ j. let s = span (listed-cell l P at h) in
-        meets-if (getD l at 0) id (S .after at (omega arith) h) ∙ le-leb (firstLeaf (getD l at 0)) (lastLeaf id) (omega (arith, meets→ (getD l i 0) id t .1, later l at i (pick-is l .0 P .2) j g, s .first, s .last, s .some)))
+        meets-if (getD l at 0) id (S .after at (omega arith) h) ∙ le-leb (firstLeaf (getD l at 0)) (lastLeaf id) (omega (arith, meets→ (getD l i 0) id t .1, apart-get l at i (pick-is l .0 P .2) j g, s .first, s .last, s .some)))
         (λ j. let e : i ≡ at = omega arith in rw e at t)
 
     near-holds : (i : ℕ) → i < length l → holds (getD l i 0) id ≡ true → holds (getD l at 0) id ≡ true
@@ -171,7 +163,7 @@ module _ (l : List ℕ) (P : isPickList l ≡ true) (id at : ℕ) (C : Cell id) 
         (λ j. let n = holds-in (listed-cell l P i g) C t in
         let s = span (listed-cell l P i g) in
         let u = span C in
-        absurd (omega (arith, S .after at (omega arith) h, later l at i (pick-is l .0 P .2) j g, n .0, s .first, u .first)))
+        absurd (omega (arith, S .after at (omega arith) h, apart-get l at i (pick-is l .0 P .2) j g, n .0, s .first, u .first)))
         (λ j. let e : i ≡ at = omega arith in rw e at t)
 
     pub near-decides : (leb (firstLeaf (getD l at 0)) (lastLeaf id) ≡ listMeets l id) × (holds (getD l at 0) id ≡ listHolds l id)
@@ -182,7 +174,7 @@ module _ (l : List ℕ) (P : isPickList l ≡ true) (id at : ℕ) (C : Cell id) 
 
 -- ---- the tests by leaves
 
-some-covers : (l : List ℕ) (n : ℕ) → covers l n ≡ some (λ y. hasLeaf y n) l
+pub some-covers : (l : List ℕ) (n : ℕ) → covers l n ≡ some (λ y. hasLeaf y n) l
 unfolding covers some
 some-covers [] n = refl
 some-covers (y ∷ l) n = ap (λ (t : Bool). hasLeaf y n || t) (some-covers l n)
@@ -206,8 +198,8 @@ holds-leaf l id n P C t h =
     some-covers l n ∙ some-at (λ y. hasLeaf y n) l (r .0) (r .1) (contains-leaves (getD l (r .0) 0) id (listed-cell l P (r .0) (r .1)) C .0 (r .2) n h)
 
 -- what contains a cell meets it
-pub holds-meets : (l : List ℕ) (id : ℕ) → isPickList l ≡ true → Cell id → listHolds l id ≡ true → listMeets l id ≡ true
-holds-meets l id P C t =
+pub list-holds-meets : (l : List ℕ) (id : ℕ) → isPickList l ≡ true → Cell id → listHolds l id ≡ true → listMeets l id ≡ true
+list-holds-meets l id P C t =
     let r = some-found (λ y. holds y id) l t in
     let i = holds-in (listed-cell l P (r .0) (r .1)) C (r .2) in
     let s = span (listed-cell l P (r .0) (r .1)) in

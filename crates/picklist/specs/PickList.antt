@@ -8,9 +8,13 @@ use Rattle.cellid.specs.CellId.{lastLeaf, holds, meets}
 use Rattle.cellunion.specs.CellUnion.{isList}
 use Rattle.picklist.specs.declared.Seen.{Seen}
 
+-- the most ids of a list
+abbrev pub picksMost : ℕ
+picksMost = 4096
+
 -- "0 to 4,096 ids, valid, ascending, no cell inside another"
 unfoldable pub isPickList : List ℕ → Bool
-isPickList l = leb (length l) 4096 && isList l
+isPickList l = leb (length l) picksMost && isList l
 
 -- some cell of the list passes
 unfoldable pub some : (ℕ → Bool) → List ℕ → Bool

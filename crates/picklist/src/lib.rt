@@ -42,7 +42,8 @@ fn find(list: &[u64], first: u64) -> usize
     low
 }
 
-// What a list is to the cell of a valid id. Of all listed cells only the first that doesn't end before it can meet it first, or contain it.
+// What a list is to the cell of a valid id. The first listed cell that doesn't end before the cell begins decides: if it doesn't meet the cell none does, and no
+// other can contain it.
 pub fn see(list: &[u64], id: u64) -> Seen
     requires { ⌜ (isPickList (now list) ≡ true) × Cell id ⌝ }
     ensures { λ r. ⌜ r ≡ seenBy (now (list .entry)) id ⌝ }

@@ -291,11 +291,12 @@ fn read_coverer(k: u64, line: &[u8], p: Place) -> CovererRead {
 
 // ---- questions about a region
 
+// Words for a list of a question, or for a region's bound.
 fn words() -> [u64; 4096] {
     [0; 4096]
 }
 
-// Words for a region's list: as many as it can have on the longest line.
+// Words for a region's list: more than the longest line can fill.
 fn list_words() -> [u64; 16384] {
     [0; 16384]
 }

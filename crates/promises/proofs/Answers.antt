@@ -105,7 +105,7 @@ module _ (c : RegionCoverer) (a : Area) (allowance memory : ℕ) (v : Valid c a 
     list = F .list;
     keeps = inner-list true c a allowance memory v (F .state) (F .ran) e _ (F .list) refl;
     levels = words-levels true c a allowance memory v (F .state) (F .ran) e _ (F .list);
-    within = λ ids i. list-within (askedOf c true) a ids i (v .region) _ _ _ (ran-cells c a memory v true allowance (F .state) (F .ran))
+    none-outside = λ ids i. list-within (askedOf c true) a ids i (v .region) _ _ _ (ran-cells c a memory v true allowance (F .state) (F .ran))
         (inner-list true c a allowance memory v (F .state) (F .ran) e _ (F .list) refl);
   }
 

@@ -3,7 +3,7 @@ use mathlib.Core.Path.{_≡_, refl, sym, ap, _∙_}
 use mathlib.Core.Bool.{Bool, true, false, true≢false}
 use mathlib.Core.Logic.{inl, inr, ⊎-elim}
 use mathlib.Core.List.{List, [], _∷_}
-use Prim.Native.Nat.{ℕ, suc, _%_, _<_}
+use Prim.Native.Nat.{ℕ, _%_, _<_}
 use native.Mathlib.Omega.{arith}
 use lib.ListN.{length, getD}
 use Rattle.cellid.specs.CellId.{Cell, levelOf, hasLeaf, one}
@@ -14,6 +14,7 @@ use Rattle.cellid.proofs.Laws.{or-true, true-or}
 use Rattle.cellunion.proofs.Unique.{all-at}
 use Rattle.cellunion.proofs.Norm.{normalise-leaves}
 use Rattle.cellunion.proofs.Denorm.{final-levels, final-leaves}
+use Rattle.picklist.proofs.Laws.{some-found, some-covers}
 use Rattle.run.specs.Run.{minLevel, maxLevel, levelMod, Task, Course, _by_, Grown, State, going, run, rawIds, sumOf}
 use Rattle.run.specs.Ground.{Domain, Fit, Passes, timesCovered}
 use Rattle.run.proofs.Lists.{all-map}
@@ -34,12 +35,7 @@ times-covers (x ∷ l) n h = ⊎-elim
 
 -- a leaf that a list covers lies under the cell at some place of it
 covers-place : (l : List ℕ) (n : ℕ) → covers l n ≡ true → (i : ℕ) × (i < length l) × (hasLeaf (getD l i 0) n ≡ true)
-unfolding covers
-covers-place [] n t = absurd (true≢false (sym t))
-covers-place (x ∷ l) n t = ⊎-elim
-    (λ e. (0, omega arith, e))
-    (λ e. let r = covers-place l n e in (suc (r .0), omega (arith, r .1), r .2))
-    (or-true (hasLeaf x n) (covers l n) t)
+covers-place l n t = some-found (λ y. hasLeaf y n) l (sym (some-covers l n) ∙ t)
 
 covers-member : (l : List ℕ) (n : ℕ) → covers l n ≡ true → (id : ℕ) × Member id l × (hasLeaf id n ≡ true)
 unfolding covers Member

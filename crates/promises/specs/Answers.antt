@@ -45,7 +45,7 @@ pub record InnerDone (e : Ending) (c : RegionCoverer) (a : Area) (allowance : �
   pub list : take (r .count) out ≡ listOf e c (rawIds state)
   pub keeps : Inner (courseOf (askedOf c true) a) (startsFor c (boundOf a)) state (take (r .count) out)
   pub levels : e ≡ Ending.Covering → OnLevels (askedOf c true) (take (r .count) out)
-  pub within : (ids : List ℕ) → a ≡ listArea ids → CoversAll (take (r .count) out) ids  -- of a list, "the inner answer has no leaf outside it"
+  pub none-outside : (ids : List ℕ) → a ≡ listArea ids → CoversAll (take (r .count) out) ids  -- of a list, "the inner answer has no leaf outside it"
 
 -- the quick covering of the region's bound: its leaves are covered, by cells that don't overlap, of levels from min to max in whole steps
 pub record FastDone (c : RegionCoverer) (a : Area) (r : Answer) (out : List ℕ) : Type 0 where

@@ -21,8 +21,8 @@ use Rattle.cap.specs.Siblings.{fourBits, setOf, looksOf}
 use Rattle.cap.proofs.Siblings.{two-sets}
 use Rattle.cap.proofs.Laws as CapLaws
 use Rattle.cap.proofs.BoundLaws as BoundLaws
-use Rattle.picklist.specs.PickList.{some}
-use Rattle.picklist.proofs.Laws.{pick-is, holds-meets}
+use Rattle.picklist.specs.PickList.{picksMost, some}
+use Rattle.picklist.proofs.Laws.{pick-is, list-holds-meets}
 use Rattle.region.specs.Region.{Area, capArea, cellArea, listArea, inDomain, intersectsCell, containsCell, boundOf}
 
 -- ---- containing implies intersecting
@@ -30,7 +30,7 @@ pub contains-intersects : (a : Area) (id : ℕ) → inDomain a ≡ true → Cell
 unfolding containsCell intersectsCell inDomain
 contains-intersects (capArea cap) id d c h = CapLaws.contains-intersects cap id h
 contains-intersects (cellArea own) id d c h = true-or _ _ (inl h)
-contains-intersects (listArea ids) id d c h = holds-meets ids id d c h
+contains-intersects (listArea ids) id d c h = list-holds-meets ids id d c h
 
 -- ---- an empty cap intersects and contains nothing, nor does an empty list
 pub empty-none : (cap : Cap) (id : ℕ) → isEmptyCap cap ≡ true → (intersectsCell (capArea cap) id ≡ false) × (containsCell (capArea cap) id ≡ false)
@@ -42,7 +42,7 @@ unfolding containsCell intersectsCell some
 empty-list-none id = (refl, refl)
 
 -- ---- the bound: valid cells, few enough for the words of a run
-pub bound-fits : (a : Area) → inDomain a ≡ true → length (boundOf a) ≤ 4096
+pub bound-fits : (a : Area) → inDomain a ≡ true → length (boundOf a) ≤ picksMost
 unfolding boundOf inDomain
 bound-fits (capArea cap) h = omega (arith, BoundLaws.bound-short cap)
 bound-fits (cellArea own) h = omega (arith, BoundLaws.bound-short (capBound (cellOf own)))
@@ -55,7 +55,7 @@ bound-cells (cellArea own) h = BoundLaws.bound-cells (capBound (cellOf own))
 bound-cells (listArea ids) h = pick-is ids .0 h .1
 
 -- a bound of at most six, in its array
-pub six-asks : (c : Cap) (room : ℕ) (b : Bound) → 4096 ≤ room → b ≡ inSix (unionBound c) → (b .count ≤ length (b .ids)) × (b .count ≤ room)
+pub six-asks : (c : Cap) (room : ℕ) (b : Bound) → picksMost ≤ room → b ≡ inSix (unionBound c) → (b .count ≤ length (b .ids)) × (b .count ≤ room)
 six-asks c room b h e = rw e (simp length-append (omega arith), omega (arith, BoundLaws.bound-short c))
 
 pub six-laid : (l m m′ : List ℕ) (b : Bound) (r : ℕ) → b ≡ inSix l → (r ≡ b .count) × (m′ ≡ laid 0 (take (b .count) (b .ids)) m) → (r ≡ length l) × (m′ ≡ laid 0 l m)

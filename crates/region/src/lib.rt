@@ -10,7 +10,7 @@ ghost use Rattle.cell.specs.Cell.{cellOf, capBound};
 ghost use Rattle.cap.specs.Bound.{unionBound, inSix};
 ghost use Rattle.cap.specs.Siblings.{fourBits, looksOf};
 ghost use Rattle.cellunion.specs.Memory.{laid};
-ghost use Rattle.picklist.specs.PickList.{isPickList, listMeets, listHolds};
+ghost use Rattle.picklist.specs.PickList.{picksMost, isPickList, listMeets, listHolds};
 ghost use Rattle.region.specs.Region.{areaOf, capInDomain, inDomain, intersectsCell, containsCell, boundOf};
 use cap::Bound;
 use cap::Looks;
@@ -81,8 +81,8 @@ fn list_intersects(list: &[u64], id: u64) -> bool
     seen.meets
 }
 
-// Whether the region and the cell of a valid id have a point in common. For a cap see crate cap; for a
-// cell a few whole-number operations, for a list a binary search.
+// Whether the region and the cell of a valid id have a point in common. For a cap see crate cap; for a cell a few whole-number operations, for a list a binary
+// search.
 pub fn intersects_cell(g: Region, list: &[u64], id: u64) -> bool
     requires { ⌜ (inDomain (areaOf g (now list)) ≡ true) × Cell id ⌝ }
     ensures { λ r. ⌜ r ≡ intersectsCell (areaOf g (now (list .entry))) id ⌝ }
@@ -122,7 +122,7 @@ pub fn contains_cell(g: Region, list: &[u64], id: u64) -> bool
 }
 
 // Both tests of a cell in one number: 1 where it meets the region, and 16 more where it lies inside.
-fn look(meets: bool, inside: bool) -> u64
+fn marked(meets: bool, inside: bool) -> u64
     ensures { λ r. ⌜ r ≡ one meets + 16 * one inside ⌝ }
 {
     cap::mark(meets) + 16 * cap::mark(inside)
@@ -146,7 +146,7 @@ fn cell_look(own: u64, id: u64, k: u64) -> u64
     ensures { λ r. ⌜ r ≡ one (holds own (childOf id k) || holds (childOf id k) own) + 16 * one (holds own (childOf id k)) ⌝ }
 {
     let c = cellid::child(id, k);
-    look(cell_intersects(own, c), cell_contains(own, c))
+    marked(cell_intersects(own, c), cell_contains(own, c))
 }
 
 fn cell_looks(own: u64, id: u64) -> Looks
@@ -167,7 +167,7 @@ fn list_look(list: &[u64], id: u64, k: u64) -> u64
     ensures { λ r. ⌜ r ≡ one (listMeets (now (list .entry)) (childOf id k)) + 16 * one (listHolds (now (list .entry)) (childOf id k)) ⌝ }
 {
     let seen = picklist::see(list, cellid::child(id, k));
-    look(seen.meets, seen.inside)
+    marked(seen.meets, seen.inside)
 }
 
 fn list_looks(list: &[u64], id: u64) -> Looks
@@ -224,7 +224,7 @@ fn copy_list(list: &[u64], mem: &mut [u64]) -> usize
 
 // Lays the cells that bound the region over the memory's first words, and gives how many they are: one to six for a cap or a cell, the list itself for a list.
 pub fn cell_union_bound(g: Region, list: &[u64], mem: &mut [u64]) -> usize
-    requires { ⌜ (inDomain (areaOf g (now list)) ≡ true) × (4096 ≤ length (now mem)) ⌝ }
+    requires { ⌜ (inDomain (areaOf g (now list)) ≡ true) × (picksMost ≤ length (now mem)) ⌝ }
     ensures { λ r. ⌜ (r ≡ length (boundOf (areaOf g (now (list .entry))))) × (now (mem .exit) ≡ laid 0 (boundOf (areaOf g (now (list .entry)))) (now (mem .entry))) ⌝ }
 {
     match g {

@@ -20,7 +20,7 @@ use Rattle.replies.specs.Write.{Wrote, okText, refusedText, errorText}
 use Rattle.replies.proofs.Lengths.{wrote-whole, error-length, refused-length, ok-length}
 use Rattle.region.specs.Region.{Area, capArea, cellArea, listArea, areaOf}
 use Rattle.requests.specs.declared.line.Asked.{Asked}
-use Rattle.requests.specs.Line.{Wish, wishOf, regionOf, idsOf, wordsWith, askedRead, askedWith, ReadAsked}
+use Rattle.requests.specs.Line.{Wish, wishOf, regionOf, idsOf, wordsWith, askedPart, askedWith, ReadAsked}
 use Rattle.requests.specs.Requests.{allowanceOf, resultFor, resultIn, resultText, onFirst, textAt, memoryAt, outputAt, askedText, askedWords, askedMemory, askedOutput, answerText, AnsweredIn, Replied}
 
 -- ---- a part no longer than the whole
@@ -156,7 +156,7 @@ module _ (w : Wish) (q : Asked) (words words' : List ℕ) (R : ReadAsked w q wor
   unfolding wordsWith
   asked-back =
       let ids : take (q .count) words' ≡ idsOf (w .area) = rw (R .read, R .ids) (take-append-seam (idsOf (w .area)) _) in
-      ap (λ (x : Asked). askedWith x (take (q .count) words')) (R .read) ∙ ap (λ (l : List ℕ). askedWith (askedRead w) l) ids ∙ ap (λ (a : Area). record { kind = w .kind; coverer = w .coverer; area = a; allowance = w .allowance; out = w .out; mem = w .mem; form = w .form; after = w .after }) (area-back (w .area))
+      ap (λ (x : Asked). askedWith x (take (q .count) words')) (R .read) ∙ ap (λ (l : List ℕ). askedWith (askedPart w) l) ids ∙ ap (λ (a : Area). record { kind = w .kind; coverer = w .coverer; area = a; allowance = w .allowance; out = w .out; mem = w .mem; form = w .form; after = w .after }) (area-back (w .area))
 
 module _ (number : ℕ) (line words mem out page : List ℕ) where
   pub replied-nothing : isSilent line ≡ true → Replied number line words words mem mem out out page 0 page

@@ -21,7 +21,7 @@ use Rattle.requests.specs.declared.line.Four.{Four}
 use Rattle.requests.specs.declared.line.CovererRead.{CovererRead}
 use Rattle.requests.specs.declared.line.RegionRead.{RegionRead}
 use Rattle.requests.specs.declared.line.Options.{Options}
-use Rattle.requests.specs.Line.{kinds, kindOf, fourAfter, covererAfter, capOf, AreaRead, capAfter, cellAfter, idsAfter, shapes, areaAfter, keys, mostOf, none, valueOr, formOf, badOption, optionGiven, optionOf, optionFrom, nextOption, optionsAfter, wishOf, regionOf, idsOf, wordsWith, regionRead, ReadRegion, ReadAsked}
+use Rattle.requests.specs.Line.{kinds, kindOf, fourAfter, covererAfter, capOf, AreaRead, capAfter, cellAfter, idsAfter, shapes, areaAfter, keys, mostOf, none, valueOr, formOf, badOption, optionGiven, optionOf, optionFrom, nextOption, optionsAfter, wishOf, regionOf, idsOf, wordsWith, regionPart, ReadRegion, ReadAsked}
 
 -- ---- the parts of a request
 
@@ -36,11 +36,11 @@ module _ (l : List ℕ) (p : Place) where
   coverer-read n e = rw e
 
   pub cap-read : (n : Four) (c : Cap) → n ≡ fourAfter Base.Sixteen l p → c ≡ capOf (getD (n .values) 0 0) (getD (n .values) 1 0) (getD (n .values) 2 0) (getD (n .values) 3 0)
-      → record { region = Region.Cap c; count = 0; after = n .after } ≡ regionRead (capAfter l p)
+      → record { region = Region.Cap c; count = 0; after = n .after } ≡ regionPart (capAfter l p)
   unfolding capAfter regionOf idsOf
   cap-read n c e d = rw (d, e)
 
-  pub cell-read : (id : Read) → id ≡ numberAfter Base.Sixteen 0xffff_ffff_ffff_ffff l p → record { region = Region.Cell (id .value); count = 0; after = id .after } ≡ regionRead (cellAfter l p)
+  pub cell-read : (id : Read) → id ≡ numberAfter Base.Sixteen 0xffff_ffff_ffff_ffff l p → record { region = Region.Cell (id .value); count = 0; after = id .after } ≡ regionPart (cellAfter l p)
   unfolding cellAfter regionOf idsOf
   cell-read id e = rw e
 
@@ -49,16 +49,16 @@ module _ (l : List ℕ) (p : Place) where
   ids-read most n words words' R = record { read = rw (R .count, R .place); ids = R .words }
 
   -- a region without ids leaves the words as they are
-  none-read : (n : AreaRead) (r : RegionRead) (words : List ℕ) → r ≡ regionRead n → idsOf (n .area) ≡ [] → ReadRegion n r words words
+  none-read : (n : AreaRead) (r : RegionRead) (words : List ℕ) → r ≡ regionPart n → idsOf (n .area) ≡ [] → ReadRegion n r words words
   unfolding wordsWith
   none-read n r words e d = record { read = e; ids = rw d }
 
   module _ (most : ℕ) (which : Read) (e : which ≡ choiceAfter shapes 3 Fault.UnknownRegion l p) (r : RegionRead) (words : List ℕ) where
-    pub region-cap : which .value ≡ 0 → r ≡ regionRead (capAfter l (which .after)) → ReadRegion (areaAfter most l p) r words words
+    pub region-cap : which .value ≡ 0 → r ≡ regionPart (capAfter l (which .after)) → ReadRegion (areaAfter most l p) r words words
     unfolding areaAfter capAfter idsOf
     region-cap h d = rw (areaAfter, ← e, eq-eqb _ _ h, ← e) (none-read (capAfter l (which .after)) r words d refl)
 
-    pub region-cell : (which .value ≡ 0 → ⊥) → which .value ≡ 1 → r ≡ regionRead (cellAfter l (which .after)) → ReadRegion (areaAfter most l p) r words words
+    pub region-cell : (which .value ≡ 0 → ⊥) → which .value ≡ 1 → r ≡ regionPart (cellAfter l (which .after)) → ReadRegion (areaAfter most l p) r words words
     unfolding areaAfter cellAfter idsOf
     region-cell z h d = rw (areaAfter, ← e, ne-eqb _ _ z, ← e, eq-eqb _ _ h, ← e) (none-read (cellAfter l (which .after)) r words d refl)
 

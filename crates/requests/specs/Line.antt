@@ -209,17 +209,17 @@ unfoldable pub wordsWith : List ℕ → List ℕ → List ℕ
 wordsWith ids words = ids ++ drop (length ids) words
 
 -- what was read, its ids aside
-abbrev pub regionRead : AreaRead → RegionRead
-regionRead n = record { region = regionOf (n .area); count = length (idsOf (n .area)); after = n .after }
+abbrev pub regionPart : AreaRead → RegionRead
+regionPart n = record { region = regionOf (n .area); count = length (idsOf (n .area)); after = n .after }
 
 -- it was read, its ids into the words that are lent
 pub record ReadRegion (n : AreaRead) (r : RegionRead) (words words' : List ℕ) : Type 0 where
-  pub read : r ≡ regionRead n
+  pub read : r ≡ regionPart n
   pub ids : words' ≡ wordsWith (idsOf (n .area)) words
 
 -- what is asked, its ids aside
-abbrev pub askedRead : Wish → Asked
-askedRead w = record {
+abbrev pub askedPart : Wish → Asked
+askedPart w = record {
   kind = w .kind;
   coverer = w .coverer;
   region = regionOf (w .area);
@@ -233,7 +233,7 @@ askedRead w = record {
 
 -- likewise
 pub record ReadAsked (w : Wish) (r : Asked) (words words' : List ℕ) : Type 0 where
-  pub read : r ≡ askedRead w
+  pub read : r ≡ askedPart w
   pub ids : words' ≡ wordsWith (idsOf (w .area)) words
 
 -- what is asked with these ids

@@ -4,7 +4,7 @@ ghost use mathlib.Core.Path.{_≡_};
 ghost use Prim.Native.Nat.{_<_};
 ghost use Rattle.text.specs.Text.{choiceAfter};
 ghost use Rattle.text.specs.declared.Fault.{Fault};
-ghost use Rattle.requests.specs.Line.{kinds, shapes, kindOf, fourAfter, covererAfter, pointOf, capOf, capAfter, cellAfter, idsAfter, areaAfter, regionRead, ReadRegion, mostOf, valueOr, formOf, badOption, optionGiven, optionOf, nextOption, optionsAfter, wishOf, ReadAsked};
+ghost use Rattle.requests.specs.Line.{kinds, shapes, kindOf, fourAfter, covererAfter, pointOf, capOf, capAfter, cellAfter, idsAfter, areaAfter, regionPart, ReadRegion, mostOf, valueOr, formOf, badOption, optionGiven, optionOf, nextOption, optionsAfter, wishOf, ReadAsked};
 ghost use lib.ListN.{length};
 use cell::Cap;
 use covering::Ending;
@@ -129,7 +129,7 @@ pub fn cap_of(x: u64, y: u64, z: u64, r: u64) -> Cap
 
 // `X Y Z R`.
 fn read_cap(line: &[u8], p: Place) -> RegionRead
-    ensures { λ r. ⌜ r ≡ regionRead (capAfter (now (line .entry)) p) ⌝ }
+    ensures { λ r. ⌜ r ≡ regionPart (capAfter (now (line .entry)) p) ⌝ }
 {
     let n = read_four(line, p, Base::Sixteen);
     let v = n.values;
@@ -144,7 +144,7 @@ fn read_cap(line: &[u8], p: Place) -> RegionRead
 
 // `ID`.
 fn read_cell(line: &[u8], p: Place) -> RegionRead
-    ensures { λ r. ⌜ r ≡ regionRead (cellAfter (now (line .entry)) p) ⌝ }
+    ensures { λ r. ⌜ r ≡ regionPart (cellAfter (now (line .entry)) p) ⌝ }
 {
     let id = text::read_number(line, p, Base::Sixteen, u64::MAX);
     let after = id.after;

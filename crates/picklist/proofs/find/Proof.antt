@@ -1,7 +1,7 @@
 -- `picklist::find`: a turn looks at the middle and leaves half.
 use Prim.Native.Nat.{_-_}
 use native.Mathlib.Omega.{arith}
-use Rattle.picklist.proofs.Laws.{listed-pos, Searching, search-start, search-up, search-down, search-done}
+use Rattle.picklist.proofs.Laws.{pick-pos, Searching, search-start, search-up, search-down, search-done}
 use Rattle.picklist.proofs.find.Statement.{statement}
 use Rattle.picklist.proofs.find.Tie as tie
 
@@ -15,19 +15,19 @@ loop-holds : tie.Need-loop-holds Inv-loop μ-loop
 loop-holds c = search-start _ _
 
 sub-middle : tie.Need-sub-middle Inv-loop μ-loop
-sub-middle c = omega (arith, c .before .loop .inv .some)
+sub-middle c = omega (arith, c .before .loop .inv .ordered)
 
 add-middle : tie.Need-add-middle Inv-loop μ-loop
-add-middle c = omega (arith, c .before .loop .inv .some, c .before .loop .inv .within)
+add-middle c = omega (arith, c .before .loop .inv .ordered, c .before .loop .inv .within)
 
 mul-range-max : tie.Need-mul-range-max Inv-loop μ-loop
-mul-range-max c = omega (arith, c .before .loop .inv .some, c .before .loop .inv .within)
+mul-range-max c = omega (arith, c .before .loop .inv .ordered, c .before .loop .inv .within)
 
 shared-slice-read-range-max : tie.Need-shared-slice-read-range-max Inv-loop μ-loop
 shared-slice-read-range-max c = omega (arith, c .before .before .loop .inv .within, c .before .loop-test .taken)
 
 range-max-requires : tie.Need-range-max-requires Inv-loop μ-loop
-range-max-requires c κs = listed-pos _ (c .before .before .before .before .pre) _ (omega (arith, c .before .before .loop .inv .within, c .before .loop-test .taken))
+range-max-requires c κs = pick-pos _ (c .before .before .before .before .pre) _ (omega (arith, c .before .before .loop .inv .within, c .before .loop-test .taken))
 
 add-low : tie.Need-add-low Inv-loop μ-loop
 add-low c = omega arith

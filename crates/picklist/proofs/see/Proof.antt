@@ -1,7 +1,7 @@
 -- `picklist::see`: the listed cell that is found decides both tests.
 use Rattle.cellid.proofs.Laws.{cell-pos}
 use Rattle.picklist.specs.PickList.{Parts}
-use Rattle.picklist.proofs.Laws.{listed-pos, none-near, near-decides}
+use Rattle.picklist.proofs.Laws.{pick-pos, none-near, near-decides}
 use borrow.Author.Needs.{needs}
 use Rattle.picklist.proofs.see.Statement.{statement}
 use Rattle.picklist.proofs.see.Tie as tie
@@ -10,13 +10,13 @@ range-min-requires : tie.Need-range-min-requires
 range-min-requires c κs = let C = c .before .pre .1 in cell-pos _ (C .0) (C .1) (C .2)
 
 range-min-requires-2 : tie.Need-range-min-requires-2
-range-min-requires-2 c κs = listed-pos _ (c .before .before .before .before .before .pre .0) _ (c .before .if1 .taken)
+range-min-requires-2 c κs = pick-pos _ (c .before .before .before .before .before .pre .0) _ (c .before .if1 .taken)
 
 range-max-requires : tie.Need-range-max-requires
 range-max-requires c κs = let C = c .before .before .before .before .before .before .pre .1 in cell-pos _ (C .0) (C .1) (C .2)
 
 contains-requires : tie.Need-contains-requires
-contains-requires c κs = listed-pos _ (c .before .before .before .before .before .before .before .pre .0) _ (c .before .before .before .if1 .taken)
+contains-requires c κs = pick-pos _ (c .before .before .before .before .before .before .before .pre .0) _ (c .before .before .before .if1 .taken)
 
 returns : tie.Need-returns
 returns c =

@@ -12,7 +12,7 @@ cell-intersects-requires : tie.Need-cell-intersects-requires
 cell-intersects-requires c κs = (c .before .pre .0, child-valid _ _ _ (c .before .pre .1) (c .before .pre .2) (c .before .pre .3) (c .child .ensures))
 
 returns : tie.Need-returns
-returns c = rw (c .look .ensures, c .before .cell-contains .ensures, c .before .before .cell-intersects .ensures, c .before .before .before .child .ensures)
+returns c = rw (c .marked .ensures, c .before .cell-contains .ensures, c .before .before .cell-intersects .ensures, c .before .before .before .child .ensures)
 
 pub cell-look-spec : {M : Type 1} → statement M
 cell-look-spec =

@@ -12,7 +12,7 @@ see-requires : tie.Need-see-requires
 see-requires c κs = let z = c .before .before in (z .pre .0, child-valid _ _ _ (z .pre .1) (z .pre .2) (z .pre .3) (c .child .ensures))
 
 returns : tie.Need-returns
-returns c = rw (c .look .ensures, c .before .see .ensures, c .before .before .child .ensures)
+returns c = rw (c .marked .ensures, c .before .see .ensures, c .before .before .child .ensures)
 
 pub list-look-spec : {M : Type 1} → statement M
 list-look-spec = tie.close (tie.spec child-requires see-requires (λ c κs. search needs) returns)

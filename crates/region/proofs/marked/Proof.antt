@@ -1,9 +1,9 @@
--- `region::look`: two truth values in one number.
+-- `region::marked`: two truth values in one number.
 use native.Mathlib.Omega.{arith}
 use Rattle.cellid.proofs.Laws.{one-le}
 use borrow.Author.Needs.{needs}
-use Rattle.region.proofs.look.Statement.{statement}
-use Rattle.region.proofs.look.Tie as tie
+use Rattle.region.proofs.marked.Statement.{statement}
+use Rattle.region.proofs.marked.Tie as tie
 
 mul-result : tie.Need-mul-result
 mul-result c = omega (arith, c .mark2 .ensures, one-le (c .before .before .args .inside))
@@ -11,8 +11,8 @@ mul-result c = omega (arith, c .mark2 .ensures, one-le (c .before .before .args 
 add-result : tie.Need-add-result
 add-result c = omega (arith, c .before .mark .ensures, c .mark2 .ensures, one-le (c .before .before .args .meets), one-le (c .before .before .args .inside))
 
-pub look-spec : {M : Type 1} → statement M
-look-spec =
+pub marked-spec : {M : Type 1} → statement M
+marked-spec =
     tie.close
     (tie.spec
     (λ c κs. search needs)
