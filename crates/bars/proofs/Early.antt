@@ -1,12 +1,12 @@
 -- The refusals 1 to 6: each is given exactly when the paper says so.
 use mathlib.Core.Path.{_≡_, subst}
-use mathlib.Core.Bool.{true, false}
+use mathlib.Core.Bool.{true, false, and-eq-true-iff}
 use mathlib.Core.Logic.{_⊎_, inl, inr, ⊎-elim, _↔_}
 use Prim.Native.Nat.{ℕ, zero, suc, _≤_, _<_}
 use native.Mathlib.Omega.{arith}
 use lib.Dec.{leb, ltb}
 use borrow.Author.Tests.{leb-true, leb-false, ltb-true, ltb-false, lt-ltb, le-ltb, le-leb}
-use Rattle.cellid.proofs.Laws.{and-true, no-true}
+use Rattle.cellid.proofs.Laws.{no-true}
 use Rattle.region.specs.Region.{Area, inDomain}
 use Rattle.run.specs.declared.RegionCoverer.{RegionCoverer}
 use Rattle.run.proofs.Lists.{if-ok}
@@ -23,7 +23,7 @@ Mod m = (0 < m) × (m ≤ 3)
 
 mod-true : (m : ℕ) → isMod m ≡ true → Mod m
 unfolding isMod
-mod-true m t = let a = and-true (leb 1 m) (leb m 3) t in let x : 1 ≤ m = leb-true _ _ (a .0) in let y : m ≤ 3 = leb-true _ _ (a .1) in (omega arith, y)
+mod-true m t = let a = and-eq-true-iff (leb 1 m) (leb m 3) .0 t in let x : 1 ≤ m = leb-true _ _ (a .0) in let y : m ≤ 3 = leb-true _ _ (a .1) in (omega arith, y)
 
 mod-false : (m : ℕ) → isMod m ≡ false → NoMod m
 unfolding isMod

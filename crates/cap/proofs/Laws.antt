@@ -1,12 +1,11 @@
 -- What the tests of caps promise.
 use mathlib.Core.Path.{_≡_, refl, sym, ap, _∙_}
-use mathlib.Core.Bool.{Bool, true, false, cond}
+use mathlib.Core.Bool.{Bool, true, false, cond, and-eq-true-iff}
 use Prim.Native.Nat.{ℕ, zero, suc, _+_, _-_, _%_, _<_}
 use native.Mathlib.Omega.{arith}
 use lib.ListN.{getD}
 use mathlib.Core.List.{List}
 use lib.Ieee.{Float, le, ofBits, binary64}
-use Rattle.cellid.proofs.Laws.{and-true}
 use Rattle.cellid.specs.CellId as CellId
 use Rattle.cell.proofs.Laws.{cell-face}
 use Rattle.point.specs.declared.Point.{Point}
@@ -47,7 +46,7 @@ edge-step center sin2 c edge vs d k v h e f g =
 -- containing implies intersecting: the first corner lies in the cap
 pub contains-intersects : (cap : Cap) (id : ℕ) → capContains cap id ≡ true → capIntersects cap id ≡ true
 unfolding capContains capIntersects holdsCell meetsCell
-contains-intersects cap id h = let first : capHolds cap (vertexOf id 0) ≡ true = and-true _ _ h .0 in rw first
+contains-intersects cap id h = let first : capHolds cap (vertexOf id 0) ≡ true = and-eq-true-iff _ _ .0 h .0 in rw first
 
 -- an empty cap has no point in it, intersects nothing and contains nothing
 pub empty-holds-none : (cap : Cap) (p : Point) → isEmptyCap cap ≡ true → capHolds cap p ≡ false

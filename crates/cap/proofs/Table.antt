@@ -1,7 +1,7 @@
 -- The level table's rule, once for the whole table: it falls and lies above zero, by one computed test each, so a level is reached exactly where the
 -- radius is at most its threshold, and a radius below zero reaches all of them.
 use mathlib.Core.Path.{_≡_, refl, sym, _∙_}
-use mathlib.Core.Bool.{Bool, true, false, cond, _&&_}
+use mathlib.Core.Bool.{Bool, true, false, cond, _&&_, and-eq-true-iff}
 use mathlib.Core.List.{List, [], _∷_}
 use Prim.Native.Nat.{ℕ, zero, suc, _<_}
 use native.Mathlib.Omega.{arith}
@@ -11,7 +11,7 @@ use denote.Floats.{passes}
 use lib.Ieee.{Float, nan, lt, le, ofBits}
 use lib.Ieee.Bits.{is-true}
 use borrow.Author.Tests.{ltb-true, lt-ltb}
-use Rattle.cellid.proofs.Laws.{and-true, bool-iff, no-true}
+use Rattle.cellid.proofs.Laws.{bool-iff, no-true}
 use Rattle.point.specs.Floats.{zeroF}
 use Rattle.point.proofs.Laws.{never}
 use Rattle.point.proofs.Order.{le-trans, lt-le}
@@ -51,7 +51,7 @@ rule (t ∷ []) f r zero h = first (le r t) 0
 rule (t ∷ []) f r (suc k) h = absurd (omega arith)
 rule (t ∷ u ∷ ts) f r zero h = first (le r t) (levelIn (u ∷ ts) r)
 rule (t ∷ u ∷ ts) f r (suc k) h =
-    let fu = and-true (lt u t) (falling (u ∷ ts)) f in
+    let fu = and-eq-true-iff (lt u t) (falling (u ∷ ts)) .0 f in
     let rest : le r (getD (u ∷ ts) k nan) ≡ ltb k (levelIn (u ∷ ts) r) = rule (u ∷ ts) (fu .1) r k (omega arith) in
     let head : le r u ≡ ltb 0 (levelIn (u ∷ ts) r) = rule (u ∷ ts) (fu .1) r zero (omega arith) in
     later (le r t) (le r (getD (u ∷ ts) k nan)) k (levelIn (u ∷ ts) r) rest
@@ -88,7 +88,7 @@ all-reached : (ts : List Float) (r : Float) → above-zero ts ≡ true → lt r 
 unfolding levelIn
 all-reached [] r p h = refl
 all-reached (t ∷ ts) r p h =
-    let a = and-true (lt zeroF t) (above-zero ts) p in
+    let a = and-eq-true-iff (lt zeroF t) (above-zero ts) .0 p in
     rw (at-most-more r t zeroF (a .0) (is-true _ (lt-le r zeroF h)), all-reached ts r (a .1) h)
 
 -- an empty cap takes level 30

@@ -2,7 +2,7 @@
 -- have the same ancestor, and the code's bits tell it.
 use mathlib.Core.Path.{_≡_, refl, sym, ap, _∙_, subst}
 use mathlib.Core.Logic.{_⊎_, inl, inr, ⊎-elim, _↔_}
-use mathlib.Core.Bool.{Bool, true, false, _&&_, true≢false}
+use mathlib.Core.Bool.{Bool, true, false, _&&_, true≢false, and-eq-true-iff}
 use Prim.Native.Nat.{ℕ, zero, suc, _+_, _-_, _*_, _/_, _^_, _≤_, _<_, max}
 use native.Mathlib.Nat.{le-trans, mul-comm, mul-assoc, eq-of-mul-eq-mul-right, div-lt-iff-lt-mul, eq-or-lt-of-le, le-of-suc-le-suc}
 use native.Mathlib.Omega.{arith}
@@ -16,7 +16,7 @@ use Rattle.cellid.specs.declared.Common.{Common}
 use Rattle.cellid.proofs.Leaves.{holds-deeper, Depth, deeper, higher, depth}
 use Rattle.cellid.proofs.Bits.{xor-below}
 use Rattle.cellid.proofs.Parts.{face-same}
-use Rattle.cellid.proofs.Laws.{and-true, bool-iff, no-true, level-le, same-above, low-cell, low-pos, low-small, level-cell, parent-id, cell-lt}
+use Rattle.cellid.proofs.Laws.{bool-iff, no-true, level-le, same-above, low-cell, low-pos, low-small, level-cell, parent-id, cell-lt}
 
 -- ---- the ancestor at a level
 
@@ -50,8 +50,8 @@ parent-only {id} {c} {M} {q} {r} L d e h t =
 pub same→ : (a b N : ℕ) → sameAt a b N ≡ true → SameAt a b N
 unfolding sameAt
 same→ a b N t =
-    let r = and-true (leb N (levelOf a)) (leb N (levelOf b) && eqb (parentAt a N) (parentAt b N)) t in
-    let s = and-true (leb N (levelOf b)) (eqb (parentAt a N) (parentAt b N)) (r .1) in
+    let r = and-eq-true-iff (leb N (levelOf a)) (leb N (levelOf b) && eqb (parentAt a N) (parentAt b N)) .0 t in
+    let s = and-eq-true-iff (leb N (levelOf b)) (eqb (parentAt a N) (parentAt b N)) .0 (r .1) in
     (leb-true _ _ (r .0), leb-true _ _ (s .0), eqb-true _ _ (s .1))
 
 pub same← : (a b N : ℕ) → SameAt a b N → sameAt a b N ≡ true

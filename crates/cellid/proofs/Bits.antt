@@ -1,7 +1,7 @@
 -- Numbers by their binary digits, and truth values: what the laws of cell ids rest on. Nothing here speaks of cells.
 use mathlib.Core.Path.{_≡_, refl, sym, ap, ap₂, _∙_}
 use mathlib.Core.Logic.{_⊎_, inl, inr, ⊎-elim}
-use mathlib.Core.Bool.{Bool, true, false, _&&_, _||_, Bool·beq}
+use mathlib.Core.Bool.{Bool, true, false, _&&_, _||_, Bool·beq, and-eq-true-iff}
 use Prim.Native.Nat.{ℕ, zero, suc, _+_, _-_, _*_, _/_, _%_, _^_, _≤_, _<_, min, max}
 use native.Mathlib.Nat.{add-zero, mul-one, one-mul, zero-lt-suc, pow-suc, mul-sub, mul-comm, mul-assoc, add-mul, lt-of-mul-lt-mul-right, div-div-eq-div-mul, mod-eq-of-lt, div-eq-of-lt, eq-or-lt-of-le, le-of-suc-le-suc, not-suc-le-zero, lt-div-mul-add}
 use native.Mathlib.Omega.{arith}
@@ -19,10 +19,6 @@ bool-iff true true f g = refl
 bool-iff true false f g = sym (f refl)
 bool-iff false true f g = g refl
 bool-iff false false f g = refl
-
-pub and-true : (a b : Bool) → (a && b) ≡ true → (a ≡ true) × (b ≡ true)
-and-true true b e = (refl, e)
-and-true false b e = let z : false ≡ true = e in (z, cc)
 
 pub or-true : (a b : Bool) → (a || b) ≡ true → (a ≡ true) ⊎ (b ≡ true)
 or-true true b e = inl refl
@@ -55,7 +51,7 @@ pub every-at : (n : ℕ) (f : ℕ → Bool) → every n f ≡ true → (k : ℕ)
 unfolding every
 every-at zero f e k h = absurd (not-suc-le-zero h)
 every-at (suc n) f e k h =
-    let r = and-true (f n) (every n f) e in
+    let r = and-eq-true-iff (f n) (every n f) .0 e in
     ⊎-elim (λ (q : k ≡ n). rw q (r .0)) (λ (q : k < n). every-at n f (r .1) k q) (eq-or-lt-of-le (le-of-suc-le-suc h))
 
 -- what the last arm of a `match` is left with: n is none of the numbers below k, so it is k where it is at most k

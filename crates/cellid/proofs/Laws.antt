@@ -1,7 +1,7 @@
 -- Laws of cell ids: the lowest set bit; what each operation makes of the p-th cell of the level L; cells are the valid ids; which cell contains
 -- and which intersects another.
 use mathlib.Core.Path.{_≡_, refl, sym, ap, _∙_, subst}
-use mathlib.Core.Bool.{Bool, true, false, _&&_}
+use mathlib.Core.Bool.{Bool, true, false, _&&_, and-eq-true-iff}
 use Prim.Native.Nat.{ℕ, suc, _+_, _-_, _*_, _/_, _%_, _^_, _≤_, _<_}
 use native.Mathlib.Nat.{one-mul, mul-comm, mul-assoc, mul-left-comm, mul-suc, add-mul, mul-lt-mul-of-pos-right, lt-of-mul-lt-mul-right, div-div-eq-div-mul, mul-le-mul-right, mod-eq-of-lt, mul-div-mul-right, div-mul-le-self, lt-div-mul-add, div-eq-of-lt-le, pos-of-ne-zero}
 use native.Mathlib.Numerals.{add-one}
@@ -12,7 +12,7 @@ use lib.Dec.{leb, eqb}
 use lib.Pow.{pow-pos, pow-add, pow-lt, pow-mono, shl-shr}
 use borrow.Author.Tests.{leb-true, le-leb, eqb-true, eq-eqb}
 use Rattle.cellid.specs.CellId.{idOf, lowBit, levelOf, placeOf, bitAt, placeAt, parentAt, childOf, firstLeaf, lastLeaf, holds, meets, validId, IsCell, Cell, one}
-pub use Rattle.cellid.proofs.Bits.{bool-iff, and-true, or-true, true-or, or-false, no-true, same-bool, every-at, NoneOf, last-arm, last-of, odd-mul, sub-mul, pow-pair, one-shl, zeros-of, odd-part, and-power, same-above}
+pub use Rattle.cellid.proofs.Bits.{bool-iff, or-true, true-or, or-false, no-true, same-bool, every-at, NoneOf, last-arm, last-of, odd-mul, sub-mul, pow-pair, one-shl, zeros-of, odd-part, and-power, same-above}
 unfoldable pub use Rattle.cellid.proofs.Bits.{every}
 use Rattle.cellid.proofs.Bits.{and-neg, parent-bits}
 
@@ -166,8 +166,8 @@ place-core id m t e =
 valid-cell : (id : ℕ) → validId id ≡ true → IsCell id (levelOf id) (placeOf id)
 unfolding validId levelOf placeOf
 valid-cell id v =
-    let r = and-true (leb (id / 2 ^ 61) 5) (leb (trailingZeros 64 id) 60 && eqb (trailingZeros 64 id % 2) 0) v in
-    let s = and-true (leb (trailingZeros 64 id) 60) (eqb (trailingZeros 64 id % 2) 0) (r .1) in
+    let r = and-eq-true-iff (leb (id / 2 ^ 61) 5) (leb (trailingZeros 64 id) 60 && eqb (trailingZeros 64 id % 2) 0) .0 v in
+    let s = and-eq-true-iff (leb (trailingZeros 64 id) 60) (eqb (trailingZeros 64 id % 2) 0) .0 (r .1) in
     let face : id / 2 ^ 61 ≤ 5 = leb-true _ _ (r .0) in
     let top : trailingZeros 64 id ≤ 60 = leb-true _ _ (s .0) in
     let pos : 0 < id = pos-of-ne-zero (λ e. let z : trailingZeros 64 id ≡ 64 = ap (trailingZeros 64) e ∙ trailing-of-zero 64 in omega arith) in
@@ -236,7 +236,7 @@ holds-id L k p q h =
     let f : firstLeaf (idOf L p) ≡ 2 * (p * (D * C)) + 1 = first-id L p ∙ rw (bit-up L k h) in
     let g : lastLeaf (idOf L p) + 1 ≡ 2 * (p * (D * C)) + 2 * (D * C) = last-id L p ∙ rw (bit-up L k h) in
     bool-iff _ _
-    (λ t. let r = and-true (leb (firstLeaf (idOf L p)) (idOf (L + k) q)) (leb (idOf (L + k) q) (lastLeaf (idOf L p))) t in
+    (λ t. let r = and-eq-true-iff (leb (firstLeaf (idOf L p)) (idOf (L + k) q)) (leb (idOf (L + k) q) (lastLeaf (idOf L p))) .0 t in
     let lo : firstLeaf (idOf L p) ≤ idOf (L + k) q = leb-true _ _ (r .0) in
     let hi : idOf (L + k) q ≤ lastLeaf (idOf L p) = leb-true _ _ (r .1) in
     eq-eqb _ _ (under→ p q D C c d (omega (arith, f, e, lo)) (omega (arith, g, e, hi))))
@@ -268,7 +268,7 @@ holds-not L k p q h =
     let F = 2 * 2 ^ (2 * k) in
     let e : idOf L p ≡ (2 * ((2 * p + 1) * F)) * C = even-id L k p h in
     no-true _ (λ t.
-    let r = and-true (leb (firstLeaf (idOf (L + suc k) q)) (idOf L p)) (leb (idOf L p) (lastLeaf (idOf (L + suc k) q))) t in
+    let r = and-eq-true-iff (leb (firstLeaf (idOf (L + suc k) q)) (idOf L p)) (leb (idOf L p) (lastLeaf (idOf (L + suc k) q))) .0 t in
     let lo : firstLeaf (idOf (L + suc k) q) ≤ idOf L p = leb-true _ _ (r .0) in
     let hi : idOf L p ≤ lastLeaf (idOf (L + suc k) q) = leb-true _ _ (r .1) in
     between ((2 * p + 1) * F) q C
@@ -297,7 +297,7 @@ meets-id L k p q h =
     let fb = first-id (L + k) q in
     let lb = last-id (L + k) q in
     bool-iff _ _
-    (λ t. let r = and-true (leb (firstLeaf (idOf (L + k) q)) (lastLeaf (idOf L p))) (leb (firstLeaf (idOf L p)) (lastLeaf (idOf (L + k) q))) t in
+    (λ t. let r = and-eq-true-iff (leb (firstLeaf (idOf (L + k) q)) (lastLeaf (idOf L p))) (leb (firstLeaf (idOf L p)) (lastLeaf (idOf (L + k) q))) .0 t in
     let x : firstLeaf (idOf (L + k) q) ≤ lastLeaf (idOf L p) = leb-true _ _ (r .0) in
     let y : firstLeaf (idOf L p) ≤ lastLeaf (idOf (L + k) q) = leb-true _ _ (r .1) in
     eq-eqb _ _ (share→ p q D C c d (omega (arith, fb, la, x)) (omega (arith, fa, lb, y))))

@@ -2,7 +2,7 @@
 -- and intersecting in terms of leaves.
 use mathlib.Core.Path.{_≡_, refl, sym, ap, ap₂, _∙_, subst}
 use mathlib.Core.Logic.{_⊎_, inl, inr, ⊎-elim, _↔_}
-use mathlib.Core.Bool.{Bool, true, false, _||_, true≢false, and-comm}
+use mathlib.Core.Bool.{Bool, true, false, _||_, true≢false, and-comm, and-eq-true-iff}
 use Prim.Native.Nat.{ℕ, suc, _+_, _-_, _*_, _/_, _%_, _^_, _≤_, _<_, zero}
 use native.Mathlib.Nat.{zero-add, mul-comm, mul-one, mul-div-cancel, div-mul-le-self, lt-div-mul-add, div-eq-of-lt-le, div-div-eq-div-mul, add-mul, one-mul, mul-lt-mul-of-pos-right}
 use native.Mathlib.Omega.{arith}
@@ -10,7 +10,7 @@ use lib.Dec.{leb, eqb}
 use lib.Pow.{pow-pos, pow-lt}
 use borrow.Author.Tests.{eqb-true, eq-eqb, leb-true, le-leb}
 use Rattle.cellid.specs.CellId.{Cell, IsCell, idOf, bitAt, placeAt, lowBit, levelOf, childOf, firstLeaf, lastLeaf, leavesOf, holds, hasLeaf, meets}
-use Rattle.cellid.proofs.Laws.{and-true, or-true, true-or, bool-iff, bit-up, low-cell, level-cell, first-id, last-id, holds-id, holds-not, meets-id, child-id, pow-pair}
+use Rattle.cellid.proofs.Laws.{or-true, true-or, bool-iff, bit-up, low-cell, level-cell, first-id, last-id, holds-id, holds-not, meets-id, child-id, pow-pair}
 
 -- ---- where they run
 
@@ -210,7 +210,7 @@ nested-or-apart a b (L, p, c) (M, q, d) = nested-in c d (depth L M)
 holds-meets : (a b : ℕ) → holds a b ≡ true → meets a b ≡ true
 unfolding holds meets firstLeaf lastLeaf
 holds-meets a b h =
-    let both = and-true (leb (firstLeaf a) b) (leb b (lastLeaf a)) h in
+    let both = and-eq-true-iff (leb (firstLeaf a) b) (leb b (lastLeaf a)) .0 h in
     let lo : firstLeaf a ≤ b = leb-true _ _ (both .0) in
     let hi : b ≤ lastLeaf a = leb-true _ _ (both .1) in
     let x : firstLeaf b ≤ lastLeaf a = omega (arith, lo, hi) in

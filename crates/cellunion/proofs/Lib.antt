@@ -2,7 +2,6 @@ pub mod Spans
 pub mod Unique
 pub mod Stack
 pub mod Norm
-pub mod Denorm
 pub mod Counts
 pub mod Lists
 pub mod Memory
@@ -10,7 +9,6 @@ pub mod Mask
 pub mod Runs
 pub mod Settled
 pub mod Wider
-pub mod Writes
 pub mod Results
 pub mod Short
 pub mod Words

@@ -2,7 +2,7 @@
 -- list, one cell after another.
 use mathlib.Core.Path.{_≡_, refl, sym, ap, _∙_}
 use mathlib.Core.Logic.{_⊎_, _↔_, ⊎-elim}
-use mathlib.Core.Bool.{Bool, true, false, not, _&&_, _||_, or-assoc}
+use mathlib.Core.Bool.{Bool, true, false, not, _&&_, _||_, or-assoc, and-eq-true-iff}
 use mathlib.Core.List.{List, [], _∷_, _++_}
 use Prim.Native.Nat.{ℕ, zero, suc, _+_, _≤_, _<_}
 use native.Mathlib.Omega.{arith}
@@ -10,7 +10,7 @@ use lib.ListN.{length, getD, drop}
 use lib.Dec.{ltb}
 use borrow.Author.Tests.{ltb-true, lt-ltb, not-true, not-false}
 use Rattle.cellid.specs.CellId.{Cell, validId, firstLeaf, lastLeaf, hasLeaf}
-use Rattle.cellid.proofs.Laws.{and-true, no-true, valid-is, valid-fits, cell-valid, cell-pos}
+use Rattle.cellid.proofs.Laws.{no-true, valid-is, valid-fits, cell-valid, cell-pos}
 use Rattle.cellid.proofs.Puts.{next-of, none-left}
 use Rattle.order.specs.Order.{All}
 use Rattle.order.proofs.OrderLaws.{all-weak, all-get}
@@ -22,7 +22,7 @@ use Rattle.cellunion.proofs.Unique.{all-at, at-all, covers→}
 
 pub listed→ : (b id : ℕ) → listed b id ≡ true → Cell id × (b < firstLeaf id)
 unfolding listed
-listed→ b id t = let r = and-true (validId id) (ltb b (firstLeaf id)) t in (valid-is id (r .0), ltb-true _ _ (r .1))
+listed→ b id t = let r = and-eq-true-iff (validId id) (ltb b (firstLeaf id)) .0 t in (valid-is id (r .0), ltb-true _ _ (r .1))
 
 listed← : (b id : ℕ) → Cell id → b < firstLeaf id → listed b id ≡ true
 unfolding listed
@@ -37,7 +37,7 @@ list→ : (l : List ℕ) (b : ℕ) → listFrom b l ≡ true → Listed b l
 unfolding listFrom All Apart
 list→ [] b t = record { cells = tt; apart = tt; after = tt }
 list→ (x ∷ l) b t =
-    let r = and-true (listed b x) (listFrom (lastLeaf x) l) t in
+    let r = and-eq-true-iff (listed b x) (listFrom (lastLeaf x) l) .0 t in
     let q = listed→ b x (r .0) in
     let s = span (q .0) in
     let T = list→ l (lastLeaf x) (r .1) in

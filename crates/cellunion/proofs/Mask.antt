@@ -1,6 +1,6 @@
 -- The test for four siblings by exclusive or and mask.
 use mathlib.Core.Path.{_≡_, sym, ap, ap₂, _∙_, subst}
-use mathlib.Core.Bool.{true, false}
+use mathlib.Core.Bool.{true, false, and-eq-true-iff}
 use Prim.Native.Nat.{ℕ, _+_, _-_, _*_, _/_, _%_, _^_, _≤_, _<_}
 use native.Mathlib.Nat.{add-mul, one-mul, mul-comm, mul-left-comm, add-zero, mod-lt, mod-mod, div-add-mod', lt-of-mul-lt-mul-right}
 use native.Mathlib.Omega.{arith}
@@ -9,7 +9,7 @@ use lib.Bits.{bitAnd, bitXor, and-mask, and-high, and-block, xor-block, xor-self
 use lib.Dec.{ltb}
 use borrow.Author.Tests.{ltb-true}
 use Rattle.cellid.specs.CellId.{Cell, IsCell, idOf, placeAt, lowBit, levelOf, childOf}
-use Rattle.cellid.proofs.Laws.{odd-mul, low-cell, level-cell, cell-lt, no-true, bool-iff, and-true}
+use Rattle.cellid.proofs.Laws.{odd-mul, low-cell, level-cell, cell-lt, no-true, bool-iff}
 use Rattle.cellid.proofs.Leaves.{child-cell}
 use Rattle.cellunion.specs.CellUnion.{isFour, upOne}
 use Rattle.cellunion.proofs.Stack.{four→, four←, up-is}
@@ -206,7 +206,7 @@ module _ (x y z c m : ℕ) (C : Cell c) (e : m ≡ maskOf c) where
 
 face-no : (x y z c : ℕ) → isFour x y z c ≡ true → ltb 0 (levelOf c) ≡ true
 unfolding isFour
-face-no x y z c t = and-true (ltb 0 (levelOf c)) _ t .0
+face-no x y z c t = and-eq-true-iff (ltb 0 (levelOf c)) _ .0 t .0
 
 pub level-test : (x y z c m l : ℕ) → Cell c → m ≡ maskOf c → l ≡ levelOf c → x < y → y < z → z < c → bitAnd x m ≡ bitAnd c m → bitAnd y m ≡ bitAnd c m → bitAnd z m ≡ bitAnd c m
     → ltb 0 l ≡ isFour x y z c

@@ -21,7 +21,7 @@ use Rattle.cellunion.proofs.Spans.{span, In, kids, Kids, holds-in}
 use Rattle.cellunion.proofs.Unique.{all-at, at-all, Covered, normal-unique}
 use Rattle.cellunion.proofs.Stack.{up-kid, next-is}
 use Rattle.cellunion.proofs.Norm.{pass-laws, member-rev→, member-rev←, all-rev, apart-rev, stack-normal, same-covered}
-use Rattle.cellunion.proofs.Denorm.{member-append→, member-append←, apart-append}
+use Rattle.cellunion.proofs.Unique.{member-append→, member-append←, apart-append}
 use Rattle.cellunion.proofs.Lists.{apart-from}
 use Rattle.cellunion.proofs.Memory.{next-word, no-more, drop-more, drop-take-same}
 use Rattle.cellunion.proofs.Runs.{Passing, pass-turn, rev-top, top-pop}

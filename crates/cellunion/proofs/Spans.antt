@@ -1,7 +1,7 @@
 -- A cell as a stretch of leaf numbers, from lo to before hi. All list laws stand on these.
 use mathlib.Core.Path.{_≡_, sym, ap, ap₂, _∙_, subst}
 use mathlib.Core.Logic.{_⊎_, inl, inr, ⊎-elim, by-cases}
-use mathlib.Core.Bool.{true, false}
+use mathlib.Core.Bool.{true, false, and-eq-true-iff}
 use Prim.Native.Nat.{ℕ, suc, _+_, _-_, _*_, _^_, _≤_, _<_}
 use native.Mathlib.Nat.{mul-le-mul-right, add-mul, one-mul, mul-assoc, mul-comm}
 use native.Mathlib.Omega.{arith}
@@ -10,7 +10,7 @@ use lib.Pow.{pow-pos, pow-lt}
 use lib.Dec.{leb, ltb}
 use borrow.Author.Tests.{leb-true, leb-false, le-leb, ltb-true, ltb-false}
 use Rattle.cellid.specs.CellId.{Cell, IsCell, idOf, bitAt, placeAt, childOf, firstLeaf, lastLeaf, holds, hasLeaf}
-use Rattle.cellid.proofs.Laws.{low-id, first-id, last-id, odd-mul, bit-up, holds-not, and-true}
+use Rattle.cellid.proofs.Laws.{low-id, first-id, last-id, odd-mul, bit-up, holds-not}
 use Rattle.cellid.proofs.Leaves.{child-cell}
 use Rattle.cellunion.specs.CellUnion.{lo, hi}
 use Rattle.order.proofs.OrderLaws.{which}
@@ -51,7 +51,7 @@ pub leaf→ : {id : ℕ} (n : ℕ) → Cell id → hasLeaf id n ≡ true → (lo
 unfolding holds
 leaf→ {id} n c t =
     let s = span c in
-    let r = and-true (leb (firstLeaf id) (2 * n + 1)) (leb (2 * n + 1) (lastLeaf id)) t in
+    let r = and-eq-true-iff (leb (firstLeaf id) (2 * n + 1)) (leb (2 * n + 1) (lastLeaf id)) .0 t in
     let a : firstLeaf id ≤ 2 * n + 1 = leb-true _ _ (r .0) in
     let b : 2 * n + 1 ≤ lastLeaf id = leb-true _ _ (r .1) in
     (omega arith, omega arith)
@@ -222,7 +222,7 @@ holds-case c d t x y (around h) = h
 pub holds-in : {a b : ℕ} → Cell a → Cell b → holds a b ≡ true → In b a
 unfolding holds
 holds-in {a} {b} c d t =
-    let r = and-true (leb (firstLeaf a) b) (leb b (lastLeaf a)) t in
+    let r = and-eq-true-iff (leb (firstLeaf a) b) (leb b (lastLeaf a)) .0 t in
     holds-case c d t (leb-true _ _ (r .0)) (leb-true _ _ (r .1)) (nest c d)
 
 pub in-holds : {a b : ℕ} → Cell a → Cell b → In b a → holds a b ≡ true

@@ -1,7 +1,7 @@
 -- One pass of normalising: the kept cells stay normal and hold the same leaves.
 use mathlib.Core.Path.{_≡_, refl, sym, ap, ap₂, _∙_, subst}
 use mathlib.Core.Logic.{inl, inr, ⊎-elim}
-use mathlib.Core.Bool.{true, false, _&&_}
+use mathlib.Core.Bool.{true, false, _&&_, and-eq-true-iff}
 use mathlib.Core.List.{List, [], _∷_}
 use Prim.Native.Nat.{ℕ, suc, _+_, _-_, _*_, _/_, _^_, _≤_, _<_}
 use native.Mathlib.Omega.{arith}
@@ -10,7 +10,7 @@ use lib.Dec.{ltb, eqb}
 use lib.ListN.{length}
 use borrow.Author.Tests.{ltb-true, ltb-false, lt-ltb, eqb-true, eq-eqb}
 use Rattle.cellid.specs.CellId.{Cell, IsCell, idOf, bitAt, levelOf, parentAt, childOf, holds}
-use Rattle.cellid.proofs.Laws.{and-true, level-cell, parent-id}
+use Rattle.cellid.proofs.Laws.{level-cell, parent-id}
 use Rattle.cellid.proofs.Leaves.{child-cell}
 use Rattle.cellunion.specs.CellUnion.{lo, hi, Member, NoFour, upOne, isFour, collapse, clearOf, keepCell}
 use Rattle.cellunion.specs.Stack.{Down, Stack, AllBefore}
@@ -54,10 +54,10 @@ pub four→ : {x y z c : ℕ} → Cell c → isFour x y z c ≡ true → Four x 
 unfolding isFour
 four→ {x} {y} {z} {c} C t =
     let P = upOne c in
-    let r = and-true (ltb 0 (levelOf c)) (eqb x (childOf P 0) && (eqb y (childOf P 1) && (eqb z (childOf P 2) && eqb c (childOf P 3)))) t in
-    let r1 = and-true (eqb x (childOf P 0)) (eqb y (childOf P 1) && (eqb z (childOf P 2) && eqb c (childOf P 3))) (r .1) in
-    let r2 = and-true (eqb y (childOf P 1)) (eqb z (childOf P 2) && eqb c (childOf P 3)) (r1 .1) in
-    let r3 = and-true (eqb z (childOf P 2)) (eqb c (childOf P 3)) (r2 .1) in
+    let r = and-eq-true-iff (ltb 0 (levelOf c)) (eqb x (childOf P 0) && (eqb y (childOf P 1) && (eqb z (childOf P 2) && eqb c (childOf P 3)))) .0 t in
+    let r1 = and-eq-true-iff (eqb x (childOf P 0)) (eqb y (childOf P 1) && (eqb z (childOf P 2) && eqb c (childOf P 3))) .0 (r .1) in
+    let r2 = and-eq-true-iff (eqb y (childOf P 1)) (eqb z (childOf P 2) && eqb c (childOf P 3)) .0 (r1 .1) in
+    let r3 = and-eq-true-iff (eqb z (childOf P 2)) (eqb c (childOf P 3)) .0 (r2 .1) in
     let a : 0 < levelOf c = ltb-true _ _ (r .0) in
     let b : levelOf c ≡ C .0 = level-cell c (C .0) (C .1) (C .2) in
     let e : C .0 ≡ (C .0 - 1) + 1 = omega arith in

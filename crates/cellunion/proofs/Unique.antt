@@ -2,7 +2,7 @@
 use mathlib.Core.Path.{_≡_, refl, sym, ap, ap₂, _∙_, subst}
 use mathlib.Core.Logic.{_⊎_, inl, inr, ⊎-elim}
 use mathlib.Core.Bool.{true}
-use mathlib.Core.List.{List, [], _∷_}
+use mathlib.Core.List.{List, [], _∷_, _++_}
 use Prim.Native.Nat.{ℕ, zero, suc, _+_, _-_, _*_, _≤_, _<_}
 use native.Mathlib.Omega.{arith}
 use Rattle.cellid.specs.CellId.{Cell, IsCell, idOf, bitAt, childOf, firstLeaf, lastLeaf, hasLeaf}
@@ -21,6 +21,24 @@ pub at-all : (P : ℕ → Type 0) (l : List ℕ) → ((x : ℕ) → Member x l �
 unfolding All Member
 at-all P [] f = tt
 at-all P (y ∷ l) f = (f y (inl refl), at-all P l (λ x m. f x (inr m)))
+
+pub member-append→ : (a b : List ℕ) (x : ℕ) → Member x (a ++ b) → Member x a ⊎ Member x b
+unfolding Member
+member-append→ [] b x m = inr m
+member-append→ (y ∷ a) b x m = ⊎-elim (λ e. inl (inl e)) (λ k. ⊎-elim (λ j. inl (inr j)) (λ j. inr j) (member-append→ a b x k)) m
+
+pub member-append← : (a b : List ℕ) (x : ℕ) → Member x a ⊎ Member x b → Member x (a ++ b)
+unfolding Member
+member-append← [] b x m = ⊎-elim (λ k. absurd k) (λ k. k) m
+member-append← (y ∷ a) b x m = ⊎-elim (λ k. ⊎-elim (λ e. inl e) (λ j. inr (member-append← a b x (inl j))) k) (λ k. inr (member-append← a b x (inr k))) m
+
+pub apart-append : (a b : List ℕ) → Apart a → Apart b → ((x y : ℕ) → Member x a → Member y b → lastLeaf x < firstLeaf y) → Apart (a ++ b)
+unfolding Apart Member
+apart-append [] b A B f = B
+apart-append (x ∷ a) b A B f = (
+  at-all (λ y. lastLeaf x < firstLeaf y) (a ++ b) (λ y m. ⊎-elim (λ k. all-at (λ y. lastLeaf x < firstLeaf y) a (A .0) y k) (λ k. f x y (inl refl) k) (member-append→ a b y m)),
+  apart-append a b (A .1) B (λ z y m k. f z y (inr m) k),
+)
 
 -- a leaf is covered by a member, and by each member that has it
 abbrev pub Covered : List ℕ → ℕ → Type 0
@@ -144,3 +162,13 @@ apart-same (x ∷ a) (y ∷ b) A B s t f g =
 pub normal-unique : (a b : List ℕ) → Normal a → Normal b → SameLeaves a b → a ≡ b
 normal-unique a b A B same =
     apart-same a b (A .cells) (B .cells) (A .apart) (B .apart) (same-member a b A B same) (same-member b a B A (λ n. sym (same n)))
+
+-- each cell of the normal list has a raw one inside it
+pub raw-in : (raw a : List ℕ) → All Cell raw → Normal a → SameLeaves a raw → (d : ℕ) → Member d a → (r : ℕ) × Member r raw × In r d
+raw-in raw a C A same d m =
+    let D = all-at Cell a (A .cells) d m in
+    let s = span D in
+    let w = covers→ raw (lo d) C (sym (same (lo d)) ∙ covers← a (lo d) (A .cells) (d, m, omega arith, omega arith)) in
+    let x = same-held a raw A C same (w .0) (w .1) in
+    let e : x .0 ≡ d = apart-one a (A .cells) (A .apart) (x .0) d (lo d) (x .1) m (omega (arith, x .2 .0, w .2)) (omega (arith, x .2 .1, w .3)) (omega arith) (omega arith) in
+    (w .0, w .1, (omega (arith, x .2 .0, ap lo e), omega (arith, x .2 .1, ap hi e)))

@@ -19,7 +19,7 @@ use Rattle.cellunion.proofs.Spans.{span, In, holds-in}
 use Rattle.cellunion.proofs.Unique.{all-at, at-all, Covered}
 use Rattle.cellunion.proofs.Stack.{tail, Cov, cov-members, Cleared, clear-laws, Collapsed, collapse-laws}
 use Rattle.cellunion.proofs.Norm.{Passed, pass-laws, member-rev→, member-rev←, all-rev, stack-normal, same-covered, normal-is}
-use Rattle.cellunion.proofs.Denorm.{member-append→, member-append←}
+use Rattle.cellunion.proofs.Unique.{member-append→, member-append←}
 use Rattle.cellunion.proofs.Lists.{apart-from}
 use Rattle.cellunion.proofs.Settled.{apart-back, normal-back, apart-sorted}
 use Rattle.cellunion.proofs.Memory.{next-word, all-drop, drop-more, drop-take-same}

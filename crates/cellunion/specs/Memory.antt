@@ -1,11 +1,9 @@
 -- What the functions leave in lent memory and in an output.
 use mathlib.Core.Bool.{true, false}
 use mathlib.Core.List.{List, [], _∷_, _++_}
-use Prim.Native.Nat.{ℕ, zero, suc, _+_, _-_, _≤_, _<_}
+use Prim.Native.Nat.{ℕ, zero, suc, _+_, _-_}
 use lib.ListN.{length, take, drop}
 use lib.Dec.{leb}
-use Rattle.cellid.specs.CellId.{Cell}
-use Rattle.order.specs.Order.{All}
 use Rattle.cellunion.specs.declared.Laid.{Laid}
 use Rattle.cellunion.specs.CellUnion.{normalise}
 
@@ -27,7 +25,3 @@ roomFor l d = elim (leb (length l) (length d)) [ true ↦ Laid.Done (length l) |
 
 unfoldable pub laidOver : List ℕ → List ℕ → List ℕ
 laidOver l d = elim (leb (length l) (length d)) [ true ↦ laid 0 l d | false ↦ d ]
-
--- what denormalising the first n words asks
-abbrev pub AsksList : ℕ → ℕ → ℕ → List ℕ → Type 0
-AsksList n low step m = (n ≤ length m) × All Cell (take n m) × (low ≤ 30) × (0 < step)

@@ -1,15 +1,13 @@
 // The engine: region.rs's add_candidate, initial_candidates and covering_internal over lent memory. It follows the defined run of the crate run: each function's
 // contract says which part of the definition it does (specs/Engine).
 ghost use mathlib.Core.Path.{_≡_};
-ghost use mathlib.Core.Bool.{_&&_, _||_, not};
 ghost use Prim.Native.Nat.{_+_, _-_, _^_, _<_, _≤_};
-ghost use lib.Dec.{leb, ltb, eqb};
 ghost use lib.Count.{ones};
 ghost use lib.ListN.{length, take};
-ghost use Rattle.cellid.specs.CellId.{levelOf, leavesOf};
+ghost use Rattle.cellid.specs.CellId.{leavesOf};
 ghost use Rattle.order.specs.Order.{All};
 ghost use Rattle.region.specs.Region.{areaOf};
-ghost use Rattle.run.specs.Run.{minLevel, maxCells, queueMost, rawMost, Task, keep, enqueue, depth, byId, add, addAll, stepWith, step, loop, after, memoryWords};
+ghost use Rattle.run.specs.Run.{queueMost, rawMost, Task, keep, enqueue, byId, add, addAll, stepWith, step, loop, after, memoryWords};
 ghost use Rattle.run.specs.Ground.{Fit, ChildOk, Queued};
 ghost use Rattle.candidate.specs.Candidate.{taskOf, Asks};
 ghost use Rattle.coverer.specs.Coverer.{courseOf, outcomeOf, engineAnswer, engineMemory};
@@ -114,19 +112,6 @@ fn set_aside(q: Request, t: Counts, leaves: u64) -> Counts
     }
 }
 
-// Whether the parent is kept in the place of its children: outer, at min or deeper, all of 4^level_mod terminal.
-fn lifts(q: Request, w: Rule, id: u64, terminal: u64) -> bool
-    ensures { λ r. ⌜ r ≡ (not (q .inner) && (leb (minLevel q) (levelOf id) && eqb (ones terminal) (w .full))) ⌝ }
-{
-    if cellid::level(id) < q.coverer.min_level {
-        return false;
-    }
-    if queue::count(terminal) != w.full {
-        return false;
-    }
-    !q.inner
-}
-
 // Adds a candidate: a terminal is kept; any other is expanded, and then set aside, kept in the place of its children, or queued.
 fn add_candidate(
     m: &mut [u64],
@@ -152,7 +137,7 @@ fn add_candidate(
     if f.present == 0 {
         return Turn::Going(set_aside(q, t, cellid::lsb(id)));
     }
-    if lifts(q, w, id, f.terminal) {
+    if decide::lifts(q, w, id, f.terminal) {
         return keep(m, t, id);
     }
     enqueue(
@@ -165,17 +150,6 @@ fn add_candidate(
             terminal: f.terminal,
         },
     )
-}
-
-// Whether an inner run has as many results as are asked for.
-fn is_full(q: Request, kept: usize) -> bool
-    ensures { λ r. ⌜ r ≡ (q .inner && leb (maxCells q) kept) ⌝ }
-{
-    if q.inner {
-        q.coverer.max_cells <= kept as u64
-    } else {
-        false
-    }
 }
 
 // Whether the place j is in a set.
@@ -206,7 +180,7 @@ fn add_child(
     ensures { λ r. ⌜ AsideUpTo (t .aside + leavesIn (childIf b j)) r ⌝ }
 {
     if is_in(b.present, j) {
-        if is_full(q, t.kept) {
+        if decide::is_full(q, t.kept) {
             Turn::Going(t)
         } else {
             let ends = is_in(b.terminal, j);
@@ -269,17 +243,6 @@ fn cells_under(r: Rec, n: u64) -> Brood
     }
 }
 
-// How far down a candidate is expanded: one level below min, else level_mod.
-fn levels_under(q: Request, id: u64) -> u64
-    ensures { λ r. ⌜ r ≡ depth q id ⌝ }
-{
-    if cellid::level(id) < q.coverer.min_level {
-        1
-    } else {
-        q.coverer.level_mod
-    }
-}
-
 // Hands a taken candidate on to its children. What failed in its expansion is set aside: the places without a child, each as many leaves as a child has.
 fn hand_on(
     m: &mut [u64],
@@ -298,26 +261,9 @@ fn hand_on(
     requires { ⌜ t .aside + leavesOf (r .id) < 2 ^ 64 ⌝ }
     ensures { λ a. ⌜ Does (taskOf q (areaOf g (now (list .entry)))) (λ i. handOn (taskOf q (areaOf g (now (list .entry)))) (grown i (r .id))) (now (m .entry)) t (now (m .exit)) a ⌝ }
 {
-    let b = cells_under(r, levels_under(q, r.id));
+    let b = cells_under(r, decide::levels_under(q, r.id));
     let failed = (b.places - children) * b.unit;
     add_children(m, set_aside(q, t, failed), q, g, list, w, b)
-}
-
-// Whether a taken candidate is handed on: inner, or below min, or one child, or few enough in all.
-fn is_handed_on(q: Request, t: Counts, id: u64, children: u64) -> bool
-    requires { ⌜ (t .kept ≤ rawMost) × (t .queued ≤ queueMost) × (children ≤ 64) ⌝ }
-    ensures { λ r. ⌜ r ≡ (q .inner || (ltb (levelOf id) (minLevel q) || (eqb children 1 || leb (t .kept + t .queued + children) (maxCells q)))) ⌝ }
-{
-    if q.inner {
-        return true;
-    }
-    if cellid::level(id) < q.coverer.min_level {
-        return true;
-    }
-    if children == 1 {
-        return true;
-    }
-    t.kept as u64 + t.queued as u64 + children <= q.coverer.max_cells
 }
 
 // What is done with a taken record.
@@ -329,7 +275,7 @@ fn use_taken(m: &mut [u64], t: Counts, q: Request, g: Region, list: &[u64], w: R
     requires { ⌜ t .aside + leavesOf (r .id) < 2 ^ 64 ⌝ }
     ensures { λ a. ⌜ Does (taskOf q (areaOf g (now (list .entry)))) (λ i. stepWith (courseOf q (areaOf g (now (list .entry)))) (grown i (r .id))) (now (m .entry)) t (now (m .exit)) a ⌝ }
 {
-    if is_full(q, t.kept) {
+    if decide::is_full(q, t.kept) {
         return Turn::Going(Counts {
             kept: t.kept,
             queued: 0,
@@ -338,7 +284,7 @@ fn use_taken(m: &mut [u64], t: Counts, q: Request, g: Region, list: &[u64], w: R
         });
     }
     let children = queue::count(r.present);
-    if is_handed_on(q, t, r.id, children) {
+    if decide::is_handed_on(q, t.kept, t.queued, r.id, children) {
         hand_on(m, t, q, g, list, w, r, children)
     } else {
         keep(m, t, r.id)

@@ -12,7 +12,8 @@ use Rattle.cellid.specs.CellId.{Cell}
 use Rattle.order.specs.Order.{All}
 use Rattle.region.specs.Region.{Area}
 use Rattle.cellunion.specs.declared.Laid.{Laid}
-use Rattle.cellunion.specs.CellUnion.{normalise, denormalise}
+use Rattle.cellunion.specs.CellUnion.{normalise}
+use Rattle.denorm.specs.Denorm.{denormalise}
 use Rattle.cellunion.specs.Memory.{zeros, laid, normalised, roomFor, laidOver}
 use Rattle.cellunion.proofs.Memory.{laid-start, drop-more, length-zeros, zeros-add}
 use Rattle.cellunion.proofs.Norm.{normalise-normal}

@@ -7,7 +7,8 @@ use Prim.Native.Nat.{ℕ}
 use lib.Dec.{leb}
 use lib.ListN.{length, drop}
 use Rattle.region.specs.Region.{Area, boundOf}
-use Rattle.cellunion.specs.CellUnion.{normalise, denormalise}
+use Rattle.cellunion.specs.CellUnion.{normalise}
+use Rattle.denorm.specs.Denorm.{denormalise}
 use Rattle.run.specs.declared.RegionCoverer.{RegionCoverer}
 use Rattle.run.specs.declared.Request.{Request}
 use Rattle.fast.specs.Memory.{startsFor, fastCoveringFor}

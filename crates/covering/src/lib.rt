@@ -73,7 +73,7 @@ fn lay_list(e: Ending, c: RegionCoverer, ids: &mut [u64], count: usize, out: &mu
         }
         Ending::Covering => {
             let k = cellunion::normalize(ids, count);
-            cellunion::denormalize(ids, k, c.min_level, c.level_mod, out)
+            denorm::denormalize(ids, k, c.min_level, c.level_mod, out)
         }
     }
 }

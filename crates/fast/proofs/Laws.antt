@@ -1,6 +1,6 @@
 -- What fast covering makes of a list of cells: a normal list, then cells on step, that cover every leaf of it.
 use mathlib.Core.Path.{_≡_, refl, sym, ap, ap₂, _∙_, subst}
-use mathlib.Core.Bool.{Bool, true, _&&_}
+use mathlib.Core.Bool.{Bool, true, _&&_, and-eq-true-iff}
 use mathlib.Core.Logic.{inl, inr, ⊎-elim}
 use mathlib.Core.List.{List, [], _∷_, map}
 use Prim.Native.Nat.{ℕ, _-_, _*_, _/_, _%_, _^_, _≤_, _<_, min}
@@ -9,14 +9,15 @@ use lib.ListN.{length, length-map}
 use lib.Dec.{leb}
 use borrow.Author.Tests.{leb-true}
 use Rattle.cellid.specs.CellId.{Cell, IsCell, idOf, levelOf, parentAt}
-use Rattle.cellid.proofs.Laws.{and-true, level-cell}
+use Rattle.cellid.proofs.Laws.{level-cell}
 use Rattle.cellid.proofs.Ancestors.{parent-cell}
 use Rattle.order.specs.Order.{All}
-use Rattle.cellunion.specs.CellUnion.{lo, hi, covers, Member, Apart, Normal, OnStep, normalise, denormalise}
+use Rattle.cellunion.specs.CellUnion.{lo, hi, covers, Member, Apart, Normal, normalise}
+use Rattle.denorm.specs.Denorm.{OnStep, denormalise}
 use Rattle.cellunion.proofs.Unique.{all-at, at-all, covers→, covers←}
 use Rattle.cellunion.proofs.Stack.{Cov}
 use Rattle.cellunion.proofs.Norm.{normalise-normal, normalise-short}
-use Rattle.cellunion.proofs.Denorm.{denormalise-laws, denormalise-leaves, denormalise-apart, goal-on}
+use Rattle.denorm.proofs.Laws.{denormalise-laws, denormalise-leaves, denormalise-apart, goal-on}
 use Rattle.fast.specs.Fast.{adjusted, lifted, mergedCovering, fastCovering}
 use Rattle.fast.proofs.Levels.{adjusted-one, lifted-is, lifted-under, Under}
 use Rattle.fast.proofs.Merging.{AllUnder, merged-laws, normal-cov, normal-under}
@@ -41,7 +42,7 @@ lifted-own low top step [] h s o C = refl
 lifted-own low top step (x ∷ l) h s o C = ap₂ (λ (y : ℕ) (m : List ℕ). y ∷ m) (lifted-one low top step x h s o (C .0)) (lifted-own low top step l h s o (C .1))
 
 pub lifted-all : (low top step : ℕ) (l : List ℕ) (b : Bool) → 0 < step → All Cell l → b ≡ (leb 30 top && leb step 1) → b ≡ true → map (lifted low top step) l ≡ l
-lifted-all low top step l b s C e t = let r = and-true (leb 30 top) (leb step 1) (sym e ∙ t) in lifted-own low top step l (leb-true 30 top (r .0)) s (leb-true step 1 (r .1)) C
+lifted-all low top step l b s C e t = let r = and-eq-true-iff (leb 30 top) (leb step 1) .0 (sym e ∙ t) in lifted-own low top step l (leb-true 30 top (r .0)) s (leb-true step 1 (r .1)) C
 
 pub lifted-cells : (low top step : ℕ) (l : List ℕ) → All Cell l → All Cell (map (lifted low top step) l)
 unfolding All

@@ -10,7 +10,8 @@ use Rattle.cellid.specs.CellId.{Cell, IsCell, levelOf, parentAt, commonLevel}
 use Rattle.cellid.specs.declared.Common.{Common}
 use Rattle.cellid.proofs.Laws.{level-cell, level-le}
 use Rattle.cellid.proofs.Ancestors.{parent-cell, parent-holds, common-level}
-use Rattle.cellunion.specs.CellUnion.{lo, hi, OnStep}
+use Rattle.cellunion.specs.CellUnion.{lo, hi}
+use Rattle.denorm.specs.Denorm.{OnStep}
 use Rattle.cellunion.proofs.Spans.{In, Nest, left, right, inside, around, span, nest, in-level, in-same, holds-in}
 use Rattle.fast.specs.Fast.{adjusted, lifted, depthOf, pairDepth}
 

@@ -13,7 +13,8 @@ use Rattle.cellid.specs.CellId.{Cell, IsCell, levelOf, placeOf, parentAt, first
 use Rattle.cellid.proofs.Laws.{no-true, level-le, level-cell, place-id}
 use Rattle.order.specs.Order.{All}
 use Rattle.order.proofs.OrderLaws.{which, all-weak}
-use Rattle.cellunion.specs.CellUnion.{lo, hi, covers, Member, Apart, clearOf, goal, cellsFrom, below, denormalise}
+use Rattle.cellunion.specs.CellUnion.{lo, hi, covers, Member, Apart, clearOf}
+use Rattle.denorm.specs.Denorm.{goal, cellsFrom, below, denormalise}
 use Rattle.cellunion.specs.Stack.{Down}
 use Rattle.cellunion.proofs.Spans.{In, Nest, left, right, inside, around, span, nest, holds-in, holds-no}
 use Rattle.cellunion.proofs.Unique.{all-at, at-all, covers→, covers←}

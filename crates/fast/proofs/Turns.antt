@@ -9,7 +9,8 @@ use lib.ListN.{length, getD, set, take, drop, length-append, length-map, length-
 use lib.Seq.{length-take-le, take-suc, drop-cons, getD-at, set-at, take-at, drop-at, getD-take, take-set-lt, drop-set-lt}
 use Rattle.cellid.specs.CellId.{Cell, parentAt, holds}
 use Rattle.order.specs.Order.{All}
-use Rattle.cellunion.specs.CellUnion.{Normal, normalise, denormalise}
+use Rattle.cellunion.specs.CellUnion.{Normal, normalise}
+use Rattle.denorm.specs.Denorm.{denormalise}
 use Rattle.cellunion.specs.Memory.{zeros, normalised}
 use Rattle.cellunion.proofs.Norm.{normalise-normal, normalise-short}
 use Rattle.cellunion.proofs.Memory.{length-zeros, zeros-add}

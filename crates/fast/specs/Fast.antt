@@ -7,7 +7,8 @@ use lib.ListN.{length, take, drop, getD}
 use lib.Dec.{ltb, leb}
 use Rattle.cellid.specs.CellId.{levelOf, parentAt, holds, commonLevel}
 use Rattle.cellid.specs.declared.Common.{Common}
-use Rattle.cellunion.specs.CellUnion.{normalise, denormalise, rev}
+use Rattle.cellunion.specs.CellUnion.{normalise, rev}
+use Rattle.denorm.specs.Denorm.{denormalise}
 use Rattle.fast.specs.declared.Best.{Best}
 
 -- Adjusted level: below or at min unchanged; above, level - ((level - min) mod level_mod).

@@ -146,7 +146,7 @@ pub fn normalize_covering(
     ensures { λ r. ⌜ (r ≡ roomFor (fastCoveringFor c (take n (now (mem .entry)))) (now (out .entry))) × (now (out .exit) ≡ laidOver (fastCoveringFor c (take n (now (mem .entry)))) (now (out .entry))) × (now (mem .exit) ≡ inPlace n (mergedCoveringFor c (take n (now (mem .entry)))) (now (mem .entry))) ⌝ }
 {
     let k = merge_covering(c, mem, n);
-    cellunion::denormalize(mem, k, c.min_level, c.level_mod, out)
+    denorm::denormalize(mem, k, c.min_level, c.level_mod, out)
 }
 
 // Fast covering of the region's bound, laid over the output's first places. It takes no steps. The bound stands in the memory's first words meanwhile; in its

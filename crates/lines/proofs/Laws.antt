@@ -13,15 +13,16 @@ use borrow.Author.Tests.{leb-true, lt-ltb, le-ltb, eq-eqb, ne-eqb}
 use Rattle.text.specs.declared.Fault.{Fault}
 use Rattle.text.specs.declared.Place.{Place}
 use Rattle.text.specs.declared.Read.{Read}
-use Rattle.text.specs.Text.{Numbers, ReadList, listAfter, endAfter, startOf}
+use Rattle.text.specs.Text.{Numbers, ReadList, listAfter, endAfter, startOf, wordsWith}
 use Rattle.tokens.specs.declared.Form.{Form}
 use Rattle.replies.specs.Write.{Wrote, listText, errorText}
 use Rattle.replies.proofs.Lengths.{wrote-whole, error-length, refused-length, list-length}
 use Rattle.requests.specs.declared.line.Options.{Options}
-use Rattle.requests.specs.Line.{wordsWith, valueOr, formOf, optionsAfter}
+use Rattle.requests.specs.Line.{valueOr, formOf, optionsAfter}
 use Rattle.requests.specs.Requests as Requests
 use Rattle.requests.specs.Requests.{onFirst}
-use Rattle.requests.proofs.Laws.{take-min, drop-min, length-min, words-fit}
+use Rattle.text.proofs.Fields.{words-fit, words-list, words-rest}
+use Rattle.requests.proofs.Laws.{take-min, drop-min, length-min}
 use Rattle.ranges.specs.declared.Answer.{Answer}
 use Rattle.cellunion.specs.CellUnion.{isList}
 use Rattle.ranges.specs.Ranges.{Result, refused, done, fitted, pairsOf, isPairs, cellsOf, pairsResult, cellsResult, listAnswer, wordsOf, outputAfter, Answered}
@@ -53,24 +54,19 @@ module _ (kind most : ℕ) (l : List ℕ) (p : Place) where
   second-some t = rw (secondAfter, t)
 
 pub read-none : (kind : ℕ) (l : List ℕ) (p : Place) (words : List ℕ) → kind < 2 → ReadList (secondAfter kind (length words) l p) (record { value = 0; after = p }) words words
-read-none kind l p words h = rw (second-none kind (length words) l p (lt-ltb kind 2 h)) (record { count = refl; place = refl; words = refl })
+unfolding wordsWith
+read-none kind l p words h = rw (second-none kind (length words) l p (lt-ltb kind 2 h)) (record { count = refl; place = refl; lent = refl })
 
 pub read-some : (kind : ℕ) (l : List ℕ) (p : Place) (r : Read) (words words' : List ℕ) → 2 ≤ kind → ReadList (listAfter (length words) l p) r words words' → ReadList (secondAfter kind (length words) l p) r words words'
 read-some kind l p r words words' h R = rw (second-some kind (length words) l p (le-ltb kind 2 h)) R
 
 -- one list behind the other
-both-words : (a b words : List ℕ) → a ++ (b ++ drop (length b) (drop (length a) words)) ≡ wordsWith (a ++ b) words
+both-words : (a b words : List ℕ) → a ++ wordsWith b (drop (length a) words) ≡ wordsWith (a ++ b) words
 unfolding wordsWith
 both-words a b words = ap (λ (t : List ℕ). a ++ (b ++ t)) (drop-drop (length b) (length a) words) ∙ sym (append-assoc a b _) ∙ ap (λ (n : ℕ). (a ++ b) ++ drop n words) (sym (length-append a b))
 
-first-read : (n : Numbers) (r : Read) (words words' : List ℕ) → ReadList n r words words' → (take (r .value) words' ≡ n .values) × (drop (r .value) words' ≡ drop (length (n .values)) words)
-first-read n r words words' R = (
-  rw (R .count, R .words) (take-append-seam (n .values) _),
-  rw (R .count, R .words) (drop-append-seam (n .values) _),
-)
-
 pub read-fits : (n : Numbers) (r : Read) (words words' : List ℕ) → ReadList n r words words' → r .value ≤ length words'
-read-fits n r words words' R = rw (R .count, R .words, length-append (n .values) _) (omega arith)
+read-fits n r words words' R = words-fit (n .values) words words' (r .value) (R .count) (R .lent)
 
 -- behind a part that is lent to its end there is nothing
 past-end : (l part : List ℕ) (k : ℕ) → part ++ drop (length l - k) (drop k l) ≡ part
@@ -82,15 +78,14 @@ pub lists-read : (kind : ℕ) (l : List ℕ) (p : Place) (a b : Read) (words mid
 unfolding listsAfter
 lists-read kind l p a b words mid part A B =
     let n = listAfter (length words) l p in
-    let F = first-read n a words mid A in
     let m = secondAfter kind (length words - length (n .values)) l (n .after) in
-    let r : take (length mid - a .value) (drop (a .value) mid) ≡ drop (length (n .values)) words = part-to-end mid (a .value) ∙ F .1 in
+    let r : take (length mid - a .value) (drop (a .value) mid) ≡ drop (length (n .values)) words = part-to-end mid (a .value) ∙ words-rest (n .values) words mid (a .value) (A .count) (A .lent) in
     let C : ReadList m b (drop (length (n .values)) words) part = rw (r, length-drop (length (n .values)) words, A .place) at B in
     record {
       count = A .count;
       total = omega (arith, A .count, C .count, length-append (n .values) (m .values));
       place = C .place;
-      lent = ap₂ (λ (x y : List ℕ). x ++ y) (F .0) (past-end mid part (a .value) ∙ C .words) ∙ both-words (n .values) (m .values) words;
+      lent = ap₂ (λ (x y : List ℕ). x ++ y) (words-list (n .values) words mid (a .value) (A .count) (A .lent)) (past-end mid part (a .value) ∙ C .lent) ∙ both-words (n .values) (m .values) words;
     }
 
 pub question-read : (l words words' : List ℕ) (start : Place) (word : Read) (lists : ListsRead) (o : Options) (end : Place) (out : ℕ) (form : Form)
@@ -114,8 +109,7 @@ module _ (q : Question) (r : ListRead) (words words' : List ℕ) (R : ReadQuesti
   lists-fit = words-fit (q .first ++ q .second) words words' (r .both) both-is (R .lent)
 
   lists-there : take (r .both) words' ≡ q .first ++ q .second
-  unfolding wordsWith
-  lists-there = rw (both-is, R .lent) (take-append-seam (q .first ++ q .second) _)
+  lists-there = words-list (q .first ++ q .second) words words' (r .both) both-is (R .lent)
 
   pub first-fits : r .first ≤ length (take (r .both) words')
   first-fits = rw (lists-there, first-is, length-append (q .first) (q .second)) (omega arith)

@@ -10,10 +10,10 @@ use Rattle.text.specs.Ascii.{ascii}
 use Rattle.text.specs.declared.Fault.{Fault}
 use Rattle.text.specs.declared.Place.{Place}
 use Rattle.text.specs.declared.Read.{Read}
-use Rattle.text.specs.Text.{Numbers, choiceAfter, listAfter, endAfter, startOf}
+use Rattle.text.specs.Text.{Numbers, choiceAfter, listAfter, endAfter, startOf, wordsWith}
 use Rattle.tokens.specs.declared.Form.{Form}
 use Rattle.replies.specs.Write.{Whole, refusedText, listText, errorText}
-use Rattle.requests.specs.Line.{wordsWith, valueOr, formOf, optionsAfter}
+use Rattle.requests.specs.Line.{valueOr, formOf, optionsAfter}
 use Rattle.requests.specs.Requests.{onFirst, askedText, askedWords, askedMemory, askedOutput}
 use Rattle.ranges.specs.declared.Answer.{Answer}
 use Rattle.ranges.specs.Ranges.{Result, pairsResult, cellsResult, listAnswer, outputAfter}

@@ -1,7 +1,7 @@
 -- Pick lists: what the check says, the turns of the search, and that one listed cell decides.
 use mathlib.Core.Path.{_≡_, refl, sym, ap, _∙_}
-use mathlib.Core.Logic.{_↔_, _⊎_, inl, inr, ⊎-elim, by-cases}
-use mathlib.Core.Bool.{Bool, true, false, _||_}
+use mathlib.Core.Logic.{_↔_, inl, inr, ⊎-elim, by-cases}
+use mathlib.Core.Bool.{Bool, true, false, _||_, and-eq-true-iff}
 use mathlib.Core.List.{List, [], _∷_}
 use Prim.Native.Nat.{ℕ, zero, suc, _+_, _≤_, _<_}
 use native.Mathlib.Decide.{decLt}
@@ -10,35 +10,35 @@ use lib.ListN.{length, getD}
 use lib.Dec.{leb}
 use borrow.Author.Tests.{leb-true, le-leb, lt-leb}
 use Rattle.cellid.specs.CellId.{Cell, firstLeaf, lastLeaf, holds, meets, hasLeaf}
-use Rattle.cellid.proofs.Laws.{and-true, or-true, true-or, no-true, bool-iff, cell-pos}
+use Rattle.cellid.proofs.Laws.{or-true, true-or, no-true, bool-iff, cell-pos}
 use Rattle.cellid.proofs.Leaves.{contains-leaves, intersects-leaves}
 use Rattle.order.specs.Order.{All}
 use Rattle.order.proofs.OrderLaws.{all-get}
 use Rattle.cellunion.specs.CellUnion.{covers, Apart, isList}
 use Rattle.cellunion.proofs.Lists.{is-list, apart-get}
 use Rattle.cellunion.proofs.Spans.{span, holds-in}
-use Rattle.picklist.specs.PickList.{isPickList, some, listMeets, listHolds, Parts}
+use Rattle.picklist.specs.PickList.{picksMost, isPickList, some, listMeets, listHolds, Parts}
 
 -- ---- what may come in
 
-pub pick-yes : (l : List ℕ) (b : Bool) → length l ≤ 4096 → b ≡ isList l → b ≡ isPickList l
+pub pick-yes : (l : List ℕ) (b : Bool) → length l ≤ picksMost → b ≡ isList l → b ≡ isPickList l
 unfolding isPickList
-pick-yes l b h e = rw (isPickList, le-leb (length l) 4096 h) e
+pick-yes l b h e = rw (isPickList, le-leb (length l) picksMost h) e
 
-pub pick-no : (l : List ℕ) → 4096 < length l → false ≡ isPickList l
+pub pick-no : (l : List ℕ) → picksMost < length l → false ≡ isPickList l
 unfolding isPickList
-pick-no l h = rw (isPickList, lt-leb (length l) 4096 h)
+pick-no l h = rw (isPickList, lt-leb (length l) picksMost h)
 
 pub pick-list : (l : List ℕ) → isPickList l ≡ true → isList l ≡ true
 unfolding isPickList
-pick-list l t = and-true (leb (length l) 4096) (isList l) t .1
+pick-list l t = and-eq-true-iff (leb (length l) picksMost) (isList l) .0 t .1
 
 -- exactly the lists of cells, ascending and free of overlap, up to 4,096
-pub pick-is : (l : List ℕ) → (isPickList l ≡ true) ↔ ((length l ≤ 4096) × All Cell l × Apart l)
+pub pick-is : (l : List ℕ) → (isPickList l ≡ true) ↔ ((length l ≤ picksMost) × All Cell l × Apart l)
 unfolding isPickList
 pick-is l = (
-  λ t. (let r = and-true (leb (length l) 4096) (isList l) t in let T = is-list l .0 (r .1) in (leb-true (length l) 4096 (r .0), T .0, T .1)),
-  λ T. rw (le-leb (length l) 4096 (T .0), is-list l .1 (T .1, T .2)),
+  λ t. (let r = and-eq-true-iff (leb (length l) picksMost) (isList l) .0 t in let T = is-list l .0 (r .1) in (leb-true (length l) picksMost (r .0), T .0, T .1)),
+  λ T. rw (le-leb (length l) picksMost (T .0), is-list l .1 (T .1, T .2)),
 )
 
 -- ---- the listed cells, by their places
@@ -120,7 +120,7 @@ search-done l first low high S h = record {
 
 meets→ : (a b : ℕ) → meets a b ≡ true → (firstLeaf b ≤ lastLeaf a) × (firstLeaf a ≤ lastLeaf b)
 unfolding meets
-meets→ a b t = let r = and-true _ _ t in (leb-true _ _ (r .0), leb-true _ _ (r .1))
+meets→ a b t = let r = and-eq-true-iff _ _ .0 t in (leb-true _ _ (r .0), leb-true _ _ (r .1))
 
 meets-if : (a b : ℕ) → firstLeaf b ≤ lastLeaf a → meets a b ≡ leb (firstLeaf a) (lastLeaf b)
 unfolding meets

@@ -409,7 +409,7 @@ fn lay(k: u64, c: RegionCoverer, ids: &mut [u64; 4096], n: usize, out: &mut [u64
     requires { ⌜ NumbersFit c × Cells n (now ids) ⌝ }
 {
     match k {
-        19 => cellunion::denormalize(ids, n, c.min_level, c.level_mod, out),
+        19 => denorm::denormalize(ids, n, c.min_level, c.level_mod, out),
         _ => fast::normalize_covering(c, ids, n, out),
     }
 }

@@ -7,7 +7,8 @@ use native.Mathlib.Omega.{arith}
 use lib.ListN.{length, take}
 use Rattle.cellid.specs.CellId.{levelOf}
 use Rattle.order.specs.Order.{All}
-use Rattle.cellunion.specs.CellUnion.{covers, Apart, SameLeaves, OnStep}
+use Rattle.cellunion.specs.CellUnion.{covers, Apart, SameLeaves}
+use Rattle.denorm.specs.Denorm.{OnStep}
 use Rattle.region.specs.Region.{Area, boundOf}
 use Rattle.region.proofs.Laws.{bound-cells}
 use Rattle.run.specs.declared.RegionCoverer.{RegionCoverer}

@@ -9,7 +9,8 @@ use lib.Count.{trailingZeros}
 use Rattle.cellid.specs.CellId.{levelOf, placeOf, idOf, childOf, parentAt, holds, lowBit, firstLeaf, lastLeaf}
 use Rattle.order.specs.Order.{insert, sort}
 use Rattle.order.specs.Lex.{lexb, first}
-use Rattle.cellunion.specs.CellUnion.{normalise, denormalise, pass, collapse, clearOf, isFour, rev, goal, below, cellsFrom}
+use Rattle.cellunion.specs.CellUnion.{normalise, pass, collapse, clearOf, isFour, rev}
+use Rattle.denorm.specs.Denorm.{denormalise, goal, below, cellsFrom}
 use Rattle.cellunion.specs.CellUnion as Union
 use Rattle.run.specs.Run.{Task, byCost, Outcome, refused, going, then, isEmpty, look, part, expand, reached, join, fourOf, expansionOf, depth, full, ending, lifts, cost, costOf, byId, keep, enqueue, setAside, isFull, isHandedOn, add, addAll, stepWith, stepOn, step, startAs, startAll, placed, after, loop, run, rawIds}
 

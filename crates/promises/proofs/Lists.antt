@@ -11,7 +11,8 @@ use borrow.Author.Tests.{le-leb}
 use Rattle.cellid.specs.CellId.{Cell, IsCell, idOf, parentAt}
 use Rattle.cellid.proofs.Ancestors.{parent-cell, parent-holds}
 use Rattle.order.specs.Order.{All, sort}
-use Rattle.cellunion.specs.CellUnion.{covers, normalise, pass, rev, denormalise}
+use Rattle.cellunion.specs.CellUnion.{covers, normalise, pass, rev}
+use Rattle.denorm.specs.Denorm.{denormalise}
 use Rattle.cellunion.proofs.Unique.{all-at, covers→}
 use Rattle.cellunion.proofs.Counts.{hi-le}
 use Rattle.picklist.specs.PickList.{isPickList}

@@ -5,7 +5,8 @@ use lib.Ieee.{units, size, ofBits, toBits}
 use Rattle.root.specs.Root.{root, rooted, isqrt, rootIn}
 use Rattle.cellid.specs.CellId.{faceCell, childOf, lowBit, validId, levelOf, placeOf, idOf, parentAt, holds, firstLeaf, lastLeaf, commonLevel, deepest, sameAt, one}
 use Rattle.order.specs.Order.{All, insert, sort}
-use Rattle.cellunion.specs.CellUnion.{goal, normalise, pass, keepCell, collapse, clearOf, isFour, rev, denormalise, below, cellsFrom}
+use Rattle.cellunion.specs.CellUnion.{normalise, pass, keepCell, collapse, clearOf, isFour, rev}
+use Rattle.denorm.specs.Denorm.{goal, denormalise, below, cellsFrom}
 use Rattle.fast.specs.Fast.{adjusted, lifted, depthOf, pairDepth, bestOf, joined, mergedIn, mergedCovering, fastCovering}
 use Rattle.run.specs.Run.{full, costOf}
 use Rattle.promises.specs.Rows.{Right, table}

@@ -9,11 +9,12 @@ use lib.ListN.{length, getD}
 use Rattle.cellid.specs.CellId.{Cell, levelOf, hasLeaf, one}
 use Rattle.order.specs.Order.{All}
 use Rattle.order.proofs.OrderLaws.{which, all-weak}
-use Rattle.cellunion.specs.CellUnion.{covers, SameLeaves, Member, OnStep, normalise, denormalise}
+use Rattle.cellunion.specs.CellUnion.{covers, SameLeaves, Member, normalise}
+use Rattle.denorm.specs.Denorm.{OnStep, denormalise}
 use Rattle.cellid.proofs.Laws.{or-true, true-or}
 use Rattle.cellunion.proofs.Unique.{all-at}
 use Rattle.cellunion.proofs.Norm.{normalise-leaves}
-use Rattle.cellunion.proofs.Denorm.{final-levels, final-leaves}
+use Rattle.denorm.proofs.Laws.{final-levels, final-leaves}
 use Rattle.picklist.proofs.Laws.{some-found, some-covers}
 use Rattle.run.specs.Run.{minLevel, maxLevel, levelMod, Task, Course, _by_, Grown, State, going, run, rawIds, sumOf}
 use Rattle.run.specs.Ground.{Domain, Fit, Passes, timesCovered}

@@ -7,7 +7,8 @@ use Prim.Native.Nat.{ℕ}
 use lib.ListN.{length, take}
 use Rattle.cellid.specs.CellId.{levelOf}
 use Rattle.order.specs.Order.{All}
-use Rattle.cellunion.specs.CellUnion.{covers, OnStep, Apart}
+use Rattle.cellunion.specs.CellUnion.{covers, Apart}
+use Rattle.denorm.specs.Denorm.{OnStep}
 use Rattle.region.specs.Region.{Area, listArea, boundOf}
 use Rattle.run.specs.declared.RegionCoverer.{RegionCoverer}
 use Rattle.fast.specs.Memory.{startsFor, fastCoveringFor}

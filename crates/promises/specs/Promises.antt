@@ -7,7 +7,8 @@ use Prim.Native.Nat.{ℕ, _≤_, _<_}
 use lib.ListN.{length, getD}
 use Rattle.cellid.specs.CellId.{levelOf, hasLeaf}
 use Rattle.order.specs.Order.{All}
-use Rattle.cellunion.specs.CellUnion.{covers, SameLeaves, Member, OnStep}
+use Rattle.cellunion.specs.CellUnion.{covers, SameLeaves, Member}
+use Rattle.denorm.specs.Denorm.{OnStep}
 use Rattle.run.specs.declared.Request.{Request}
 use Rattle.run.specs.Run.{minLevel, maxLevel, levelMod, Task, Course, State, going, after, rawIds}
 use Rattle.run.specs.Ground.{allCells, Aside, Beneath, Step, PassesFrom}

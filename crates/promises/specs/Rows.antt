@@ -7,7 +7,7 @@ use lib.IntN.{negsuc}
 use lib.Ieee.{Float, fin, binary64, ofBits, toBits}
 use Rattle.root.specs.Root.{root}
 use Rattle.cellid.specs.CellId.{faceCell, childOf, validId, one}
-use Rattle.cellunion.specs.CellUnion.{goal}
+use Rattle.denorm.specs.Denorm.{goal}
 use Rattle.fast.specs.Fast.{adjusted, fastCovering}
 use Rattle.run.specs.Run.{full, costOf}
 

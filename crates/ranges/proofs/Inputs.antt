@@ -1,14 +1,14 @@
 -- Lists and pairs as they come: what the tests say, and the stretches of their leaves.
 use mathlib.Core.Path.{_≡_, refl, sym, ap, ap₂, _∙_, subst}
 use mathlib.Core.Logic.{inl, inr, ⊎-elim}
-use mathlib.Core.Bool.{Bool, true, false, _&&_, _||_}
+use mathlib.Core.Bool.{Bool, true, false, _&&_, _||_, and-eq-true-iff}
 use mathlib.Core.List.{List, [], _∷_, _++_, append-nil}
 use Prim.Native.Nat.{ℕ, zero, suc, _+_, _-_, _*_, _/_, _%_, _≤_, _<_}
 use native.Mathlib.Omega.{arith}
 use lib.Dec.{leb, ltb, eqb}
 use borrow.Author.Tests.{ltb-true, ltb-false, lt-ltb, le-ltb, leb-true, le-leb, lt-leb, eqb-true, eqb-false, eq-eqb, ne-eqb}
 use Rattle.cellid.specs.CellId.{Cell, firstLeaf, lastLeaf}
-use Rattle.cellid.proofs.Laws.{and-true, bool-iff, no-true, true-or}
+use Rattle.cellid.proofs.Laws.{bool-iff, no-true, true-or}
 use Rattle.order.specs.Order.{All}
 use Rattle.order.proofs.OrderLaws.{which}
 use Rattle.cellunion.specs.CellUnion.{lo, hi, covers, Apart, isList}
@@ -37,10 +37,10 @@ pub record Follows (b first last : ℕ) : Type 0 where
 pub follows→ : (b first last : ℕ) → follows b first last ≡ true → Follows b first last
 unfolding follows
 follows→ b first last t =
-    let r = and-true (eqb (first % 2) 1) _ t in
-    let q = and-true (eqb (last % 2) 1) _ (r .1) in
-    let p = and-true (leb b first) _ (q .1) in
-    let o = and-true (leb first last) (ltb last (2 * leaves)) (p .1) in
+    let r = and-eq-true-iff (eqb (first % 2) 1) _ .0 t in
+    let q = and-eq-true-iff (eqb (last % 2) 1) _ .0 (r .1) in
+    let p = and-eq-true-iff (leb b first) _ .0 (q .1) in
+    let o = and-eq-true-iff (leb first last) (ltb last (2 * leaves)) .0 (p .1) in
     record { odd = eqb-true _ _ (r .0); odd' = eqb-true _ _ (q .0); from = leb-true _ _ (p .0); some = leb-true _ _ (o .0); to = ltb-true _ _ (o .1) }
 
 follows← : (b first last : ℕ) → Follows b first last → follows b first last ≡ true
@@ -50,7 +50,7 @@ follows← b first last F = rw (eq-eqb (first % 2) 1 (F .odd), eq-eqb (last % 2)
 -- the stretch of a pair
 pair-leaf : (b first last n : ℕ) → Follows b first last → (leb first (2 * n + 1) && leb (2 * n + 1) last) ≡ between (first / 2) ((last + 1) / 2) n
 pair-leaf b first last n F = bool-iff (leb first (2 * n + 1) && leb (2 * n + 1) last) (between (first / 2) ((last + 1) / 2) n)
-    (λ t. let r = and-true (leb first (2 * n + 1)) (leb (2 * n + 1) last) t in
+    (λ t. let r = and-eq-true-iff (leb first (2 * n + 1)) (leb (2 * n + 1) last) .0 t in
     let x : first ≤ 2 * n + 1 = leb-true _ _ (r .0) in
     let y : 2 * n + 1 ≤ last = leb-true _ _ (r .1) in
     between← (first / 2) ((last + 1) / 2) n (omega arith) (omega arith))
@@ -63,7 +63,7 @@ unfolding pairsFrom inPairs
 pairs-before b [] n t h = refl
 pairs-before b (x ∷ []) n t h = refl
 pairs-before b (first ∷ last ∷ ps) n t h =
-    let r = and-true (follows b first last) (pairsFrom (last + 4) ps) t in
+    let r = and-eq-true-iff (follows b first last) (pairsFrom (last + 4) ps) .0 t in
     let F = follows→ b first last (r .0) in
     rw (lt-leb first (2 * n + 1) (omega (arith, F .from))) (pairs-before (last + 4) ps n (r .1) (omega (arith, F .from, F .some)))
 
@@ -72,7 +72,7 @@ unfolding pairsFrom inPairs
 pairs-past b [] n t h = refl
 pairs-past b (x ∷ []) n t h = refl
 pairs-past b (first ∷ last ∷ ps) n t h =
-    let r = and-true (follows b first last) (pairsFrom (last + 4) ps) t in
+    let r = and-eq-true-iff (follows b first last) (pairsFrom (last + 4) ps) .0 t in
     let F = follows→ b first last (r .0) in
     ap₂ (λ (x y : Bool). x || y) (pair-leaf b first last n F ∙ no-true (between (first / 2) ((last + 1) / 2) n) (λ u. let q = between→ (first / 2) ((last + 1) / 2) n u in omega (arith, q .1, F .to))) (pairs-past (last + 4) ps n (r .1) h)
 
@@ -206,7 +206,7 @@ pair-out b first last n ps F x = ap (λ (t : Bool). t || inPairs ps n) (pair-lea
 
 pub pairs-cons : (b first last : ℕ) (ps : List ℕ) → pairsFrom b (first ∷ last ∷ ps) ≡ true → Follows b first last × (pairsFrom (last + 4) ps ≡ true)
 unfolding pairsFrom
-pairs-cons b first last ps t = let r = and-true (follows b first last) (pairsFrom (last + 4) ps) t in (follows→ b first last (r .0), r .1)
+pairs-cons b first last ps t = let r = and-eq-true-iff (follows b first last) (pairsFrom (last + 4) ps) .0 t in (follows→ b first last (r .0), r .1)
 
 pairs-first : (b first last : ℕ) (ps : List ℕ) → pairsFrom b (first ∷ last ∷ ps) ≡ true → pairsFrom first (first ∷ last ∷ ps) ≡ true
 unfolding pairsFrom
@@ -267,7 +267,7 @@ pair-has s e l n h = ⊎-elim
     (λ (t : ltb s e ≡ true).
     let g : s < e = ltb-true _ _ t in
     ap (λ (a : List ℕ). inPairs (a ++ l) n) (pair-go s e g) ∙ ap (λ (b : Bool). b || inPairs l n) (bool-iff (leb (2 * s + 1) (2 * n + 1) && leb (2 * n + 1) (2 * e - 1)) (between s e n)
-    (λ u. let r = and-true (leb (2 * s + 1) (2 * n + 1)) (leb (2 * n + 1) (2 * e - 1)) u in
+    (λ u. let r = and-eq-true-iff (leb (2 * s + 1) (2 * n + 1)) (leb (2 * n + 1) (2 * e - 1)) .0 u in
     let x : 2 * s + 1 ≤ 2 * n + 1 = leb-true _ _ (r .0) in let y : 2 * n + 1 ≤ 2 * e - 1 = leb-true _ _ (r .1) in between← s e n (omega arith) (omega arith))
     (λ u. let r = between→ s e n u in rw (le-leb (2 * s + 1) (2 * n + 1) (omega (arith, r .0)), le-leb (2 * n + 1) (2 * e - 1) (omega (arith, r .1))))))
     (λ (t : ltb s e ≡ false). let g : e ≤ s = ltb-false _ _ t in ap (λ (a : List ℕ). inPairs (a ++ l) n) (pair-end s e g) ∙ ap (λ (b : Bool). b || inPairs l n) (sym (between-none s e n g)))

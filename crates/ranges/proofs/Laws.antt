@@ -8,10 +8,11 @@ use native.Mathlib.Omega.{arith}
 use lib.ListN.{length}
 use Rattle.cellid.specs.CellId.{firstLeaf, lastLeaf}
 use Rattle.order.proofs.OrderLaws.{which}
-use Rattle.cellunion.specs.CellUnion.{covers, SameLeaves, Normal, normalise, denormalise, isList}
+use Rattle.cellunion.specs.CellUnion.{covers, SameLeaves, Normal, normalise, isList}
+use Rattle.denorm.specs.Denorm.{denormalise}
 use Rattle.cellunion.proofs.Unique.{normal-unique}
 use Rattle.cellunion.proofs.Lists.{is-list}
-use Rattle.cellunion.proofs.Denorm.{denormalise-laws, denormalise-leaves, denormalise-apart}
+use Rattle.denorm.proofs.Laws.{denormalise-laws, denormalise-leaves, denormalise-apart}
 use Rattle.ranges.specs.Ranges.{leaves, joins, isPairs, inPairs, pairBefore, pairsOf, cellsOf}
 use Rattle.ranges.specs.Stretches.{stretches, pair}
 use Rattle.ranges.proofs.Stretches.{stretches-same, cells-leaves, cells-normal, cells-are}

@@ -1,21 +1,21 @@
 -- Going through all leaves: what may be passed over at once, and what the stretches hold.
 use mathlib.Core.Path.{_≡_, refl, sym, ap, _∙_, subst}
 use mathlib.Core.Logic.{inl, inr, ⊎-elim}
-use mathlib.Core.Bool.{Bool, true, false, _&&_, _||_}
+use mathlib.Core.Bool.{Bool, true, false, _&&_, _||_, and-eq-true-iff}
 use mathlib.Core.List.{List, [], _++_, append-nil}
 use Prim.Native.Nat.{ℕ, zero, suc, _+_, _-_, _≤_, _<_}
 use native.Mathlib.Omega.{arith}
 use lib.Dec.{ltb}
 use borrow.Author.Tests.{ltb-true, ltb-false}
 use Rattle.cellid.specs.CellId.{Cell, IsCell, idOf, childOf}
-use Rattle.cellid.proofs.Laws.{and-true, or-true, true-or, bool-iff}
+use Rattle.cellid.proofs.Laws.{or-true, true-or, bool-iff}
 use Rattle.order.specs.Order.{All}
 use Rattle.order.proofs.OrderLaws.{which, all-append}
 use Rattle.cellunion.specs.CellUnion.{lo, hi, covers, Member, Apart, NoFour, Normal, normalise}
 use Rattle.cellunion.proofs.Spans.{span, kids}
 use Rattle.cellunion.proofs.Unique.{all-at, at-all, covers←}
 use Rattle.cellunion.proofs.Norm.{normal-is}
-use Rattle.cellunion.proofs.Denorm.{member-append→, apart-append}
+use Rattle.cellunion.proofs.Unique.{member-append→, apart-append}
 use Rattle.cellunion.proofs.Counts.{hi-le}
 use Rattle.cellunion.proofs.Lists.{covers-nil, covers-append}
 use Rattle.ranges.specs.Ranges.{leaves, tile}
@@ -103,7 +103,7 @@ module _ (out : ℕ → ℕ → List ℕ) (has : List ℕ → ℕ → Bool) (at 
   unfolding each
   each-has zero s n m h r t = has-end s n m h (omega arith) ∙ bool-iff (between s n m) (between s (n + 0) m && f m)
       (λ u. let w = between→ s n m u in and-both _ _ (between← s (n + 0) m (w .0) (omega (arith, w .1))) (t m (w .0) (w .1)))
-      (λ u. let w = between→ s (n + 0) m (and-true (between s (n + 0) m) (f m) u .0) in between← s n m (w .0) (omega (arith, w .1)))
+      (λ u. let w = between→ s (n + 0) m (and-eq-true-iff (between s (n + 0) m) (f m) .0 u .0) in between← s n m (w .0) (omega (arith, w .1)))
   each-has (suc k) s n m h r t = ⊎-elim
       (λ (u : f n ≡ true). ap (λ (l : List ℕ). has l m) (each-yes out f s n k u)
       ∙ each-has k s (n + 1) m (omega arith) (omega arith) (λ i a b. ⊎-elim (λ (v : ltb i n ≡ true). t i a (ltb-true _ _ v)) (λ (v : ltb i n ≡ false). let q : n ≡ i = omega (arith, ltb-false i n v) in subst (λ (x : ℕ). f x ≡ true) q u) (which (ltb i n)))
@@ -121,9 +121,9 @@ module _ (out : ℕ → ℕ → List ℕ) (has : List ℕ → ℕ → Bool) (at 
       around s n e m h g t u = bool-iff (between s n m || (between (n + 1) e m && f m)) (between s e m && f m)
           (λ v. ⊎-elim
           (λ w. let r = between→ s n m w in and-both _ _ (between← s e m (r .0) (omega (arith, r .1))) (t m (r .0) (r .1)))
-          (λ w. let q = and-true (between (n + 1) e m) (f m) w in let r = between→ (n + 1) e m (q .0) in and-both _ _ (between← s e m (omega (arith, r .0)) (r .1)) (q .1))
+          (λ w. let q = and-eq-true-iff (between (n + 1) e m) (f m) .0 w in let r = between→ (n + 1) e m (q .0) in and-both _ _ (between← s e m (omega (arith, r .0)) (r .1)) (q .1))
           (or-true (between s n m) (between (n + 1) e m && f m) v))
-          (λ v. let q = and-true (between s e m) (f m) v in let r = between→ s e m (q .0) in ⊎-elim
+          (λ v. let q = and-eq-true-iff (between s e m) (f m) .0 v in let r = between→ s e m (q .0) in ⊎-elim
           (λ (w : ltb m n ≡ true). true-or (between s n m) (between (n + 1) e m && f m) (inl (between← s n m (r .0) (ltb-true _ _ w))))
           (λ (w : ltb m n ≡ false). ⊎-elim
           (λ (x : ltb n m ≡ true). true-or (between s n m) (between (n + 1) e m && f m) (inr (and-both _ _ (between← (n + 1) e m (omega (arith, ltb-true n m x)) (r .1)) (q .1))))
@@ -135,7 +135,7 @@ module _ (out : ℕ → ℕ → List ℕ) (has : List ℕ → ℕ → Bool) (at 
   pub stretches-has : ((n : ℕ) → leaves ≤ n → f n ≡ false) → (m : ℕ) → has (stretches out f) m ≡ f m
   unfolding stretches
   stretches-has z m = each-has leaves 0 0 m (omega arith) (omega arith) (λ i a b. absurd (omega arith)) ∙ bool-iff (between 0 (0 + leaves) m && f m) (f m)
-      (λ t. and-true (between 0 (0 + leaves) m) (f m) t .1)
+      (λ t. and-eq-true-iff (between 0 (0 + leaves) m) (f m) .0 t .1)
       (λ t. ⊎-elim
       (λ (u : ltb m leaves ≡ true). let h : m < leaves = ltb-true _ _ u in rw (between← 0 (0 + leaves) m (omega arith) (omega arith)) t)
       (λ (u : ltb m leaves ≡ false). clash (f m) t (z m (ltb-false _ _ u)))

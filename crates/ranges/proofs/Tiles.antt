@@ -1,7 +1,7 @@
 -- A stretch as cells: they are its leaves, in order, each the largest that fits.
 use mathlib.Core.Path.{_≡_, refl, sym, ap, ap₂, _∙_, subst}
 use mathlib.Core.Logic.{inl, inr, ⊎-elim, by-cases}
-use mathlib.Core.Bool.{Bool, true, false, _&&_, _||_}
+use mathlib.Core.Bool.{Bool, true, false, _&&_, _||_, and-eq-true-iff}
 use mathlib.Core.List.{List, [], _∷_}
 use Prim.Native.Nat.{ℕ, zero, suc, _+_, _-_, _*_, _/_, _%_, _^_, _≤_, _<_}
 use native.Mathlib.Nat.{div-add-mod', div-lt-iff-lt-mul, mod-one, mul-mod-left, mul-assoc}
@@ -12,7 +12,7 @@ use lib.Pow.{pow-pos, pow-mono, pow-add}
 use lib.Dec.{leb, ltb, eqb}
 use borrow.Author.Tests.{leb-true, le-leb, ltb-true, ltb-false, lt-ltb, le-ltb, eqb-true, eq-eqb}
 use Rattle.cellid.specs.CellId.{Cell, IsCell, idOf, bitAt, firstLeaf, lastLeaf, hasLeaf}
-use Rattle.cellid.proofs.Laws.{odd-mul, and-true, or-true, true-or, bool-iff}
+use Rattle.cellid.proofs.Laws.{odd-mul, or-true, true-or, bool-iff}
 use Rattle.order.specs.Order.{All}
 use Rattle.order.proofs.OrderLaws.{which}
 use Rattle.cellunion.specs.CellUnion.{lo, hi, covers, Member, Apart}
@@ -30,7 +30,7 @@ between s e n = leb s n && ltb n e
 
 pub between→ : (s e n : ℕ) → between s e n ≡ true → (s ≤ n) × (n < e)
 unfolding between
-between→ s e n t = let r = and-true (leb s n) (ltb n e) t in (leb-true _ _ (r .0), ltb-true _ _ (r .1))
+between→ s e n t = let r = and-eq-true-iff (leb s n) (ltb n e) .0 t in (leb-true _ _ (r .0), ltb-true _ _ (r .1))
 
 pub between← : (s e n : ℕ) → s ≤ n → n < e → between s e n ≡ true
 unfolding between
@@ -76,7 +76,7 @@ unfolding fits sizeFrom
 size-from zero s e h = record { k = 0; low = omega arith; is = refl; on = mod-one s; within = omega arith; some = omega arith }
 size-from (suc K) s e h = ⊎-elim
     (λ (t : fits (2 ^ (2 * suc K)) s e ≡ true).
-    let r = and-true (eqb (s % 2 ^ (2 * suc K)) 0) (leb (s + 2 ^ (2 * suc K)) e) t in
+    let r = and-eq-true-iff (eqb (s % 2 ^ (2 * suc K)) 0) (leb (s + 2 ^ (2 * suc K)) e) .0 t in
     subst (Sized (suc K) s e) (sym (size-go K s e t)) (record { k = suc K; low = omega arith; is = refl; on = eqb-true _ _ (r .0); within = leb-true _ _ (r .1); some = pow-pos (2 * suc K) }))
     (λ (t : fits (2 ^ (2 * suc K)) s e ≡ false).
     let w = size-from K s e h in

@@ -1,7 +1,7 @@
 -- A list's pairs one after another: one closed and the next opened, and the turns of the loop that writes them.
 use mathlib.Core.Path.{_≡_, refl, sym, ap, ap₂, _∙_, subst}
 use mathlib.Core.Logic.{⊎-elim}
-use mathlib.Core.Bool.{Bool, true, false}
+use mathlib.Core.Bool.{Bool, true, false, and-eq-true-iff}
 use mathlib.Core.List.{List, [], _∷_, _++_}
 use Prim.Native.Nat.{ℕ, _+_, _*_, _≤_, _<_}
 use native.Mathlib.Omega.{arith}
@@ -16,7 +16,7 @@ use Rattle.cellunion.proofs.Lists.{listed→}
 use lib.Dec.{eqb}
 use borrow.Author.Tests.{eqb-true, eqb-false, eq-eqb, ne-eqb}
 use Rattle.cellid.specs.CellId.{Cell, firstLeaf, lastLeaf}
-use Rattle.cellid.proofs.Laws.{and-true, cell-pos}
+use Rattle.cellid.proofs.Laws.{cell-pos}
 use Rattle.ranges.specs.Ranges.{leaves, joins, pairBefore, pairsOf}
 use Rattle.ranges.specs.Steps.{held, closed, opened, pairsLeft}
 use Rattle.ranges.proofs.Inputs.{before-joined, before-apart, before-nil, pairs-nil, pairs-more}
@@ -117,7 +117,7 @@ join-start ids out t = record {
 next-listed : (b id : ℕ) (l : List ℕ) → listFrom b (id ∷ l) ≡ true → Cell id × (b < firstLeaf id) × (listFrom (lastLeaf id) l ≡ true)
 unfolding listFrom
 next-listed b id l t =
-    let r = and-true (listed b id) (listFrom (lastLeaf id) l) t in
+    let r = and-eq-true-iff (listed b id) (listFrom (lastLeaf id) l) .0 t in
     let q = listed→ b id (r .0) in
     (q .0, q .1, r .1)
 

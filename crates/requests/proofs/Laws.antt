@@ -15,12 +15,13 @@ use Rattle.covering.specs.Covering.{Result, barred, refused, done, resultOf, an
 use Rattle.text.specs.declared.Fault.{Fault}
 use Rattle.text.specs.declared.Place.{Place}
 use Rattle.text.specs.Text.{isSilent}
+use Rattle.text.proofs.Fields.{words-fit, words-list}
 use Rattle.tokens.specs.declared.Form.{Form}
 use Rattle.replies.specs.Write.{Wrote, okText, refusedText, errorText}
 use Rattle.replies.proofs.Lengths.{wrote-whole, error-length, refused-length, ok-length}
 use Rattle.region.specs.Region.{Area, capArea, cellArea, listArea, areaOf}
 use Rattle.requests.specs.declared.line.Asked.{Asked}
-use Rattle.requests.specs.Line.{Wish, wishOf, regionOf, idsOf, wordsWith, askedPart, askedWith, ReadAsked}
+use Rattle.requests.specs.Line.{Wish, wishOf, regionOf, idsOf, askedPart, askedWith, ReadAsked}
 use Rattle.requests.specs.Requests.{allowanceOf, resultFor, resultIn, resultText, onFirst, textAt, memoryAt, outputAt, askedText, askedWords, askedMemory, askedOutput, answerText, AnsweredIn, Replied}
 
 -- ---- a part no longer than the whole
@@ -144,18 +145,16 @@ area-back (capArea c) = refl
 area-back (cellArea own) = refl
 area-back (listArea ids) = refl
 
-pub words-fit : (ids words words' : List ℕ) (count : ℕ) → count ≡ length ids → words' ≡ wordsWith ids words → count ≤ length words'
-unfolding wordsWith
-words-fit ids words words' count e d = rw (e, d) (simp length-append (omega arith))
-
 module _ (w : Wish) (q : Asked) (words words' : List ℕ) (R : ReadAsked w q words words') where
+  count-is : q .count ≡ length (idsOf (w .area))
+  count-is = ap (λ (x : Asked). x .count) (R .read)
+
   pub ids-fit : q .count ≤ length words'
-  ids-fit = words-fit (idsOf (w .area)) words words' (q .count) (ap (λ (x : Asked). x .count) (R .read)) (R .ids)
+  ids-fit = words-fit (idsOf (w .area)) words words' (q .count) count-is (R .ids)
 
   asked-back : askedWith q (take (q .count) words') ≡ w
-  unfolding wordsWith
   asked-back =
-      let ids : take (q .count) words' ≡ idsOf (w .area) = rw (R .read, R .ids) (take-append-seam (idsOf (w .area)) _) in
+      let ids : take (q .count) words' ≡ idsOf (w .area) = words-list (idsOf (w .area)) words words' (q .count) count-is (R .ids) in
       ap (λ (x : Asked). askedWith x (take (q .count) words')) (R .read) ∙ ap (λ (l : List ℕ). askedWith (askedPart w) l) ids ∙ ap (λ (a : Area). record { kind = w .kind; coverer = w .coverer; area = a; allowance = w .allowance; out = w .out; mem = w .mem; form = w .form; after = w .after }) (area-back (w .area))
 
 module _ (number : ℕ) (line words mem out page : List ℕ) where

@@ -11,7 +11,7 @@ use Rattle.text.specs.declared.Fault.{Fault}
 use Rattle.text.specs.declared.Field.{Field}
 use Rattle.text.specs.declared.Place.{Place}
 use Rattle.text.specs.declared.Read.{Read}
-use Rattle.text.specs.Text.{until, fieldAt, bytesOf, placeAmong, numberIn, numberAfter, numbersAfter, listAfter, ReadList, choiceAfter, endAfter, startOf}
+use Rattle.text.specs.Text.{until, fieldAt, bytesOf, placeAmong, numberIn, numberAfter, numbersAfter, listAfter, ReadList, choiceAfter, endAfter, startOf, wordsWith}
 use Rattle.cell.specs.declared.Cap.{Cap}
 use Rattle.region.specs.declared.Region.{Region}
 use Rattle.run.specs.Run.{memoryWords}
@@ -21,7 +21,7 @@ use Rattle.requests.specs.declared.line.Four.{Four}
 use Rattle.requests.specs.declared.line.CovererRead.{CovererRead}
 use Rattle.requests.specs.declared.line.RegionRead.{RegionRead}
 use Rattle.requests.specs.declared.line.Options.{Options}
-use Rattle.requests.specs.Line.{kinds, kindOf, fourAfter, covererAfter, capOf, AreaRead, capAfter, cellAfter, idsAfter, shapes, areaAfter, keys, mostOf, none, valueOr, formOf, badOption, optionGiven, optionOf, optionFrom, nextOption, optionsAfter, wishOf, regionOf, idsOf, wordsWith, regionPart, ReadRegion, ReadAsked}
+use Rattle.requests.specs.Line.{kinds, kindOf, fourAfter, covererAfter, capOf, AreaRead, capAfter, cellAfter, idsAfter, shapes, areaAfter, keys, mostOf, none, valueOr, formOf, badOption, optionGiven, optionOf, optionFrom, nextOption, optionsAfter, wishOf, regionOf, idsOf, regionPart, ReadRegion, ReadAsked}
 
 -- ---- the parts of a request
 
@@ -46,7 +46,7 @@ module _ (l : List ℕ) (p : Place) where
 
   pub ids-read : (most : ℕ) (n : Read) (words words' : List ℕ) → ReadList (listAfter most l p) n words words' → ReadRegion (idsAfter most l p) (record { region = Region.List; count = n .value; after = n .after }) words words'
   unfolding idsAfter regionOf idsOf wordsWith
-  ids-read most n words words' R = record { read = rw (R .count, R .place); ids = R .words }
+  ids-read most n words words' R = record { read = rw (R .count, R .place); ids = R .lent }
 
   -- a region without ids leaves the words as they are
   none-read : (n : AreaRead) (r : RegionRead) (words : List ℕ) → r ≡ regionPart n → idsOf (n .area) ≡ [] → ReadRegion n r words words

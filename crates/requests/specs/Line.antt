@@ -1,7 +1,7 @@
 -- A request of `cover` as a line: `KIND MIN MAX MOD MAX_CELLS REGION [allow=N] [out=N] [mem=N] [tokens=N]`, the options in any order.
 use mathlib.Core.Path.{_≡_}
 use mathlib.Core.Bool.{true, false}
-use mathlib.Core.List.{List, [], _∷_, _++_}
+use mathlib.Core.List.{List, [], _∷_}
 use Prim.Native.Nat.{ℕ, _+_}
 use lib.Dec.{ltb, eqb}
 use lib.Ieee.{Float, binary64, ofBits}
@@ -10,7 +10,7 @@ use Rattle.text.specs.Ascii.{ascii}
 use Rattle.text.specs.declared.Base.{Base}
 use Rattle.text.specs.declared.Fault.{Fault}
 use Rattle.text.specs.declared.Place.{Place}
-use Rattle.text.specs.Text.{until, fieldAt, bytesOf, isThere, placeAmong, numberIn, numberAfter, numbersAfter, listAfter, choiceAfter, endAfter, startOf}
+use Rattle.text.specs.Text.{until, fieldAt, bytesOf, isThere, placeAmong, numberIn, numberAfter, numbersAfter, listAfter, wordsWith, choiceAfter, endAfter, startOf}
 use Rattle.point.specs.declared.Point.{Point}
 use Rattle.cell.specs.declared.Cap.{Cap}
 use Rattle.region.specs.declared.Region.{Region}
@@ -203,10 +203,6 @@ unfoldable pub idsOf : Area → List ℕ
 idsOf (capArea c) = []
 idsOf (cellArea own) = []
 idsOf (listArea ids) = ids
-
--- the words that are lent, with ids in the first of them
-unfoldable pub wordsWith : List ℕ → List ℕ → List ℕ
-wordsWith ids words = ids ++ drop (length ids) words
 
 -- what was read, its ids aside
 abbrev pub regionPart : AreaRead → RegionRead

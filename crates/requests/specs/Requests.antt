@@ -9,10 +9,10 @@ use Rattle.covering.specs.declared.Answer.{Answer}
 use Rattle.covering.specs.Covering.{Result, resultOf, answerOf, memoryAfter, outputAfter}
 use Rattle.covering.specs.Covering as Covering
 use Rattle.text.specs.declared.Place.{Place}
-use Rattle.text.specs.Text.{isSilent}
+use Rattle.text.specs.Text.{isSilent, wordsWith}
 use Rattle.tokens.specs.declared.Form.{Form}
 use Rattle.replies.specs.Write.{Whole, refusedText, okText, errorText}
-use Rattle.requests.specs.Line.{Wish, wishOf, idsOf, wordsWith}
+use Rattle.requests.specs.Line.{Wish, wishOf, idsOf}
 
 -- a u32: no run takes more steps than that allows
 unfoldable pub allowanceOf : ℕ → ℕ

@@ -1,6 +1,6 @@
 -- What every state of a run keeps: for any additive measure of cells, the sum over results, queue and set-aside cells is that of the start cells.
 use mathlib.Core.Path.{_≡_, refl, sym, ap, _∙_, subst}
-use mathlib.Core.Bool.{Bool, true, false, _&&_, not, true≢false}
+use mathlib.Core.Bool.{Bool, true, false, _&&_, not, true≢false, and-eq-true-iff}
 use mathlib.Core.List.{List, [], _∷_, map}
 use Prim.Native.Nat.{ℕ, zero, suc, _+_, _-_, _*_, _%_, _≤_, _<_}
 use native.Mathlib.Nat.{add-mod-right, zero-mod, zero-add}
@@ -9,7 +9,7 @@ use lib.Dec.{leb, ltb, eqb}
 use lib.ListN.{length}
 use borrow.Author.Tests.{ltb-true, ltb-false, leb-true, not-true}
 use Rattle.cellid.specs.CellId.{IsCell, childOf, levelOf, placeOf}
-use Rattle.cellid.proofs.Laws.{level-cell, and-true, or-false}
+use Rattle.cellid.proofs.Laws.{level-cell, or-false}
 use Rattle.cellid.proofs.Leaves.{child-cell}
 use Rattle.order.specs.Order.{All}
 use Rattle.run.specs.Run.{Child, Expansion, Grown, Look, State, add, addAll, after, depth, divide, ending, enqueue, expand, fails, fourOf, full, isHandedOn, isEmpty, isFull, join, keep, lifts, look, none, nothing, placed, reached, setAside, startAll, startAs, step, stepOn, stepWith, sumOf, terminal, expansionOf, Task, minLevel, maxLevel, levelMod, maxCells, queueMost, rawMost, part, _by_, failing}
@@ -212,8 +212,8 @@ module _ (T : Task) (D : Domain (T .asked)) (lt : Grown → Grown → Bool) (F :
       aside-ok N w (c .from) (e .failed) s (x .failed) (less-ok N (weight c + w) _ s (rel-add (T .asked .inner) _ _ _ _ r (rel-refl (T .asked .inner) w)) I))
       (λ t. if-ok (Holds (Inv N w)) (lifts T (c .id)) _ _
       (λ u.
-      let a = and-true (not (T .asked .inner)) (leb (minLevel (T .asked)) (levelOf (c .id)) && eqb (ending (e .children)) (full (T .asked))) u in
-      let b = and-true (leb (minLevel (T .asked)) (levelOf (c .id))) (eqb (ending (e .children)) (full (T .asked))) (a .1) in
+      let a = and-eq-true-iff (not (T .asked .inner)) (leb (minLevel (T .asked)) (levelOf (c .id)) && eqb (ending (e .children)) (full (T .asked))) .0 u in
+      let b = and-eq-true-iff (leb (minLevel (T .asked)) (levelOf (c .id))) (eqb (ending (e .children)) (full (T .asked))) .0 (a .1) in
       keep-ok N w c s (kept-parent (c .id) Q (not-true (T .asked .inner) (a .0)) (leb-true _ _ (b .0))) I)
       (λ u. enqueue-ok N w c s Q I))
 
@@ -224,7 +224,7 @@ module _ (T : Task) (D : Domain (T .asked)) (lt : Grown → Grown → Bool) (F :
 
   pub full-inner : (s : State) → isFull (T .asked) s ≡ true → T .asked .inner ≡ true
   unfolding isFull
-  full-inner s t = and-true (T .asked .inner) (leb (maxCells (T .asked)) (length (s .raw))) t .0
+  full-inner s t = and-eq-true-iff (T .asked .inner) (leb (maxCells (T .asked)) (length (s .raw))) .0 t .0
 
   addAll-ok : (N w i : ℕ) (l : List Child) (s : State) → All (ChildOk T) l → Inv N (sumOf (λ (k : Child). F i (k .id)) l + w) s
       → Holds (Inv N w) (addAll (T by lt) i l s)

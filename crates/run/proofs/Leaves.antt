@@ -1,6 +1,6 @@
 -- Leaves: the leaf count and "the leaf n lies under" are additive measures of cells; cells that share no leaf don't overlap.
 use mathlib.Core.Path.{_≡_, refl, sym, ap, _∙_}
-use mathlib.Core.Bool.{Bool, true, false, _&&_, true≢false}
+use mathlib.Core.Bool.{Bool, true, false, _&&_, true≢false, and-eq-true-iff}
 use mathlib.Core.Logic.{⊎-elim}
 use mathlib.Core.List.{List, [], _∷_}
 use Prim.Native.Nat.{ℕ, zero, suc, _+_, _-_, _*_, _/_, _%_, _≤_, _<_}
@@ -10,7 +10,7 @@ use lib.Dec.{eqb}
 use lib.Pow.{pow-pos}
 use borrow.Author.Tests.{eqb-true, eq-eqb}
 use Rattle.cellid.specs.CellId.{Cell, IsCell, idOf, childOf, levelOf, leavesOf, meets, hasLeaf, bitAt, parentAt, one}
-use Rattle.cellid.proofs.Laws.{level-cell, and-true, bool-iff, bit-up, no-true, odd-mul}
+use Rattle.cellid.proofs.Laws.{level-cell, bool-iff, bit-up, no-true, odd-mul}
 use Rattle.cellid.proofs.Leaves.{has-leaf-is, has-leaf→, child-cell, intersects-leaves}
 use Rattle.order.specs.Order.{All}
 use Rattle.order.proofs.OrderLaws.{which}
@@ -40,7 +40,7 @@ digit z p j h = bool-iff _ _
     let d : z / 4 ≡ p = omega arith in
     rw (eq-eqb (z % 4) j m, eq-eqb (z / 4) p d))
     (λ t.
-    let r = and-true (eqb (z % 4) j) (eqb (z / 4) p) t in
+    let r = and-eq-true-iff (eqb (z % 4) j) (eqb (z / 4) p) .0 t in
     let m : z % 4 ≡ j = eqb-true _ _ (r .0) in
     let d : z / 4 ≡ p = eqb-true _ _ (r .1) in
     eq-eqb z (4 * p + j) (omega arith))

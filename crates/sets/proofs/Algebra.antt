@@ -1,13 +1,13 @@
 -- The laws of specs/Algebra: a made list has the leaves that its table says, so two ways with the same table make the same list.
 use mathlib.Core.Path.{_≡_, refl, sym, ap₂, _∙_}
 use mathlib.Core.Logic.{⊎-elim}
-use mathlib.Core.Bool.{Bool, true, false, Bool·beq}
+use mathlib.Core.Bool.{Bool, true, false, Bool·beq, and-eq-true-iff}
 use mathlib.Core.List.{List, [], _∷_}
 use Prim.Native.Nat.{ℕ, _≤_, _<_}
 use lib.Dec.{ltb}
 use borrow.Author.Tests.{ltb-true, ltb-false}
 use Rattle.cellid.specs.CellId.{Cell}
-use Rattle.cellid.proofs.Laws.{and-true, same-bool}
+use Rattle.cellid.proofs.Laws.{same-bool}
 use Rattle.order.specs.Order.{All, sort}
 use Rattle.order.proofs.OrderLaws.{which}
 use Rattle.cellunion.specs.CellUnion.{covers, pass, rev, normalise}
@@ -23,15 +23,15 @@ use Rattle.sets.proofs.Laws.{set-leaves, set-normal}
 
 agree-at : (s t : Made) (x y z : Bool) → agree s t x y ≡ true → test s x y z ≡ test t x y z
 unfolding agree
-agree-at s t x y true h = same-bool _ _ (and-true _ (Bool·beq (test s x y false) (test t x y false)) h .0)
-agree-at s t x y false h = same-bool _ _ (and-true (Bool·beq (test s x y true) (test t x y true)) _ h .1)
+agree-at s t x y true h = same-bool _ _ (and-eq-true-iff _ (Bool·beq (test s x y false) (test t x y false)) .0 h .0)
+agree-at s t x y false h = same-bool _ _ (and-eq-true-iff (Bool·beq (test s x y true) (test t x y true)) _ .0 h .1)
 
 alike-at : (s t : Made) (x y z : Bool) → alike s t ≡ true → test s x y z ≡ test t x y z
 unfolding alike
 alike-at s t x y z h =
-    let p = and-true (agree s t true true) _ h in
-    let q = and-true (agree s t true false) _ (p .1) in
-    let r = and-true (agree s t false true) (agree s t false false) (q .1) in
+    let p = and-eq-true-iff (agree s t true true) _ .0 h in
+    let q = and-eq-true-iff (agree s t true false) _ .0 (p .1) in
+    let r = and-eq-true-iff (agree s t false true) (agree s t false false) .0 (q .1) in
     at x y (p .0) (q .0) (r .0) (r .1)
   where
     at : (x y : Bool) → agree s t true true ≡ true → agree s t true false ≡ true → agree s t false true ≡ true → agree s t false false ≡ true → test s x y z ≡ test t x y z
@@ -90,7 +90,7 @@ laws-alike = refl
 rows-same : (a b c : List ℕ) → All Cell a → All Cell b → All Cell c → (l : List (Made × Made)) → allAlike l ≡ true → All (λ (r : Made × Made). normalise (madeList a b c (r .0)) ≡ normalise (madeList a b c (r .1))) l
 unfolding All allAlike
 rows-same a b c A B C [] h = tt
-rows-same a b c A B C (r ∷ l) h = let q = and-true (alike (r .0) (r .1)) (allAlike l) h in (made-same a b c A B C (r .0) (r .1) (q .0), rows-same a b c A B C l (q .1))
+rows-same a b c A B C (r ∷ l) h = let q = and-eq-true-iff (alike (r .0) (r .1)) (allAlike l) .0 h in (made-same a b c A B C (r .0) (r .1) (q .0), rows-same a b c A B C l (q .1))
 
 pub laws-hold : (a b c : List ℕ) → All Cell a → All Cell b → All Cell c → All (λ (r : Made × Made). normalise (madeList a b c (r .0)) ≡ normalise (madeList a b c (r .1))) laws
 laws-hold a b c A B C = rows-same a b c A B C laws laws-alike

@@ -1,12 +1,11 @@
 -- Request j in the paper's words: the answer's leaves, that it is normal, the only such list and the shortest; and how many leaves two lists share.
 use mathlib.Core.Path.{_≡_, refl, sym, ap, ap₂, _∙_}
-use mathlib.Core.Bool.{Bool, true, false, _&&_, _||_, not}
+use mathlib.Core.Bool.{Bool, true, false, _&&_, _||_, not, and-eq-true-iff}
 use mathlib.Core.List.{List, _++_}
 use Prim.Native.Nat.{ℕ, _+_, _≤_}
 use native.Mathlib.Omega.{arith}
 use lib.ListN.{length}
 use Rattle.cellid.specs.CellId.{Cell}
-use Rattle.cellid.proofs.Laws.{and-true}
 use Rattle.order.specs.Order.{All}
 use Rattle.order.proofs.OrderLaws.{all-append}
 use Rattle.cellunion.specs.CellUnion.{covers, Apart, Normal, normalise, countTo, leafSum}
@@ -100,7 +99,7 @@ never-less true false t u = clash true refl (sym u)
 never-less false y t u = clash true refl (sym t)
 
 never-both : (x y : Bool) → (x && not y) ≡ true → (x && y) ≡ true → ⊥
-never-both x y t u = never-less x y t (and-true x y u .1)
+never-both x y t u = never-less x y t (and-eq-true-iff x y .0 u .1)
 
 -- ---- how many leaves: what two lists share is counted once in their union
 

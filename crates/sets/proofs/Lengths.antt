@@ -1,19 +1,18 @@
 -- How long an answer gets: a union and a common part are no longer than both lists together.
 use mathlib.Core.Path.{_≡_, sym, ap, _∙_}
 use mathlib.Core.Logic.{inl, inr}
-use mathlib.Core.Bool.{true}
+use mathlib.Core.Bool.{true, and-eq-true-iff}
 use mathlib.Core.List.{List, _++_}
 use Prim.Native.Nat.{ℕ, _+_, _≤_, _<_}
 use native.Mathlib.Omega.{arith}
 use lib.ListN.{length, length-append}
 use Rattle.cellid.specs.CellId.{Cell}
-use Rattle.cellid.proofs.Laws.{and-true}
 use Rattle.order.specs.Order.{All}
 use Rattle.order.proofs.OrderLaws.{all-append}
 use Rattle.cellunion.specs.CellUnion.{lo, hi, covers, Member}
 use Rattle.cellunion.proofs.Spans.{span, In, Nest, left, right, inside, around, nest}
 use Rattle.cellunion.proofs.Unique.{all-at, covers→, covers←, full, apart-one}
-use Rattle.cellunion.proofs.Denorm.{member-append←}
+use Rattle.cellunion.proofs.Unique.{member-append←}
 use Rattle.cellunion.proofs.Short.{held-short}
 use Rattle.cellunion.proofs.Lists.{covers-append}
 use Rattle.ranges.proofs.Tiles.{and-both}
@@ -72,7 +71,7 @@ module _ (a b : List ℕ) (A : All Cell a) (B : All Cell b) where
         held-short S (a ++ b) (N .cells) (N .apart) (λ y m.
             let Y = all-at Cell S (N .cells) y m in
             let s = span Y in
-            let t = and-true (covers a (lo y)) (covers b (lo y)) (sym (common-leaves a b A B (lo y)) ∙ covers← S (lo y) (N .cells) (y, m, omega arith, omega arith)) in
+            let t = and-eq-true-iff (covers a (lo y)) (covers b (lo y)) .0 (sym (common-leaves a b A B (lo y)) ∙ covers← S (lo y) (N .cells) (y, m, omega arith, omega arith)) in
             let x = covers→ a (lo y) A (t .0) in
             let z = covers→ b (lo y) B (t .1) in
             let X = all-at Cell a A (x .0) (x .1) in

@@ -1,6 +1,6 @@
 -- Laws of `specs/Text.antt`: loops over bytes, words and numbers, one after another, and what a field comes to, there or not.
 use mathlib.Core.Path.{_≡_, refl, sym, ap, _∙_}
-use mathlib.Core.Bool.{Bool, true, false, not, cond, _&&_, and-assoc, true≢false}
+use mathlib.Core.Bool.{Bool, true, false, not, cond, _&&_, and-assoc, and-eq-true-iff}
 use mathlib.Core.List.{List, [], _∷_, _++_, append-assoc, append-nil}
 use Prim.Native.Nat.{ℕ, zero, suc, _+_, _-_, _*_, _^_, _≤_, _<_}
 use native.Mathlib.Omega.{arith}
@@ -9,15 +9,15 @@ use native.Mathlib.Decide.{decLt, ℕ-discrete}
 use mathlib.Core.Logic.{by-cases}
 use native.Mathlib.Nat.{add-zero, zero-add, sub-zero, suc-mul, mul-le-mul, pow-suc, pow-le-pow-right, lt-of-lt-of-le}
 use lib.Dec.{leb, ltb, eqb}
-use lib.ListN.{length, getD, take, drop, set, drop-of-length-le, length-set, length-drop}
-use lib.Seq.{drop-cons, getD-drop, take-suc, take-suc-set, take-all, length-take-le}
+use lib.ListN.{length, getD, take, drop, set, drop-of-length-le, length-append, length-set, length-drop}
+use lib.Seq.{drop-cons, getD-drop, take-suc, take-suc-set, take-all, take-append-seam, drop-append-seam, length-take-le}
 use borrow.Author.Tests.{ltb-true, lt-ltb, le-ltb, le-leb, lt-leb, eq-eqb, ne-eqb}
 use Rattle.text.specs.declared.Base.{Base}
 use Rattle.text.specs.declared.Fault.{Fault}
 use Rattle.text.specs.declared.Field.{Field}
 use Rattle.text.specs.declared.Place.{Place}
 use Rattle.text.specs.declared.Read.{Read}
-use Rattle.text.specs.Text.{digitOf, allDigits, valueFrom, isBlank, leading, Spells, Stopped, fieldAs, isThere, until, startAt, fieldAt, fieldNo, bytesOf, same, placeAmong, faulty, limited, numberAs, numberIn, numberAfter, numbersAfter, listAfter, ReadList, chosen, choiceAfter, endAfter, isPlain, allPlain, isSilent}
+use Rattle.text.specs.Text.{digitOf, allDigits, valueFrom, isBlank, leading, Spells, Stopped, fieldAs, isThere, until, startAt, fieldAt, fieldNo, bytesOf, same, placeAmong, faulty, limited, numberAs, numberIn, numberAfter, numbersAfter, listAfter, wordsWith, ReadList, chosen, choiceAfter, endAfter, isPlain, allPlain, isSilent}
 use Rattle.text.proofs.Laws.{leading-end, leading-go, limited-over, limited-in}
 
 -- ---- bytes
@@ -190,16 +190,12 @@ module _ (base : ℕ) (l : List ℕ) (from to n d : ℕ) (small : base ≤ 16) (
 
 -- ---- digits that are read to their end: there is one such end
 
-both : (a b : Bool) → (a && b) ≡ true → (a ≡ true) × (b ≡ true)
-both true b e = (refl, e)
-both false b e = absurd (true≢false (sym e))
-
 digit-at : (base : ℕ) (l : List ℕ) (m k : ℕ) → k < m → k < length l → allDigits base (take m l) ≡ true → digitOf (getD l k 0) < base
 unfolding allDigits
 digit-at base [] m k h g t = absurd (omega arith)
 digit-at base (b ∷ l) zero k h g t = absurd (omega arith)
-digit-at base (b ∷ l) (suc m) zero h g t = ltb-true _ _ (both (ltb (digitOf b) base) (allDigits base (take m l)) t .0)
-digit-at base (b ∷ l) (suc m) (suc k) h g t = digit-at base l m k (omega arith) (omega arith) (both (ltb (digitOf b) base) (allDigits base (take m l)) t .1)
+digit-at base (b ∷ l) (suc m) zero h g t = ltb-true _ _ (and-eq-true-iff (ltb (digitOf b) base) (allDigits base (take m l)) .0 t .0)
+digit-at base (b ∷ l) (suc m) (suc k) h g t = digit-at base l m k (omega arith) (omega arith) (and-eq-true-iff (ltb (digitOf b) base) (allDigits base (take m l)) .0 t .1)
 
 module _ (base : ℕ) (l : List ℕ) (from : ℕ) where
   not-before : (to n to′ n′ : ℕ) → Spells base l from to n → Stopped base l from to → Spells base l from to′ n′ → to < to′ → ⊥
@@ -374,11 +370,25 @@ module _ (l : List ℕ) (p : Place) (m : List ℕ) (n : Read) (e : n ≡ numberA
 
   pub list-read : (part : List ℕ) (after : Place) → (after ≡ numbersAfter Base.Sixteen (length (take (n .value) m)) l (n .after) .after) × (part ≡ numbersAfter Base.Sixteen (length (take (n .value) m)) l (n .after) .values)
       → ReadList (listAfter (length m) l p) (record { value = n .value; after = after }) m (part ++ drop (n .value) m)
-  unfolding listAfter
+  unfolding listAfter wordsWith
   list-read part after = rw (length-take-le (n .value) m list-fits) (λ h.
       let w : numbersAfter Base.Sixteen (n .value) l (n .after) ≡ listAfter (length m) l p = rw e in
       let k : length (listAfter (length m) l p .values) ≡ n .value = rw (← w) (numbers-length Base.Sixteen (n .value) l (n .after)) in
-      record { count = sym k; place = rw (← w) (h .0); words = rw (k, ← w, h .1) })
+      record { count = sym k; place = rw (← w) (h .0); lent = rw (k, ← w, h .1) })
+
+-- words with a list in the first of them
+module _ (l words words' : List ℕ) (n : ℕ) (e : n ≡ length l) (d : words' ≡ wordsWith l words) where
+  pub words-fit : n ≤ length words'
+  unfolding wordsWith
+  words-fit = rw (e, d) (simp length-append (omega arith))
+
+  pub words-list : take n words' ≡ l
+  unfolding wordsWith
+  words-list = rw (e, d) (take-append-seam l _)
+
+  pub words-rest : drop n words' ≡ drop (length l) words
+  unfolding wordsWith
+  words-rest = rw (e, d) (drop-append-seam l _)
 
 -- ---- a line that asks nothing
 

@@ -158,11 +158,15 @@ numbersAfter base (suc n) l p =
 unfoldable pub listAfter : ℕ → List ℕ → Place → Numbers
 listAfter most l p = let count = numberAfter Base.Ten most l p in numbersAfter Base.Sixteen (count .value) l (count .after)
 
--- the first words of a memory m are a list that was read, the others stay
-pub record ReadList (n : Numbers) (r : Read) (m m' : List ℕ) : Type 0 where
+-- the words that are lent, with a list in the first of them
+unfoldable pub wordsWith : List ℕ → List ℕ → List ℕ
+wordsWith l words = l ++ drop (length l) words
+
+-- a list was read into the words that are lent
+pub record ReadList (n : Numbers) (r : Read) (words words' : List ℕ) : Type 0 where
   pub count : r .value ≡ length (n .values)
   pub place : r .after ≡ n .after
-  pub words : m' ≡ n .values ++ drop (length (n .values)) m
+  pub lent : words' ≡ wordsWith (n .values) words
 
 -- which of the first so many words the next field is; a fault where it is none of them
 unfoldable pub chosen : ℕ → Fault → ℕ → ℕ → Read

@@ -1,6 +1,6 @@
 -- Hexadecimal digits: of a number, and back; behind them zeros, which a trim takes away.
 use mathlib.Core.Path.{_≡_, refl, sym, ap, _∙_}
-use mathlib.Core.Bool.{true}
+use mathlib.Core.Bool.{true, and-eq-true-iff}
 use mathlib.Core.List.{List, [], _∷_, _++_, append-assoc, append-nil}
 use mathlib.Core.Logic.{by-cases}
 use Prim.Native.Nat.{ℕ, zero, suc, _+_, _-_, _*_, _/_, _%_, _^_, _≤_, _<_}
@@ -14,7 +14,6 @@ use borrow.Author.Tests.{lt-ltb, le-ltb, le-leb, lt-leb, ltb-true, eq-eqb, ne-eq
 use Rattle.io.specs.Digits.{digits, glyph}
 use Rattle.text.specs.Text.{digitOf, allDigits, valueFrom}
 use Rattle.text.proofs.Fields.{digits-then, value-then}
-use Rattle.cellid.proofs.Laws.{and-true}
 use Rattle.cellid.proofs.Puts.{sets-append}
 use Rattle.tokens.specs.Tokens.{digitBefore, trim}
 
@@ -92,7 +91,7 @@ digits-from : (t : List ℕ) (k m : ℕ) → allDigits 16 t ≡ true → digits 
 unfolding allDigits valueFrom
 digits-from [] k m h = rw (add-zero, append-nil)
 digits-from (b ∷ t) k m h =
-    let a = and-true _ (allDigits 16 t) h in
+    let a = and-eq-true-iff _ (allDigits 16 t) .0 h in
     let d : digitOf b < 16 = ltb-true _ _ (a .0) in
     let e : k + suc (length t) ≡ suc k + length t = omega arith in
     ap (λ (n : ℕ). digits 16 n (valueFrom 16 (m * 16 + digitOf b) t)) e

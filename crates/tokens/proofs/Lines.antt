@@ -1,6 +1,6 @@
 -- Lines of a text, from a place on: what the digits that stand there, and what follows them, make of the first line.
 use mathlib.Core.Path.{_≡_, refl, sym, ap, _∙_}
-use mathlib.Core.Bool.{Bool, true, false}
+use mathlib.Core.Bool.{Bool, true, false, and-eq-true-iff}
 use mathlib.Core.List.{List, [], _∷_, _++_, append-assoc, append-nil}
 use Prim.Native.Nat.{ℕ, suc, _+_, _-_, _≤_, _<_}
 use native.Mathlib.Omega.{arith}
@@ -12,7 +12,7 @@ use lib.Seq.{drop-drop, length-take-le}
 use borrow.Author.Tests.{eq-eqb, ne-eqb, ltb-true}
 use Rattle.text.specs.Text.{digitOf, allDigits, Spells, Stopped}
 use Rattle.text.proofs.Fields.{digits-then}
-use Rattle.cellid.proofs.Laws.{and-true, no-true}
+use Rattle.cellid.proofs.Laws.{no-true}
 use Rattle.cellid.proofs.Puts.{next-of}
 use Rattle.tokens.specs.declared.Form.{Form}
 use Rattle.tokens.specs.declared.Line.{Line}
@@ -28,7 +28,7 @@ module _ (form : Form) where
   unfolding allDigits idsFrom
   past-digits [] s u h = rw append-nil
   past-digits (b ∷ t) s u h =
-      let a = and-true _ (allDigits 16 t) h in
+      let a = and-eq-true-iff _ (allDigits 16 t) .0 h in
       rw (idsFrom, ne-eqb b 10 (digit-line b (ltb-true _ _ (a .0)))) (past-digits t (s ++ (b ∷ [])) u (a .1) ∙ ap (λ (x : List ℕ). idsFrom form x u) (append-assoc s (b ∷ []) t))
 
   pub first-line : (t r : List ℕ) → allDigits 16 t ≡ true → idsOf form (t ++ (10 ∷ r)) ≡ named form t ∷ idsOf form r
@@ -105,7 +105,7 @@ module _ (form : Form) where
     no-name stop h u y =
         let n = is-name form _ y in
         let k : length name + suc (length u) ≤ 16 = rw (append-assoc name (getD text end 0 ∷ []) u, length-append name (getD text end 0 ∷ u)) at (n .few) in
-        let d : digitOf (getD text end 0) < 16 = ltb-true _ _ (and-true _ (allDigits 16 u) (and-true (allDigits 16 name) _ (rw (append-assoc name (getD text end 0 ∷ []) u, digits-then 16 name (getD text end 0 ∷ u)) at (n .digits)) .1) .0) in
+        let d : digitOf (getD text end 0) < 16 = ltb-true _ _ (and-eq-true-iff _ (allDigits 16 u) .0 (and-eq-true-iff (allDigits 16 name) _ .0 (rw (append-assoc name (getD text end 0 ∷ []) u, digits-then 16 name (getD text end 0 ∷ u)) at (n .digits)) .1) .0) in
         by-cases (decLt end (at + 16)) (λ l. omega (arith, stop h l)) (λ l. omega (arith, name-length, S .order))
 
     pub line-other : (r : Line) → Stopped 16 text at end → end < length text → (getD text end 0 ≡ 10 → ⊥) → r .id ≡ 0 → FirstLine form text at r

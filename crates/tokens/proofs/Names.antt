@@ -1,6 +1,6 @@
 -- An id's name, as the code spells it; a name is that of its number, and a number that of its name.
 use mathlib.Core.Path.{_≡_, refl, sym, ap, ap₂, _∙_}
-use mathlib.Core.Bool.{Bool, true, false, not}
+use mathlib.Core.Bool.{Bool, true, false, not, and-eq-true-iff}
 use mathlib.Core.List.{List, [], _∷_, _++_}
 use mathlib.Core.Logic.{by-cases, ⊎-elim}
 use Prim.Native.Nat.{ℕ, zero, suc, _+_, _-_, _*_, _/_, _%_, _^_, _≤_, _<_}
@@ -17,7 +17,7 @@ use Rattle.io.specs.Digits.{digits, glyph}
 use Rattle.text.specs.Text.{digitOf, allDigits, valueFrom}
 use Rattle.text.proofs.Fields.{digits-then, value-then}
 use Rattle.cellid.specs.CellId.{validId}
-use Rattle.cellid.proofs.Laws.{and-true, odd-part, zeros-of, valid-fits}
+use Rattle.cellid.proofs.Laws.{odd-part, zeros-of, valid-fits}
 use Rattle.tokens.specs.declared.Form.{Form}
 use Rattle.tokens.specs.Tokens.{hexText, digitBefore, trim, tokenOf, nameOf, isName, valueOf, named}
 use Rattle.tokens.specs.Steps.{ofDigits}
@@ -118,7 +118,7 @@ unfolding valueFrom allDigits
 last-mod t p h =
     let k : suc (length t - 1) ≡ length t = omega arith in
     let s : t ≡ take (length t - 1) t ++ (getD t (length t - 1) 0 ∷ []) = sym (take-all (suc (length t - 1)) t (omega arith)) ∙ take-suc t (length t - 1) 0 (omega arith) in
-    let d : digitOf (getD t (length t - 1) 0) < 16 = ltb-true _ _ (and-true _ true (and-true (allDigits 16 (take (length t - 1) t)) _ (sym (digits-then 16 (take (length t - 1) t) (getD t (length t - 1) 0 ∷ [])) ∙ ap (allDigits 16) (sym s) ∙ h) .1) .0) in
+    let d : digitOf (getD t (length t - 1) 0) < 16 = ltb-true _ _ (and-eq-true-iff _ true .0 (and-eq-true-iff (allDigits 16 (take (length t - 1) t)) _ .0 (sym (digits-then 16 (take (length t - 1) t) (getD t (length t - 1) 0 ∷ [])) ∙ ap (allDigits 16) (sym s) ∙ h) .1) .0) in
     let v : valueFrom 16 0 t ≡ valueFrom 16 0 (take (length t - 1) t) * 16 + digitOf (getD t (length t - 1) 0) = ap (valueFrom 16 0) s ∙ value-then 16 0 (take (length t - 1) t) _ in
     (omega (arith, v), d)
 
@@ -207,22 +207,22 @@ pub record IsName (form : Form) (t : List ℕ) : Type 0 where
 pub is-name : (form : Form) (t : List ℕ) → isName form t ≡ true → IsName form t
 unfolding isName
 is-name Form.Digits t h =
-    let a = and-true (eqb (length t) 16) _ h in
+    let a = and-eq-true-iff (eqb (length t) 16) _ .0 h in
     record { few = omega (arith, eqb-true (length t) 16 (a .0)); digits = a .1 }
 is-name Form.Token t h =
-    let a = and-true (leb (length t) 16) _ (and-true (leb 1 (length t)) _ h .1) in
-    record { few = leb-true _ _ (a .0); digits = and-true (allDigits 16 t) _ (a .1) .0 }
+    let a = and-eq-true-iff (leb (length t) 16) _ .0 (and-eq-true-iff (leb 1 (length t)) _ .0 h .1) in
+    record { few = leb-true _ _ (a .0); digits = and-eq-true-iff (allDigits 16 t) _ .0 (a .1) .0 }
 
 pub name-named : (form : Form) (t : List ℕ) → isName form t ≡ true → nameOf form (valueOf t) ≡ t
 unfolding nameOf valueOf hexText tokenOf isName
 name-named Form.Digits t h =
-    let a = and-true (eqb (length t) 16) _ h in
+    let a = and-eq-true-iff (eqb (length t) 16) _ .0 h in
     let k : length t ≡ 16 = eqb-true _ _ (a .0) in
     rw (k, mul-one) (ap (λ (n : ℕ). digits 16 n (valueFrom 16 0 t)) (sym k) ∙ digits-value t (a .1))
 name-named Form.Token t h =
-    let a = and-true (leb 1 (length t)) _ h in
-    let b = and-true (leb (length t) 16) _ (a .1) in
-    let c = and-true (allDigits 16 t) _ (b .1) in
+    let a = and-eq-true-iff (leb 1 (length t)) _ .0 h in
+    let b = and-eq-true-iff (leb (length t) 16) _ .0 (a .1) in
+    let c = and-eq-true-iff (allDigits 16 t) _ .0 (b .1) in
     let s : 1 ≤ length t = leb-true _ _ (a .0) in
     let f : length t ≤ 16 = leb-true _ _ (b .0) in
     let n : length t + (16 - length t) ≡ 16 = omega arith in

@@ -1,8 +1,8 @@
 -- `neighbors::vertex_neighbors` meets its contract.
+use mathlib.Core.Bool.{and-eq-true-iff}
 use borrow.Author.Needs.{needs}
 use Prim.Native.Nat.{_^_, _<_}
 use native.Mathlib.Omega.{arith}
-use Rattle.cellid.proofs.Laws.{and-true}
 use Rattle.hilbert.specs.declared.FaceIj.{FaceIj}
 use Rattle.hilbert.proofs.Laws.{face-ij-in}
 use Rattle.neighbors.specs.Neighbors.{vertexNeighbors}
@@ -72,7 +72,7 @@ from-face-ij-same-requires-3 c κs =
     let d = c .before .before .before .before .before .before .before .before .before .before .before .before in
     let a = along-i (d .before) in
     let b = along-j d in
-    (known (d .before .before) .face, ((a .past, b .past), λ e. let s = and-true _ _ e in (a .on (s .0) .0, a .on (s .0) .1, b .on (s .1) .0, b .on (s .1) .1)))
+    (known (d .before .before) .face, ((a .past, b .past), λ e. let s = and-eq-true-iff _ _ .0 e in (a .on (s .0) .0, a .on (s .0) .1, b .on (s .1) .0, b .on (s .1) .1)))
 
 parent-requires-4 : tie.Need-parent-requires-4
 parent-requires-4 c κs = search needs

@@ -2,7 +2,7 @@
 use mathlib.Core.Path.{sym, ap}
 use lib.Seq.{length-take-le}
 use Rattle.requests.specs.declared.line.RegionRead.{RegionRead}
-use Rattle.requests.proofs.Laws.{words-fit}
+use Rattle.text.proofs.Fields.{words-fit}
 use borrow.Author.Needs.{needs}
 use Rattle.probe.proofs.ask_region.Statement.{statement}
 use Rattle.probe.proofs.ask_region.Tie as tie

@@ -1,6 +1,6 @@
--- `coverer::is_full` meets its contract.
-use Rattle.coverer.proofs.is_full.Statement.{statement}
-use Rattle.coverer.proofs.is_full.Tie as tie
+-- `decide::is_full` meets its contract.
+use Rattle.decide.proofs.is_full.Statement.{statement}
+use Rattle.decide.proofs.is_full.Tie as tie
 
 returns : tie.Need-returns
 returns c = rw (c .before .if1 .taken)

@@ -1,8 +1,8 @@
 use native.Mathlib.Omega.{arith}
-use Rattle.cellunion.proofs.Writes.{goal-fits, goal-over, goal-is}
+use Rattle.denorm.proofs.Writes.{goal-fits, goal-over, goal-is}
 use borrow.Author.Needs.{needs}
-use Rattle.cellunion.proofs.goal_level.Statement.{statement}
-use Rattle.cellunion.proofs.goal_level.Tie as tie
+use Rattle.denorm.proofs.goal_level.Statement.{statement}
+use Rattle.denorm.proofs.goal_level.Tie as tie
 
 larger-requires : tie.Need-larger-requires
 larger-requires c κs = search needs

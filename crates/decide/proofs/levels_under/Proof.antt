@@ -1,13 +1,12 @@
--- `coverer::levels_under` meets its contract.
+-- `decide::levels_under` meets its contract.
 use Prim.Native.Nat.{_≤_, _<_}
 use Rattle.cellid.specs.CellId.{levelOf}
 use Rattle.run.specs.Run.{depth}
 use borrow.Author.Needs.{needs}
 use borrow.Author.Tests.{lt-ltb, le-ltb}
-use borrow.Author.Tests.{lt-ltb, le-ltb}
 use native.Mathlib.Omega.{arith}
-use Rattle.coverer.proofs.levels_under.Statement.{statement}
-use Rattle.coverer.proofs.levels_under.Tie as tie
+use Rattle.decide.proofs.levels_under.Statement.{statement}
+use Rattle.decide.proofs.levels_under.Tie as tie
 
 level-requires : tie.Need-level-requires
 level-requires c κs = search needs

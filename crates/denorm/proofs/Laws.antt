@@ -1,6 +1,6 @@
 -- `denormalise`: the same leaves, ascending, the count, and the levels.
 use mathlib.Core.Path.{_≡_, refl, sym, ap, ap₂, _∙_, subst}
-use mathlib.Core.Logic.{_⊎_, inl, inr, ⊎-elim}
+use mathlib.Core.Logic.{inl, inr, ⊎-elim}
 use mathlib.Core.Bool.{true, false}
 use mathlib.Core.List.{List, [], _∷_, _++_}
 use Prim.Native.Nat.{ℕ, zero, suc, _+_, _-_, _*_, _/_, _%_, _^_, _≤_, _<_, min, max}
@@ -12,13 +12,14 @@ use lib.ListN.{length, length-append}
 use borrow.Author.Tests.{ltb-true, ltb-false}
 use Rattle.cellid.specs.CellId.{Cell, IsCell, idOf, bitAt, placeAt, levelOf, placeOf, firstLeaf, lastLeaf}
 use Rattle.cellid.proofs.Laws.{bit-up, level-id, place-id, level-cell, is-cell}
-use Rattle.cellunion.specs.CellUnion.{lo, hi, SameLeaves, Member, Apart, Normal, normalise, goal, cellsFrom, below, denormalise, countOf, OnStep}
+use Rattle.cellunion.specs.CellUnion.{lo, hi, SameLeaves, Member, Apart, normalise}
+use Rattle.denorm.specs.Denorm.{goal, cellsFrom, below, denormalise, countOf, OnStep}
 use Rattle.order.specs.Order.{All}
 use Rattle.order.proofs.OrderLaws.{which}
 use Rattle.cellunion.proofs.Spans.{lo-is, hi-is, span, In, in-level}
-use Rattle.cellunion.proofs.Unique.{all-at, at-all, Covered, covers→, covers←, same-held, apart-one}
+use Rattle.cellunion.proofs.Unique.{all-at, at-all, Covered, member-append→, member-append←, apart-append, raw-in}
 use Rattle.cellunion.proofs.Stack.{Cov}
 use Rattle.cellunion.proofs.Norm.{same-covered, normalise-normal, normalise-leaves}
 
 pub length-cells : (L n p : ℕ) → length (cellsFrom L p n) ≡ n
 unfolding cellsFrom
@@ -129,24 +130,6 @@ below-goal low step id C =
     let r = goal-in low step (levelOf id) (omega (arith, C .2 .level)) in
     below-laws id (C .0) (C .1) (goal low step (levelOf id)) (C .2) (omega (arith, r .0)) (r .1)
 
-pub member-append→ : (a b : List ℕ) (x : ℕ) → Member x (a ++ b) → Member x a ⊎ Member x b
-unfolding Member
-member-append→ [] b x m = inr m
-member-append→ (y ∷ a) b x m = ⊎-elim (λ e. inl (inl e)) (λ k. ⊎-elim (λ j. inl (inr j)) (λ j. inr j) (member-append→ a b x k)) m
-
-pub member-append← : (a b : List ℕ) (x : ℕ) → Member x a ⊎ Member x b → Member x (a ++ b)
-unfolding Member
-member-append← [] b x m = ⊎-elim (λ k. absurd k) (λ k. k) m
-member-append← (y ∷ a) b x m = ⊎-elim (λ k. ⊎-elim (λ e. inl e) (λ j. inr (member-append← a b x (inl j))) k) (λ k. inr (member-append← a b x (inr k))) m
-
-pub apart-append : (a b : List ℕ) → Apart a → Apart b → ((x y : ℕ) → Member x a → Member y b → lastLeaf x < firstLeaf y) → Apart (a ++ b)
-unfolding Apart Member
-apart-append [] b A B f = B
-apart-append (x ∷ a) b A B f = (
-  at-all (λ y. lastLeaf x < firstLeaf y) (a ++ b) (λ y m. ⊎-elim (λ k. all-at (λ y. lastLeaf x < firstLeaf y) a (A .0) y k) (λ k. f x y (inl refl) k) (member-append→ a b y m)),
-  apart-append a b (A .1) B (λ z y m k. f z y (inr m) k),
-)
-
 pub record Refined (low step : ℕ) (l r : List ℕ) : Type 0 where
   pub cells : All Cell r
   pub to : Cov l r
@@ -230,16 +213,6 @@ goal-on low top step L r w t h R =
     goal-core low top step (max L low - low) (r - low) (max L low) ((30 - (max L low - low)) % step) t (omega (arith, R .from, R .to)) (omega arith) f
     (rest-small step (max L low - low) (r - low) w (omega (arith, R .to)) f (R .on))
     (rest-on step (max L low - low) w (omega (arith, R .to)))
-
--- each cell of the normal list has a raw one inside it
-pub raw-in : (raw a : List ℕ) → All Cell raw → Normal a → SameLeaves a raw → (d : ℕ) → Member d a → (r : ℕ) × Member r raw × In r d
-raw-in raw a C A same d m =
-    let D = all-at Cell a (A .cells) d m in
-    let s = span D in
-    let w = covers→ raw (lo d) C (sym (same (lo d)) ∙ covers← a (lo d) (A .cells) (d, m, omega arith, omega arith)) in
-    let x = same-held a raw A C same (w .0) (w .1) in
-    let e : x .0 ≡ d = apart-one a (A .cells) (A .apart) (x .0) d (lo d) (x .1) m (omega (arith, x .2 .0, w .2)) (omega (arith, x .2 .1, w .3)) (omega arith) (omega arith) in
-    (w .0, w .1, (omega (arith, x .2 .0, ap lo e), omega (arith, x .2 .1, ap hi e)))
 
 pub final-levels : (low top step : ℕ) (raw : List ℕ) → 30 % step ≡ 0 → top ≤ 30 → All Cell raw
     → All (λ id. OnStep low top step (levelOf id)) raw

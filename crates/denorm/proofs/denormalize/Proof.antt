@@ -1,8 +1,8 @@
 use lib.ListN.{take}
-use Rattle.cellunion.proofs.Writes.{denormalise-none, denormalise-done}
+use Rattle.denorm.proofs.Writes.{denormalise-none, denormalise-done}
 use borrow.Author.Needs.{needs}
-use Rattle.cellunion.proofs.denormalize.Statement.{statement}
-use Rattle.cellunion.proofs.denormalize.Tie as tie
+use Rattle.denorm.proofs.denormalize.Statement.{statement}
+use Rattle.denorm.proofs.denormalize.Tie as tie
 
 count-requires : tie.Need-count-requires
 count-requires c κs = search needs

@@ -1,11 +1,11 @@
--- `coverer::is_handed_on` meets its contract.
+-- `decide::is_handed_on` meets its contract.
 use Prim.Native.Nat.{_≤_, _<_}
 use Rattle.cellid.specs.CellId.{levelOf}
 use borrow.Author.Needs.{needs}
 use borrow.Author.Tests.{lt-ltb, le-ltb, eq-eqb, ne-eqb}
 use native.Mathlib.Omega.{arith}
-use Rattle.coverer.proofs.is_handed_on.Statement.{statement}
-use Rattle.coverer.proofs.is_handed_on.Tie as tie
+use Rattle.decide.proofs.is_handed_on.Statement.{statement}
+use Rattle.decide.proofs.is_handed_on.Tie as tie
 
 returns : tie.Need-returns
 returns c = rw (c .if1 .taken)

@@ -2,9 +2,9 @@ use mathlib.Core.Path.{refl}
 use Prim.Native.Nat.{_-_}
 use native.Mathlib.Omega.{arith}
 use Rattle.cellid.proofs.Laws.{level-le}
-use Rattle.cellunion.proofs.Writes.{Writing, write-asks, write-turn, write-done}
-use Rattle.cellunion.proofs.write.Statement.{statement}
-use Rattle.cellunion.proofs.write.Tie as tie
+use Rattle.denorm.proofs.Writes.{Writing, write-asks, write-turn, write-done}
+use Rattle.denorm.proofs.write.Statement.{statement}
+use Rattle.denorm.proofs.write.Tie as tie
 
 abbrev Inv-loop : tie.InvT-loop
 Inv-loop mem n low step out₀ at₀ i₀ out at i = Writing mem n low step out₀ out at i

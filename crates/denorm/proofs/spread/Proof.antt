@@ -3,9 +3,9 @@ use Prim.Native.Nat.{_-_, _*_}
 use native.Mathlib.Omega.{arith}
 use lib.Pow.{pow-mono}
 use Rattle.cellid.proofs.Laws.{cell-pos, cell-lt, low-le}
-use Rattle.cellunion.proofs.Writes.{Spreading, spread-start, spread-word, spread-turn, spread-done}
-use Rattle.cellunion.proofs.spread.Statement.{statement}
-use Rattle.cellunion.proofs.spread.Tie as tie
+use Rattle.denorm.proofs.Writes.{Spreading, spread-start, spread-word, spread-turn, spread-done}
+use Rattle.denorm.proofs.spread.Statement.{statement}
+use Rattle.denorm.proofs.spread.Tie as tie
 
 abbrev Inv-loop : tie.InvT-loop
 Inv-loop id to out₀ at bit c₀ left₀ place₀ out c left place = Spreading id to out₀ at bit out c left place

@@ -1,4 +1,4 @@
--- `coverer::lifts` meets its contract.
+-- `decide::lifts` meets its contract.
 use Prim.Native.Nat.{_≤_, _<_}
 use Rattle.cellid.specs.CellId.{levelOf}
 use borrow.Author.Needs.{needs}
@@ -8,8 +8,8 @@ use lib.Dec.{eqb}
 use mathlib.Core.Bool.{Bool, true, false, _&&_, not}
 use mathlib.Core.Path.{_≡_, refl, sym, _∙_}
 use native.Mathlib.Omega.{arith}
-use Rattle.coverer.proofs.lifts.Statement.{statement}
-use Rattle.coverer.proofs.lifts.Tie as tie
+use Rattle.decide.proofs.lifts.Statement.{statement}
+use Rattle.decide.proofs.lifts.Tie as tie
 
 low : (i a b : Bool) → a ≡ false → false ≡ (not i && (a && b))
 low true a b e = refl

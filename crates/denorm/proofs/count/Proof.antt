@@ -1,9 +1,9 @@
 use Prim.Native.Nat.{_-_}
 use native.Mathlib.Omega.{arith}
 use Rattle.cellid.proofs.Laws.{level-le}
-use Rattle.cellunion.proofs.Writes.{Counting, turn-laws, count-turn, count-over, count-done}
-use Rattle.cellunion.proofs.count.Statement.{statement}
-use Rattle.cellunion.proofs.count.Tie as tie
+use Rattle.denorm.proofs.Writes.{Counting, turn-laws, count-turn, count-over, count-done}
+use Rattle.denorm.proofs.count.Statement.{statement}
+use Rattle.denorm.proofs.count.Tie as tie
 
 abbrev Inv-loop : tie.InvT-loop
 Inv-loop mem n low step limit total₀ i₀ total i = Counting mem n low step limit total i
