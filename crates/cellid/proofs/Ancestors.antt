@@ -128,7 +128,12 @@ common-nothing a b = (
 abbrev pub spread : ℕ → ℕ → ℕ
 spread a b = max (max (bitXor a b) (lowBit a)) (lowBit b)
 
-pow-less : (i j : ℕ) → 2 ^ i < 2 ^ j → i < j
+pub spread-lt : (a b : ℕ) → Cell a → Cell b → spread a b < 2 ^ 64
+spread-lt a b c d =
+    let x = xor-lt 64 a b (omega (arith, cell-lt a (c .0) (c .1) (c .2))) (omega (arith, cell-lt b (d .0) (d .1) (d .2))) in
+    omega (arith, low-small a c, low-small b d)
+
+pub pow-less : (i j : ℕ) → 2 ^ i < 2 ^ j → i < j
 pow-less i j h = by (depth j i)
   where
     by : Depth j i → i < j
@@ -161,9 +166,7 @@ top-zeros s m z h =
     rw e (top-bit s (t .0) m (t .2) (t .3))
 
 same-zeros : (a b N : ℕ) → Cell a → Cell b → N ≤ 30 → sameAt a b N ≡ ltb (63 - leadingZeros 64 (spread a b)) (placeAt N + 1)
-same-zeros a b N c d h =
-    let x = xor-lt 64 a b (omega (arith, cell-lt a (c .0) (c .1) (c .2))) (omega (arith, cell-lt b (d .0) (d .1) (d .2))) in
-    same-spread a b N c d h ∙ top-zeros (spread a b) (placeAt N + 1) (omega (arith, low-pos a)) (omega (arith, low-small a c, low-small b d))
+same-zeros a b N c d h = same-spread a b N c d h ∙ top-zeros (spread a b) (placeAt N + 1) (omega (arith, low-pos a)) (spread-lt a b c d)
 
 deepest-none : (a b n : ℕ) → ((N : ℕ) → N ≤ n → sameAt a b N ≡ false) → deepest a b n ≡ Common.Nothing
 unfolding deepest

@@ -1,7 +1,7 @@
 -- The pass over words that are a normal list: from the first on that lies behind the parent of the last kept, they stay as they are.
 use mathlib.Core.Path.{_≡_, refl, sym, ap, _∙_, subst}
 use mathlib.Core.Logic.{_⊎_, inl, inr, ⊎-elim}
-use mathlib.Core.Bool.{Bool, true, false, not}
+use mathlib.Core.Bool.{Bool, true, false, not, true≢false}
 use mathlib.Core.List.{List, [], _∷_, _++_, append-assoc, append-nil}
 use Prim.Native.Nat.{ℕ, _+_, _-_, _≤_, _<_}
 use native.Mathlib.Omega.{arith}
@@ -18,10 +18,9 @@ use Rattle.cellunion.specs.CellUnion.{lo, hi, Member, Apart, NoFour, Nor
 use Rattle.cellunion.specs.Stack.{Down, Stack, AllBefore, topFirst, Gives, PassDone, nearTop}
 use Rattle.cellunion.specs.Memory.{laid}
 use Rattle.cellunion.proofs.Spans.{span, In, kids, Kids, holds-in}
-use Rattle.cellunion.proofs.Unique.{all-at, at-all, Covered, normal-unique}
+use Rattle.cellunion.proofs.Unique.{all-at, at-all, Covered, normal-unique, member-append→, member-append←, apart-append}
 use Rattle.cellunion.proofs.Stack.{up-kid, next-is}
 use Rattle.cellunion.proofs.Norm.{pass-laws, member-rev→, member-rev←, all-rev, apart-rev, stack-normal, same-covered}
-use Rattle.cellunion.proofs.Unique.{member-append→, member-append←, apart-append}
 use Rattle.cellunion.proofs.Lists.{apart-from}
 use Rattle.cellunion.proofs.Memory.{next-word, no-more, drop-more, drop-take-same}
 use Rattle.cellunion.proofs.Runs.{Passing, pass-turn, rev-top, top-pop}
@@ -156,7 +155,7 @@ module _ (t : ℕ) (s r : List ℕ) (S : Stack (t ∷ s)) (N : Normal r) (far : 
 -- what stands behind the first that is not near is far
 not-near : (s : List ℕ) (x : ℕ) (r : List ℕ) → Stack s → Normal (x ∷ r) → All (AllBefore s) (x ∷ r) → nearTop s x ≡ false → rev (pass s (x ∷ r)) ≡ rev s ++ (x ∷ r)
 unfolding nearTop All
-not-near [] x r S N R e = let z : _≡_ {A = ℕ} 0 1 = cc in absurd (omega arith)
+not-near [] x r S N R e = absurd (true≢false e)
 not-near (t ∷ s) x r S N R e =
     let h : lastLeaf (upOne t) < firstLeaf x = leb-false _ _ e in
     let u = span (up-cell (S .cells .0) .0) in

@@ -16,10 +16,9 @@ use Rattle.cellunion.specs.CellUnion.{lo, hi, Member, Apart, NoFour, Nor
 use Rattle.cellunion.specs.Stack.{Down, Stack, AllBefore, topFirst, Topped, Gives, PassAsks, PassDone}
 use Rattle.cellunion.specs.Memory.{zeros, laid, normalised}
 use Rattle.cellunion.proofs.Spans.{span, In, holds-in}
-use Rattle.cellunion.proofs.Unique.{all-at, at-all, Covered}
+use Rattle.cellunion.proofs.Unique.{all-at, at-all, Covered, member-append→, member-append←}
 use Rattle.cellunion.proofs.Stack.{tail, Cov, cov-members, Cleared, clear-laws, Collapsed, collapse-laws}
 use Rattle.cellunion.proofs.Norm.{Passed, pass-laws, member-rev→, member-rev←, all-rev, stack-normal, same-covered, normal-is}
-use Rattle.cellunion.proofs.Unique.{member-append→, member-append←}
 use Rattle.cellunion.proofs.Lists.{apart-from}
 use Rattle.cellunion.proofs.Settled.{apart-back, normal-back, apart-sorted}
 use Rattle.cellunion.proofs.Memory.{next-word, all-drop, drop-more, drop-take-same}
@@ -134,7 +133,7 @@ module _ (s : List ℕ) (a : ℕ) (r : List ℕ) (c : ℕ) (W : Around s a r c) 
       (λ (k : Covered r n). (k .0, member-append← (rev s) (c ∷ r) (k .0) (inr (inr (k .1))), k .2, k .3))
       (passed .from n w)
 
-  -- THE LAW
+  -- THE WIDE CELL: the pass gives the normal list of all, with c in the place of a
   widened : rev (pass (collapse (clearOf c s) c) r) ≡ normalise list
   unfolding list All
   widened =

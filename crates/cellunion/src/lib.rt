@@ -1,9 +1,9 @@
 // Lists of cells in lent memory: what a list may be, normalising in place, one cell widened, and lists laid over an output.
 ghost use mathlib.Core.Path.{_≡_};
 ghost use mathlib.Core.Bool.{true};
-ghost use Prim.Native.Nat.{_+_, _-_, _*_, _^_, _≤_, _<_, min, max};
+ghost use Prim.Native.Nat.{_+_, _-_, _*_, _^_, _≤_, _<_};
 ghost use lib.ListN.{length, getD, take, drop, set};
-ghost use Rattle.cellid.specs.CellId.{Cell, lowBit, levelOf, holds};
+ghost use Rattle.cellid.specs.CellId.{Cell, lowBit, holds};
 ghost use Rattle.order.specs.Order.{All};
 ghost use Rattle.cellunion.specs.CellUnion.{Normal, normalise, listed, isList, upOne, isFour, clearOf, collapse, keepCell};
 ghost use Rattle.cellunion.specs.Memory.{zeros, normalised, laid, roomFor, laidOver};

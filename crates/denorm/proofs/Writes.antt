@@ -9,11 +9,10 @@ use lib.Pow.{pow-mono}
 use Rattle.cellid.specs.CellId.{Cell, IsCell, idOf, bitAt, placeAt, lowBit, levelOf, placeOf}
 use Rattle.cellid.proofs.Laws.{odd-mul, low-cell, level-cell, level-le, place-id, bit-up, cell-lt, one-shl}
 use Rattle.order.specs.Order.{All}
-use Rattle.denorm.specs.Denorm.{goal, cellsFrom, below, denormalise, countOf}
+use Rattle.denorm.specs.Denorm.{goal, cellsFrom, below, denormalise, countOf, AsksList}
 use Rattle.denorm.proofs.Laws.{room-core, goal-in, length-below, length-denormalise}
 use Rattle.cellunion.specs.declared.Laid.{Laid}
 use Rattle.cellunion.specs.Memory.{laid, roomFor, laidOver}
-use Rattle.denorm.specs.Denorm.{AsksList}
 use Rattle.cellunion.proofs.Memory.{laid-nil, laid-cons, length-laid, laid-append, next-word, no-more, all-drop, room-yes, room-no}
 
 -- ---- the level

@@ -16,10 +16,9 @@ use Rattle.order.specs.Order.{All}
 use Rattle.order.proofs.OrderLaws.{which, all-get}
 use Rattle.cellunion.specs.CellUnion.{lo, hi, Member, Normal, normalise}
 use Rattle.cellunion.proofs.Spans.{In, in-holds}
-use Rattle.cellunion.proofs.Unique.{all-at, at-all, covers→, covers←}
+use Rattle.cellunion.proofs.Unique.{all-at, at-all, covers→, covers←, member-append→, member-append←, raw-in}
 use Rattle.cellunion.proofs.Stack.{Cov, cov-members}
 use Rattle.cellunion.proofs.Norm.{normalise-normal, normalise-leaves, normalise-short, normalise-same, same-covered}
-use Rattle.cellunion.proofs.Unique.{member-append→, member-append←, raw-in}
 use Rattle.fast.specs.declared.Best.{Best}
 use Rattle.fast.specs.Fast.{pairDepth, bestOf, joined, mergedIn}
 use Rattle.fast.proofs.Levels.{Joint, pair-joint, in-higher, Under, under-le}

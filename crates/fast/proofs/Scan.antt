@@ -3,18 +3,18 @@ use mathlib.Core.Path.{_≡_, refl, sym, ap, _∙_, subst}
 use mathlib.Core.Logic.{by-cases}
 use mathlib.Core.List.{List}
 use Prim.Native.Nat.{ℕ, suc, _+_, _-_, _*_, _/_, _%_, _^_, _≤_, _<_}
-use native.Mathlib.Nat.{div-add-mod', mod-lt, mod-le, mul-le-mul-right, add-mul, one-mul}
+use native.Mathlib.Nat.{div-add-mod', le-div-iff-mul-le, mod-lt, mod-le, mul-le-mul-right}
 use native.Mathlib.Decide.{decLt}
 use native.Mathlib.Numerals.{add-one}
 use native.Mathlib.Omega.{arith}
-use lib.Bits.{bitXor, xor-lt}
+use lib.Bits.{bitXor}
 use lib.Count.{leadingZeros, leading-top}
 use lib.ListN.{length, getD, take}
-use lib.Pow.{pow-pos, pow-mono}
+use lib.Pow.{pow-pos}
 use lib.Seq.{getD-take, length-take-le}
 use Rattle.cellid.specs.CellId.{Cell, bitAt, placeAt, firstLeaf, lastLeaf}
-use Rattle.cellid.proofs.Laws.{same-above, low-cell, low-pos, low-small, cell-lt}
-use Rattle.cellid.proofs.Ancestors.{spread, common-none, common-some}
+use Rattle.cellid.proofs.Laws.{same-above, low-cell, low-pos}
+use Rattle.cellid.proofs.Ancestors.{spread, spread-lt, pow-less, common-none, common-some}
 use Rattle.order.specs.Order.{All}
 use Rattle.order.proofs.OrderLaws.{all-get}
 use Rattle.cellunion.specs.CellUnion.{lo, hi, Apart}
@@ -28,10 +28,9 @@ use Rattle.fast.proofs.Merging.{best-better, best-same}
 -- ---- adjusting keeps the order of levels
 
 whole-mono : (x y m : ℕ) → 0 < m → x ≤ y → x - x % m ≤ y - y % m
-whole-mono x y m p h = by-cases (decLt (y / m) (x / m))
-    (λ (g : y / m < x / m). let e : (y / m + 1) * m ≡ y / m * m + m = add-mul (y / m) 1 m ∙ ap (λ (n : ℕ). y / m * m + n) (one-mul m) in
-    let f : (y / m + 1) * m ≤ x / m * m = mul-le-mul-right m (omega arith) in absurd (omega (arith, div-add-mod' x m, div-add-mod' y m, mod-lt y p)))
-    (λ g. let f : x / m * m ≤ y / m * m = mul-le-mul-right m (omega arith) in omega (arith, div-add-mod' x m, div-add-mod' y m))
+whole-mono x y m p h =
+    let f : x / m * m ≤ y / m * m = mul-le-mul-right m (le-div-iff-mul-le p .1 (omega (arith, div-add-mod' x m))) in
+    omega (arith, div-add-mod' x m, div-add-mod' y m)
 
 adjusted-mono : (low step L M : ℕ) → 0 < step → L ≤ M → adjusted low step L ≤ adjusted low step M
 adjusted-mono low step L M p h = by-cases (decLt low L)
@@ -41,9 +40,6 @@ adjusted-mono low step L M p h = by-cases (decLt low L)
     (λ f. rw (adjusted-low low step L (omega arith), adjusted-low low step M (omega arith)) h))
 
 -- ---- zeros above
-
-pow-less : (i j : ℕ) → 2 ^ i < 2 ^ j → i < j
-pow-less i j h = by-cases (decLt i j) (λ g. g) (λ g. absurd (omega (arith, pow-mono {i = j} {j = i} (omega arith))))
 
 zeros-fall : (s r : ℕ) → 0 < s → r < 2 ^ 64 → s ≤ r → leadingZeros 64 r ≤ leadingZeros 64 s
 zeros-fall s r p h l =
@@ -60,11 +56,6 @@ few-zeros s l h =
     omega (arith, a .1)
 
 -- ---- what two cells differ in
-
-spread-lt : (a b : ℕ) → Cell a → Cell b → spread a b < 2 ^ 64
-spread-lt a b A B =
-    let x = xor-lt 64 a b (omega (arith, cell-lt a (A .0) (A .1) (A .2))) (omega (arith, cell-lt b (B .0) (B .1) (B .2))) in
-    omega (arith, low-small a A, low-small b B)
 
 xor-far : (a b t : ℕ) → a + 2 ^ t ≤ b → 2 ^ t ≤ bitXor a b
 xor-far a b t h = by-cases (decLt (bitXor a b) (2 ^ t))

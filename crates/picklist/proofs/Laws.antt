@@ -1,7 +1,7 @@
 -- Pick lists: what the check says, the turns of the search, and that one listed cell decides.
 use mathlib.Core.Path.{_≡_, refl, sym, ap, _∙_}
 use mathlib.Core.Logic.{_↔_, inl, inr, ⊎-elim, by-cases}
-use mathlib.Core.Bool.{Bool, true, false, _||_, and-eq-true-iff}
+use mathlib.Core.Bool.{Bool, true, false, _||_, and-eq-true-iff, true≢false}
 use mathlib.Core.List.{List, [], _∷_}
 use Prim.Native.Nat.{ℕ, zero, suc, _+_, _≤_, _<_}
 use native.Mathlib.Decide.{decLt}
@@ -71,7 +71,7 @@ some-none test (y ∷ l) h = rw (no-true (test y) (h 0 (omega arith))) (some-non
 
 pub some-found : (test : ℕ → Bool) (l : List ℕ) → some test l ≡ true → (i : ℕ) × (i < length l) × (test (getD l i 0) ≡ true)
 unfolding some
-some-found test [] t = let z : _≡_ {A = ℕ} 0 1 = cc in absurd (omega arith)
+some-found test [] t = absurd (true≢false (sym t))
 some-found test (y ∷ l) t = ⊎-elim
     (λ (h : test y ≡ true). (0, omega arith, h))
     (λ (h : some test l ≡ true). let r = some-found test l h in (suc (r .0), omega (arith, r .1), r .2))

@@ -13,9 +13,8 @@ use Rattle.order.specs.Order.{All}
 use Rattle.order.proofs.OrderLaws.{which, all-append}
 use Rattle.cellunion.specs.CellUnion.{lo, hi, covers, Member, Apart, NoFour, Normal, normalise}
 use Rattle.cellunion.proofs.Spans.{span, kids}
-use Rattle.cellunion.proofs.Unique.{all-at, at-all, covers←}
+use Rattle.cellunion.proofs.Unique.{all-at, at-all, covers←, member-append→, apart-append}
 use Rattle.cellunion.proofs.Norm.{normal-is}
-use Rattle.cellunion.proofs.Unique.{member-append→, apart-append}
 use Rattle.cellunion.proofs.Counts.{hi-le}
 use Rattle.cellunion.proofs.Lists.{covers-nil, covers-append}
 use Rattle.ranges.specs.Ranges.{leaves, tile}

@@ -208,7 +208,7 @@ idsOf (listArea ids) = ids
 abbrev pub regionPart : AreaRead → RegionRead
 regionPart n = record { region = regionOf (n .area); count = length (idsOf (n .area)); after = n .after }
 
--- it was read, its ids into the words that are lent
+-- a region was read, the ids of its list into the words that are lent
 pub record ReadRegion (n : AreaRead) (r : RegionRead) (words words' : List ℕ) : Type 0 where
   pub read : r ≡ regionPart n
   pub ids : words' ≡ wordsWith (idsOf (n .area)) words
@@ -227,7 +227,7 @@ askedPart w = record {
   after = w .after;
 }
 
--- likewise
+-- a request was read, the ids of its list into the words that are lent
 pub record ReadAsked (w : Wish) (r : Asked) (words words' : List ℕ) : Type 0 where
   pub read : r ≡ askedPart w
   pub ids : words' ≡ wordsWith (idsOf (w .area)) words

@@ -11,8 +11,7 @@ use Rattle.order.specs.Order.{All}
 use Rattle.order.proofs.OrderLaws.{all-append}
 use Rattle.cellunion.specs.CellUnion.{lo, hi, covers, Member}
 use Rattle.cellunion.proofs.Spans.{span, In, Nest, left, right, inside, around, nest}
-use Rattle.cellunion.proofs.Unique.{all-at, covers→, covers←, full, apart-one}
-use Rattle.cellunion.proofs.Unique.{member-append←}
+use Rattle.cellunion.proofs.Unique.{all-at, covers→, covers←, full, apart-one, member-append←}
 use Rattle.cellunion.proofs.Short.{held-short}
 use Rattle.cellunion.proofs.Lists.{covers-append}
 use Rattle.ranges.proofs.Tiles.{and-both}
