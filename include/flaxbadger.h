@@ -20,7 +20,8 @@
  *                          4,096 on are never touched
  *   out, out_len           the output, of any length. The ids of the answer go into its first places
  *   count, steps, aside    where the answer's values are written: how many ids it has; how many steps the run took; how many leaf
- *                          cells (of level 30) an outer run set aside as outside the region
+ *                          cells (of level 30) an outer run set aside as outside the region. With level_mod above 1 the start
+ *                          cells of a list may overlap; a leaf cell that is set aside under two of them counts twice
  * Pointers must be valid for the lengths given, aligned as uint64_t is, and not null, not even for a length of 0, as of an empty
  * list; and no two of list, mem, out, count, steps and aside may overlap. This is the caller's part: C passes no lengths that could
  * be tested.
@@ -74,7 +75,7 @@ uint64_t flaxbadger_cellunion_cap(FLAXBADGER_CAP, FLAXBADGER_LEVELS, uint32_t al
 uint64_t flaxbadger_cellunion_cell(FLAXBADGER_CELL, FLAXBADGER_LEVELS, uint32_t allowance, FLAXBADGER_BUFFERS);
 uint64_t flaxbadger_cellunion_list(FLAXBADGER_LIST, FLAXBADGER_LEVELS, uint32_t allowance, FLAXBADGER_BUFFERS);
 
-/* The run's own list, in the order in which it kept the cells. */
+/* The run's own list, in the order in which it kept the cells. With level_mod 1 no two of them overlap; above 1 a list's may. */
 uint64_t flaxbadger_raw_cap(FLAXBADGER_CAP, FLAXBADGER_LEVELS, uint32_t allowance, FLAXBADGER_BUFFERS);
 uint64_t flaxbadger_raw_cell(FLAXBADGER_CELL, FLAXBADGER_LEVELS, uint32_t allowance, FLAXBADGER_BUFFERS);
 uint64_t flaxbadger_raw_list(FLAXBADGER_LIST, FLAXBADGER_LEVELS, uint32_t allowance, FLAXBADGER_BUFFERS);

@@ -33,8 +33,7 @@
 //! are told apart here: a line is well-formed if its from_token is valid and its to_token writes that as the same bytes.
 //! The Rust has no region that is a list: what such a region contains, what it intersects and what its bound is, paper 02 says,
 //! and it is given to the Rust's coverer as a region of these tests and this bound. The tests ask every listed cell, by the
-//! Rust's contains and intersects; in the build `quick` they are those of oracle/quick.rs. With level_mod above 1 the start
-//! cells are found by paper 01's rule in the build `byid`, in the others by the Rust's own (oracle/build).
+//! Rust's contains and intersects; in the build `quick` they are those of oracle/quick.rs.
 //! Domains: ids are valid; floats are finite (but for cover's regions and sqrt); a point is_unit (but for is_unit itself);
 //! a cap is in paper 01's domain, a radius at most 4; a list as a region is in paper 02's: valid, ascending, no cell inside
 //! another, at most 4,096 ids; vertex_neighbors asks for a level above the id's own.

@@ -114,15 +114,6 @@ collapse-low m (suc zero) c h = refl
 collapse-low m (suc (suc zero)) c h = refl
 collapse-low m (suc (suc (suc k))) c h = absurd (omega arith)
 
-length-top : (k : ℕ) (m : List ℕ) → length (topFirst k m) ≡ k
-unfolding topFirst
-length-top zero m = refl
-length-top (suc k) m = ap suc (length-top k m)
-
--- the words left are the cells left, and so many
-pub clear-left : (r k : ℕ) (m s : List ℕ) → r ≤ k → topFirst r m ≡ s → (r ≤ k) × (topFirst r m ≡ s) × (r ≡ length s)
-clear-left r k m s h e = (h, e, sym (length-top r m) ∙ ap length e)
-
 top-set : (k i v : ℕ) (m : List ℕ) → k ≤ i → i < length m → topFirst k (set m i v) ≡ topFirst k m
 unfolding topFirst
 top-set zero i v m h g = refl
@@ -144,11 +135,9 @@ collapse-done m k₀ c₀ k c G e = record {
 abbrev pub HeadFree : List ℕ → ℕ → ℕ → Type 0
 HeadFree m k c = (k ≤ 0) ⊎ ((0 < k) × (holds (getD m (k - 1) 0) c ≡ false))
 
-pub head-pos : (m : List ℕ) (k c : ℕ) → Next (topFirst k m) c → 0 < k → 0 < getD m (k - 1) 0
+pub head-pos : (m : List ℕ) (k : ℕ) → All Cell (topFirst k m) → 0 < k → 0 < getD m (k - 1) 0
 unfolding All
-head-pos m k c N h =
-    let C = subst (λ (s : List ℕ). All Cell s) (top-pop k m h) (N .stack .cells) .0 in
-    cell-pos _ _ _ (C .2)
+head-pos m k A h = let C = subst (λ (s : List ℕ). All Cell s) (top-pop k m h) A .0 in cell-pos _ _ _ (C .2)
 
 pub keep-skip : (m : List ℕ) (k c : ℕ) (b : Bool) → 0 < k → b ≡ holds (getD m (k - 1) 0) c → b ≡ true → Gives (keepCell (topFirst k m) c) k m m k
 unfolding keepCell

@@ -100,6 +100,14 @@ Cov a b = (n : ℕ) → Covered a n → Covered b n
 pub cov-members : (a b : List ℕ) → ((x : ℕ) → Member x a → Member x b) → Cov a b
 cov-members a b f n c = (c .0, f (c .0) (c .1), c .2, c .3)
 
+-- one cell more in front, where r has a cell around it
+pub cov-in : (x y : ℕ) (l r : List ℕ) → In x y → Member y r → Cov l r → Cov (x ∷ l) r
+unfolding Member
+cov-in x y l r i m g n w = ⊎-elim
+    (λ (q : w .0 ≡ x). (y, m, omega (arith, w .2, ap lo q, i .0), omega (arith, w .3, ap hi q, i .1)))
+    (λ (k : Member (w .0) l). g n (w .0, k, w .2, w .3))
+    (w .1)
+
 -- ---- what the new cell takes out
 
 pub record Cleared (s : List ℕ) (c : ℕ) (r : List ℕ) : Type 0 where
@@ -135,7 +143,7 @@ clear-laws c C (t ∷ s) S r n = ⊎-elim
     rw (e, clearOf) (record {
       stack = R .stack;
       under = R .under;
-      to = λ n k. ⊎-elim (λ (q : k .0 ≡ t). (c, inl refl, omega (arith, i .0, k .2, ap lo q), omega (arith, i .1, k .3, ap hi q))) (λ m. R .to n (k .0, m, k .2, k .3)) (k .1);
+      to = cov-in t c s (c ∷ clearOf c s) i (inl refl) (R .to);
       from = λ n k. let w = R .from n k in (w .0, inr (w .1), w .2, w .3);
       short = omega (arith, R .short);
     }))
@@ -340,7 +348,7 @@ keep-laws (t ∷ s) c S C r = ⊎-elim
     let i = holds-in (S .cells .0) C e in
     rw (e, keepCell) (record {
       stack = S;
-      to = λ n k. ⊎-elim (λ (q : k .0 ≡ c). (t, inl refl, omega (arith, i .0, k .2, ap lo q), omega (arith, i .1, k .3, ap hi q))) (λ m. (k .0, m, k .2, k .3)) (k .1);
+      to = cov-in c t (t ∷ s) (t ∷ s) i (inl refl) (λ n k. k);
       from = λ n k. (k .0, inr (k .1), k .2, k .3);
       low = r;
       short = omega arith;

@@ -75,9 +75,9 @@ fn are_siblings(x: u64, y: u64, z: u64, c: u64) -> bool
 }
 
 // How many of the first k are left without those inside c.
-pub fn clear_of(mem: &[u64], k: usize, c: u64) -> usize
+fn clear_of(mem: &[u64], k: usize, c: u64) -> usize
     requires { ⌜ (k ≤ length (now mem)) × (0 < c) ⌝ }
-    ensures { λ r. ⌜ (r ≤ k) × (topFirst r (now (mem .entry)) ≡ clearOf c (topFirst k (now (mem .entry)))) × (r ≡ length (clearOf c (topFirst k (now (mem .entry))))) ⌝ }
+    ensures { λ r. ⌜ (r ≤ k) × (topFirst r (now (mem .entry)) ≡ clearOf c (topFirst k (now (mem .entry)))) ⌝ }
 {
     let mut left = k;
     while 0 < left {

@@ -23,10 +23,9 @@ use Rattle.run.proofs.Lists.{rel-le}
 use Rattle.run.proofs.Leaves.{leaves-add}
 use Rattle.run.proofs.Ground.{expansion-ok}
 use Rattle.run.proofs.Demand3.{sums}
-use Rattle.run.proofs.Starts.{sum-placed}
 use Rattle.run.proofs.Masks.{found-small, found-list}
 use Rattle.run.proofs.Counts.{found-counted}
-use Rattle.run.proofs.Totals.{failed-total, sum-le}
+use Rattle.run.proofs.Totals.{failed-total, leaves-most}
 use Rattle.queue.specs.declared.Rec.{Rec}
 use Rattle.queue.specs.declared.Rule.{Rule}
 use Rattle.queue.specs.Queue.{popR, nextR}
@@ -245,13 +244,13 @@ module _ (T : Task) (D : Domain (T .asked)) where
 
   -- what a reached state's queued cells are, and that the set-aside total leaves room for them
   reached-first : (s : State) (c : Grown) (l : List Grown) → Reached T s → s .queue ≡ c ∷ l → Queued T (c .id) × (asideTotal s + leavesOf (c .id) < 2 ^ 64)
-  unfolding asideTotal sumOf All
+  unfolding sumOf All
   reached-first s c l R e =
-      let I = sums T D (byId T) (R .starts) (R .fit) (R .steps) s (R .is) (λ i id. leavesOf id) (λ i id L p d l. leaves-add id L p d l) in
+      let I = sums T D (byId T) (R .starts) (R .fit) (R .steps) s (R .is) (λ i id. 0) (λ i id L p d l. refl) in
       let a : All (λ (x : Grown). Queued T (x .id)) (c ∷ l) = subst (All (λ (x : Grown). Queued T (x .id))) e (I .queue) in
       let leaves : Grown → ℕ = λ x. leavesOf (x .id) in
       let b : sumOf leaves (s .queue) ≡ leavesOf (c .id) + sumOf leaves l = ap (sumOf leaves) e in
-      (a .0, omega (arith, R .six, rel-le (T .asked .inner) _ _ (I .sum), sum-placed leavesOf 0 (R .starts), sum-le (R .starts), b))
+      (a .0, omega (arith, R .six, leaves-most T D (byId T) (R .starts) (R .fit) (R .steps) s (R .is)))
 
   pub record Takes (m : List ℕ) (t : Counts) (r : Rec) : Type 0 where
     pub kept : t .kept ≤ rawMost

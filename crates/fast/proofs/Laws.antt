@@ -1,7 +1,7 @@
 -- What fast covering makes of a list of cells: a normal list, then cells on step, that cover every leaf of it.
 use mathlib.Core.Path.{_≡_, refl, sym, ap, ap₂, _∙_, subst}
 use mathlib.Core.Bool.{Bool, true, _&&_, and-eq-true-iff}
-use mathlib.Core.Logic.{inl, inr, ⊎-elim}
+use mathlib.Core.Logic.{inl, inr}
 use mathlib.Core.List.{List, [], _∷_, map}
 use Prim.Native.Nat.{ℕ, _-_, _*_, _/_, _%_, _^_, _≤_, _<_, min}
 use native.Mathlib.Omega.{arith}
@@ -12,10 +12,10 @@ use Rattle.cellid.specs.CellId.{Cell, IsCell, idOf, levelOf, parentAt}
 use Rattle.cellid.proofs.Laws.{level-cell}
 use Rattle.cellid.proofs.Ancestors.{parent-cell}
 use Rattle.order.specs.Order.{All}
-use Rattle.cellunion.specs.CellUnion.{lo, hi, covers, Member, Apart, Normal, normalise}
+use Rattle.cellunion.specs.CellUnion.{covers, Member, Apart, Normal, normalise}
 use Rattle.denorm.specs.Denorm.{OnStep, denormalise}
 use Rattle.cellunion.proofs.Unique.{all-at, at-all, covers→, covers←}
-use Rattle.cellunion.proofs.Stack.{Cov}
+use Rattle.cellunion.proofs.Stack.{Cov, cov-in}
 use Rattle.cellunion.proofs.Norm.{normalise-normal, normalise-short}
 use Rattle.denorm.proofs.Laws.{denormalise-laws, denormalise-leaves, denormalise-apart, goal-on}
 use Rattle.fast.specs.Fast.{adjusted, lifted, mergedCovering, fastCovering}
@@ -56,13 +56,9 @@ lifted-all-under low top step (x ∷ l) o C = (lifted-under low top step x o (C 
 
 lifted-cover : (low top step : ℕ) (l : List ℕ) → All Cell l → Cov l (map (lifted low top step) l)
 unfolding All Member
-lifted-cover low top step [] C n w = w
-lifted-cover low top step (x ∷ l) C n w = ⊎-elim
-    (λ (e : w .0 ≡ x).
-    let i = lifted-is low top step x (C .0) .within in
-    (lifted low top step x, inl refl, omega (arith, w .2, ap lo e, i .0), omega (arith, w .3, ap hi e, i .1)))
-    (λ (m : Member (w .0) l). let v = lifted-cover low top step l (C .1) n (w .0, m, w .2, w .3) in (v .0, inr (v .1), v .2, v .3))
-    (w .1)
+lifted-cover low top step [] C = λ n w. w
+lifted-cover low top step (x ∷ l) C = cov-in x (lifted low top step x) l (map (lifted low top step) (x ∷ l)) (lifted-is low top step x (C .0) .within) (inl refl)
+    (λ n w. let v = lifted-cover low top step l (C .1) n w in (v .0, inr (v .1), v .2, v .3))
 
 -- ---- the normal list
 

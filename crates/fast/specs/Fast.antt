@@ -1,4 +1,4 @@
--- Fast coverings and start cells: paper 01's "Lists" and "The run: Start". `low` and `top` are the request's min and max level, `step` its
+-- Fast coverings and start cells: paper 01's "Lists" and "The run: Start", the latter as paper 02's request b has it. `low` and `top` are the request's min and max level, `step` its
 -- level_mod, `cells` its max_cells.
 use mathlib.Core.Bool.{true, false}
 use mathlib.Core.List.{List, [], _∷_, _++_, map}
@@ -70,15 +70,11 @@ fastCovering low top step cells l = denormalise low step (mergedCovering low top
 
 -- ---- start cells
 
--- the cells of s that do not lie in c
-unfoldable pub without : ℕ → List ℕ → List ℕ
-without c [] = []
-without c (y ∷ s) = elim (holds c y) [ true ↦ without c s | false ↦ y ∷ without c s ]
-
--- The kept cells, the last kept first, and one more: skipped if the last kept cell contains it, and earlier kept cells that it contains are dropped.
+-- The kept cells, the last kept first, and one more: skipped if the last kept cell contains it; else that one is dropped if the new one contains it.
+-- Earlier ones stay, even if contained.
 unfoldable pub keepStart : List ℕ → ℕ → List ℕ
 keepStart [] c = c ∷ []
-keepStart (t ∷ s) c = elim (holds t c) [ true ↦ t ∷ s | false ↦ c ∷ without c (t ∷ s) ]
+keepStart (t ∷ s) c = elim (holds t c) [ true ↦ t ∷ s | false ↦ elim (holds c t) [ true ↦ c ∷ s | false ↦ c ∷ t ∷ s ] ]
 
 -- Each cell goes to its adjusted level, in order.
 unfoldable pub keepStarts : ℕ → ℕ → List ℕ → List ℕ → List ℕ

@@ -4,9 +4,7 @@ use Prim.Native.Nat.{ℕ, _-_, _≤_, _<_}
 use lib.ListN.{length, take, drop}
 use Rattle.cellid.specs.CellId.{Cell}
 use Rattle.order.specs.Order.{All}
-use Rattle.cellunion.specs.CellUnion.{lo, hi}
 use Rattle.cellunion.specs.Memory.{zeros}
-use Rattle.cellunion.specs.Stack.{Down}
 use Rattle.run.specs.declared.RegionCoverer.{RegionCoverer}
 use Rattle.fast.specs.Fast.{lifted, merged, mergedCovering, fastCovering, adjustedCells, startsOf}
 
@@ -42,13 +40,3 @@ inPlace n l m = l ++ (zeros (n - length l) ++ drop n m)
 -- the first n words are cells
 abbrev pub Cells : ℕ → List ℕ → Type 0
 Cells n m = (n ≤ length m) × All Cell (take n m)
-
--- c may be looked at next: the kept cells s, the last kept first, are apart, and all of them begin before some leaf of c
-pub record NextStart (s : List ℕ) (c : ℕ) : Type 0 where
-  pub cells : All Cell s
-  pub down : Down s
-  pub cell : Cell c
-  pub leaf : ℕ
-  pub from : lo c ≤ leaf
-  pub to : leaf < hi c
-  pub begun : All (λ y. lo y ≤ leaf) s

@@ -6,13 +6,14 @@ ghost use mathlib.Core.List.{_++_};
 ghost use Prim.Native.Nat.{_-_, _≤_, _<_, min};
 ghost use lib.ListN.{length, take, drop};
 ghost use Rattle.cellid.specs.CellId.{Cell};
-ghost use Rattle.cellunion.specs.CellUnion.{Apart, Normal};
+ghost use Rattle.order.specs.Order.{All};
+ghost use Rattle.cellunion.specs.CellUnion.{Normal};
 ghost use Rattle.cellunion.specs.Memory.{zeros, roomFor, laidOver};
 ghost use Rattle.cellunion.specs.Stack.{topFirst, Gives};
 ghost use Rattle.region.specs.Region.{areaOf, inDomain, boundOf};
 ghost use Rattle.run.specs.Run.{memoryWords};
 ghost use Rattle.fast.specs.Fast.{adjusted, pairDepth, keepStart};
-ghost use Rattle.fast.specs.Memory.{NumbersFit, liftedFor, mergedFor, mergedCoveringFor, fastCoveringFor, adjustedFor, startsFor, inPlace, Cells, NextStart};
+ghost use Rattle.fast.specs.Memory.{NumbersFit, liftedFor, mergedFor, mergedCoveringFor, fastCoveringFor, adjustedFor, startsFor, inPlace, Cells};
 use run::RegionCoverer;
 
 // The start cells of a run, at most six, with zeros behind them.
@@ -166,24 +167,29 @@ pub fn fast_covering(
     normalize_covering(c, mem, n, out)
 }
 
-// One more start cell on the first k, the last kept on top: skipped if that one contains it; those that it contains go.
+// One more start cell on the first k, the last kept on top: skipped if the last one contains it, in its place if it contains the last one, else on top.
+// Earlier ones are not looked at.
 fn keep_start(mem: &mut [u64], k: usize, id: u64) -> usize
-    requires { ⌜ (k < length (now mem)) × NextStart (topFirst k (now mem)) id ⌝ }
+    requires { ⌜ (k < length (now mem)) × All Cell (topFirst k (now mem)) × Cell id ⌝ }
     ensures { λ r. ⌜ Gives (keepStart (topFirst k (now (mem .entry))) id) k (now (mem .entry)) (now (mem .exit)) r ⌝ }
 {
     if 0 < k {
-        if cellid::contains(mem[k - 1], id) {
+        let last = mem[k - 1];
+        if cellid::contains(last, id) {
+            return k;
+        }
+        if cellid::contains(id, last) {
+            mem[k - 1] = id;
             return k;
         }
     }
-    let left = cellunion::clear_of(mem, k, id);
-    mem[left] = id;
-    left + 1
+    mem[k] = id;
+    k + 1
 }
 
-// The first n cells, which ascend and do not overlap, each moved to its adjusted level, with none inside another. Gives how many are left.
+// The first n cells, each moved to its adjusted level, and kept one after another. Gives how many are left.
 fn adjust_cell_levels(c: RegionCoverer, mem: &mut [u64], n: usize) -> usize
-    requires { ⌜ NumbersFit c × Cells n (now mem) × Apart (take n (now mem)) ⌝ }
+    requires { ⌜ NumbersFit c × Cells n (now mem) ⌝ }
     ensures { λ r. ⌜ (r ≡ length (adjustedFor c (take n (now (mem .entry))))) × (now (mem .exit) ≡ inPlace n (adjustedFor c (take n (now (mem .entry)))) (now (mem .entry))) ⌝ }
 {
     let mut kept: usize = 0;
@@ -199,7 +205,7 @@ fn adjust_cell_levels(c: RegionCoverer, mem: &mut [u64], n: usize) -> usize
 }
 
 // The cells that a run starts from, for any list of cells, in place of the first n words: the rough fast covering with at most four cells where
-// that goes, then moved to levels on step. Gives how many they are, at most six; they ascend, none lies in another, and every leaf of the list lies under one.
+// that goes, then moved to levels on step. Gives how many they are, at most six; every leaf of the list lies under one. With level_mod above 1 they may overlap.
 fn start_cells(c: RegionCoverer, mem: &mut [u64], n: usize) -> usize
     requires { ⌜ NumbersFit c × Cells n (now mem) ⌝ }
     ensures { λ r. ⌜ (r ≡ length (startsFor c (take n (now (mem .entry))))) × (now (mem .exit) ≡ inPlace n (startsFor c (take n (now (mem .entry)))) (now (mem .entry))) ⌝ }

@@ -1,8 +1,8 @@
 -- The promises for the public functions, from their contracts.
 use mathlib.Core.Path.{_≡_, refl, sym, ap, _∙_, subst}
 use mathlib.Core.Bool.{Bool, true, false}
-use mathlib.Core.List.{List}
-use Prim.Native.Nat.{ℕ, zero, suc, _%_, _≤_, _<_}
+use mathlib.Core.List.{List, [], _∷_}
+use Prim.Native.Nat.{ℕ, zero, suc, _*_, _%_, _^_, _≤_, _<_}
 use native.Mathlib.Omega.{arith}
 use lib.ListN.{length, take}
 use Rattle.cellid.specs.CellId.{levelOf}
@@ -14,16 +14,19 @@ use Rattle.region.proofs.Laws.{bound-cells}
 use Rattle.run.specs.declared.RegionCoverer.{RegionCoverer}
 use Rattle.fast.specs.Memory.{startsFor, fastCoveringFor}
 use Rattle.fast.proofs.Laws.{fast-apart, fast-leaves, fast-levels}
-use Rattle.run.specs.Run.{State, going, run, rawIds, sumOf, asideTotal}
-use Rattle.run.specs.Ground.{Fit}
+use Rattle.run.specs.Run.{State, going, run, after, rawIds, sumOf, asideTotal}
+use Rattle.run.specs.Ground.{Fit, Disjoint}
 use Rattle.run.proofs.Steps.{run-ends, inner-aside}
+use Rattle.run.proofs.Demand3.{raw-disjoint}
+use Rattle.run.proofs.Totals.{leaves-most}
+use Rattle.cellunion.proofs.Words.{apart-meets}
 use Rattle.coverer.specs.Coverer.{courseOf, outcomeOf}
 use Rattle.covering.specs.declared.Answer.{Answer}
 use Rattle.covering.specs.declared.Ending.{Ending}
 use Rattle.covering.specs.declared.Kind.{Kind}
 use Rattle.covering.specs.Covering.{listOf, askedOf, ranOf, resultOf, Answered}
 use Rattle.bars.proofs.Early.{Valid}
-use Rattle.fast.proofs.StartLaws.{starts-laws}
+use Rattle.fast.proofs.StartLaws.{Starting, starts-laws}
 use Rattle.covering.proofs.Starts.{starts-fit, run-domain, ran-cells}
 use Rattle.covering.proofs.Table.{RunFinished, Finished, answered-done}
 use Rattle.promises.specs.Promises.{OnLevels, Outer, Inner}
@@ -39,9 +42,17 @@ divides (suc (suc zero)) h k = refl
 divides (suc (suc (suc zero))) h k = refl
 divides (suc (suc (suc (suc m)))) h k = absurd (omega arith)
 
+apart-disjoint : (l : List ℕ) → Apart l → Disjoint l
+unfolding Disjoint
+apart-disjoint [] A = tt
+apart-disjoint (x ∷ l) A = let k = apart-meets x l A in (k .0, apart-disjoint l (k .1))
+
 -- ---- a run that ended, whichever list is asked for
 
 module _ (inner : Bool) (c : RegionCoverer) (a : Area) (allowance memory : ℕ) (v : Valid c a memory) where
+  begun : Starting (c .«min_level») (c .«max_level») (c .«level_mod») (boundOf a) (startsFor c (boundOf a))
+  begun = starts-laws _ _ _ _ (boundOf a) (v .«mod» .0) (bound-cells a (v .region))
+
   fit : All (Fit (askedOf c inner)) (startsFor c (boundOf a))
   fit = starts-fit c a (v .«mod» .0) (v .region) inner
 
@@ -73,11 +84,18 @@ module _ (inner : Bool) (c : RegionCoverer) (a : Area) (allowance memory : ℕ) 
       inner-list : inner ≡ true → Inner (courseOf (askedOf c inner) a) (startsFor c (boundOf a)) s l
       inner-list i = inner-keeps _ (run-domain c a memory v inner) _ (startsFor c (boundOf a)) fit allowance s run-is l words-same i
 
+    last : after (courseOf (askedOf c inner) a) (startsFor c (boundOf a)) (s .steps) ≡ going s
+    last = run-ends _ _ (startsFor c (boundOf a)) allowance s run-is .last
+
     none-aside : inner ≡ true → asideTotal s ≡ 0
     unfolding asideTotal sumOf
-    none-aside i =
-        let E = run-ends _ _ (startsFor c (boundOf a)) allowance s run-is in
-        ap (sumOf _) (inner-aside _ _ i (startsFor c (boundOf a)) (s .steps) s (E .last))
+    none-aside i = ap (sumOf _) (inner-aside _ _ i (startsFor c (boundOf a)) (s .steps) s last)
+
+    aside-most : asideTotal s ≤ 6 * 2 ^ 60
+    aside-most = omega (arith, begun .few, leaves-most _ (run-domain c a memory v inner) _ (startsFor c (boundOf a)) fit (s .steps) s last)
+
+    raw-once : c .«level_mod» ≤ 1 → Disjoint (rawIds s)
+    raw-once m = raw-disjoint _ (run-domain c a memory v inner) _ (startsFor c (boundOf a)) fit (apart-disjoint (startsFor c (boundOf a)) (begun .apart m)) (s .steps) s last
 
 -- ---- a success of each kind
 
@@ -88,11 +106,13 @@ module _ (c : RegionCoverer) (a : Area) (allowance memory : ℕ) (v : Valid c a 
     ran = F .ran;
     taken = F .taken;
     total = F .total;
+    most = omega (arith, F .total, aside-most false c a allowance memory v (F .state) (F .ran));
     counted = counted;
     list = F .list;
     keeps = outer-list false c a allowance memory v (F .state) (F .ran) e _ (F .list) refl;
+    once = λ m. raw-once false c a allowance memory v (F .state) (F .ran) (omega arith);
     levels = words-levels false c a allowance memory v (F .state) (F .ran) e _ (F .list);
-    covered = λ ids i. list-covered (askedOf c false) a ids i (v .region) _ _ _ (v .deep) (starts-laws _ _ _ _ (boundOf a) (v .«mod» .0) (bound-cells a (v .region)) .leaves)
+    covered = λ ids i. list-covered (askedOf c false) a ids i (v .region) _ _ _ (v .deep) (begun false c a allowance memory v .leaves)
         (outer-list false c a allowance memory v (F .state) (F .ran) e _ (F .list) refl);
   }
 
@@ -105,6 +125,7 @@ module _ (c : RegionCoverer) (a : Area) (allowance memory : ℕ) (v : Valid c a 
     counted = counted;
     list = F .list;
     keeps = inner-list true c a allowance memory v (F .state) (F .ran) e _ (F .list) refl;
+    once = λ m. raw-once true c a allowance memory v (F .state) (F .ran) (omega arith);
     levels = words-levels true c a allowance memory v (F .state) (F .ran) e _ (F .list);
     none-outside = λ ids i. list-within (askedOf c true) a ids i (v .region) _ _ _ (ran-cells c a memory v true allowance (F .state) (F .ran))
         (inner-list true c a allowance memory v (F .state) (F .ran) e _ (F .list) refl);

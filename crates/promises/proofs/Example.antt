@@ -1,5 +1,5 @@
--- Why demand 3 doesn't say that each final cell of an inner run passed the containment test: face 0 fails it, its four children pass, the run keeps the four,
--- and the final list is face 0.
+-- Two examples, by computing. Why demand 3 doesn't say that each final cell of an inner run passed the containment test: face 0 fails it, its four children
+-- pass, the run keeps the four, and the final list is face 0. And a list whose start cells overlap.
 use mathlib.Core.Path.{_≡_, refl}
 use mathlib.Core.Bool.{Bool, true, false, not}
 use mathlib.Core.List.{List, [], _∷_}
@@ -12,6 +12,7 @@ use Rattle.order.specs.Lex.{lexb, first}
 use Rattle.cellunion.specs.CellUnion.{normalise, pass, collapse, clearOf, isFour, rev}
 use Rattle.denorm.specs.Denorm.{denormalise, goal, below, cellsFrom}
 use Rattle.cellunion.specs.CellUnion as Union
+use Rattle.fast.specs.Fast.{adjusted, lifted, mergedIn, mergedCovering, fastCovering, keepStart, keepStarts, adjustedCells, startsOf}
 use Rattle.run.specs.Run.{Task, byCost, Outcome, refused, going, then, isEmpty, look, part, expand, reached, join, fourOf, expansionOf, depth, full, ending, lifts, cost, costOf, byId, keep, enqueue, setAside, isFull, isHandedOn, add, addAll, stepWith, stepOn, step, startAs, startAll, placed, after, loop, run, rawIds}
 
 abbrev pub face0 : ℕ
@@ -37,3 +38,9 @@ pub parent-fails :
     × (within face0 ≡ false)
 unfolding raw rawOf task within run after loop step stepOn stepWith startAll startAs add addAll isFull isHandedOn lifts keep enqueue setAside byId cost costOf expansionOf expand part reached look depth full fourOf join ending isEmpty then placed rawIds insert sort lexb first levelOf placeOf idOf childOf parentAt holds lowBit firstLeaf lastLeaf trailingZeros normalise denormalise pass Union.keepCell collapse clearOf isFour rev goal below cellsFrom
 parent-fails = (refl, refl, refl)
+
+-- with level_mod 3 the third cell goes to level 1 and holds the two kept before it: the last of them goes, the first stays
+pub start-in-start :
+    startsOf 1 6 3 3 (0x1a90000000000000 ∷ 0x1c10000000000000 ∷ 0x1dc0000000000000 ∷ []) ≡ 0x1a90000000000000 ∷ 0x1c00000000000000 ∷ []
+unfolding startsOf adjustedCells keepStarts keepStart fastCovering mergedCovering mergedIn lifted adjusted insert sort levelOf placeOf idOf parentAt holds lowBit firstLeaf lastLeaf trailingZeros normalise denormalise pass Union.keepCell collapse clearOf isFour rev goal below cellsFrom
+start-in-start = refl

@@ -3,7 +3,7 @@
 use mathlib.Core.Path.{_≡_}
 use mathlib.Core.Bool.{true, false}
 use mathlib.Core.List.{List}
-use Prim.Native.Nat.{ℕ}
+use Prim.Native.Nat.{ℕ, _*_, _^_, _≤_}
 use lib.ListN.{length, take}
 use Rattle.cellid.specs.CellId.{levelOf}
 use Rattle.order.specs.Order.{All}
@@ -13,6 +13,7 @@ use Rattle.region.specs.Region.{Area, listArea, boundOf}
 use Rattle.run.specs.declared.RegionCoverer.{RegionCoverer}
 use Rattle.fast.specs.Memory.{startsFor, fastCoveringFor}
 use Rattle.run.specs.Run.{State, going, rawIds, asideTotal}
+use Rattle.run.specs.Ground.{Disjoint}
 use Rattle.coverer.specs.Coverer.{courseOf}
 use Rattle.covering.specs.declared.Answer.{Answer}
 use Rattle.covering.specs.declared.Ending.{Ending}
@@ -30,9 +31,11 @@ pub record OuterDone (e : Ending) (c : RegionCoverer) (a : Area) (allowance : �
   pub ran : ranOf false c a allowance ≡ going state  -- demand 2's run
   pub taken : r .steps ≡ state .steps
   pub total : r .aside ≡ asideTotal state  -- "the reported set-aside total is theirs"
+  pub most : r .aside ≤ 6 * 2 ^ 60  -- a face's leaves for each of at most six start cells; what lies under two of them counts twice
   pub counted : r .count ≡ length (take (r .count) out)  -- the output has so many words
   pub list : take (r .count) out ≡ listOf e c (rawIds state)  -- the raw list in the order kept, or the one that is made of it
   pub keeps : Outer (courseOf (askedOf c false) a) (startsFor c (boundOf a)) state (take (r .count) out)
+  pub once : c .«level_mod» ≡ 1 → Disjoint (rawIds state)  -- no two raw cells overlap; with level_mod above 1 start cells may, and raw cells with them
   pub levels : e ≡ Ending.Covering → OnLevels (askedOf c false) (take (r .count) out)
   pub covered : (ids : List ℕ) → a ≡ listArea ids → CoversAll ids (take (r .count) out)  -- "covers every leaf of the list, with nothing asked about the tests"
 
@@ -45,6 +48,7 @@ pub record InnerDone (e : Ending) (c : RegionCoverer) (a : Area) (allowance : �
   pub counted : r .count ≡ length (take (r .count) out)
   pub list : take (r .count) out ≡ listOf e c (rawIds state)
   pub keeps : Inner (courseOf (askedOf c true) a) (startsFor c (boundOf a)) state (take (r .count) out)
+  pub once : c .«level_mod» ≡ 1 → Disjoint (rawIds state)
   pub levels : e ≡ Ending.Covering → OnLevels (askedOf c true) (take (r .count) out)
   pub none-outside : (ids : List ℕ) → a ≡ listArea ids → CoversAll (take (r .count) out) ids  -- of a list, "the inner answer has no leaf outside it"
 

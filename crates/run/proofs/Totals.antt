@@ -1,4 +1,4 @@
--- The set-aside total: how it grows, what one expansion adds to it, and that it fits 64 bits.
+-- The set-aside total: how it grows, what one expansion adds to it, and how large it may get.
 use mathlib.Core.Path.{_≡_, ap, _∙_, subst}
 use mathlib.Core.Bool.{Bool, false}
 use mathlib.Core.List.{List, [], _∷_, map}
@@ -33,16 +33,16 @@ pub leaves-le : (id : ℕ) → leavesOf id ≤ 2 ^ 60
 unfolding leavesOf
 leaves-le id = pow-mono {i = 2 * (30 - levelOf id)} {j = 60} (omega arith)
 
-pub sum-le : (l : List ℕ) → sumOf leavesOf l ≤ length l * 2 ^ 60
+sum-le : (l : List ℕ) → sumOf leavesOf l ≤ length l * 2 ^ 60
 unfolding sumOf
 sum-le [] = omega arith
 sum-le (x ∷ l) = omega (arith, leaves-le x, sum-le l)
 
--- six start cells: the total fits 64 bits
-pub aside-fits : (T : Task) (D : Domain (T .asked)) (lt : Grown → Grown → Bool) (starts : List ℕ) (ok : All (Fit (T .asked)) starts) → length starts ≤ 6
-    → (n : ℕ) (s : State) → after (T by lt) starts n ≡ going s → asideTotal s < 2 ^ 64
+-- queued and set-aside cells have at most a face's leaves for each start cell; what lies under two start cells counts twice
+pub leaves-most : (T : Task) (D : Domain (T .asked)) (lt : Grown → Grown → Bool) (starts : List ℕ) (ok : All (Fit (T .asked)) starts) (n : ℕ) (s : State)
+    → after (T by lt) starts n ≡ going s → sumOf (λ (c : Grown). leavesOf (c .id)) (s .queue) + asideTotal s ≤ length starts * 2 ^ 60
 unfolding asideTotal
-aside-fits T D lt starts ok six n s e =
+leaves-most T D lt starts ok n s e =
     let I = sums T D lt starts ok n s e (λ i id. leavesOf id) (λ i id L p c l. leaves-add id L p c l) in
     let r = rel-le (T .asked .inner) _ _ (I .sum) in
     omega (arith, sum-placed leavesOf 0 starts, sum-le starts)

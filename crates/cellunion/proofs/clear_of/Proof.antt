@@ -3,7 +3,7 @@ use Prim.Native.Nat.{_≤_}
 use native.Mathlib.Omega.{arith}
 use Rattle.cellunion.specs.CellUnion.{clearOf}
 use Rattle.cellunion.specs.Stack.{topFirst}
-use Rattle.cellunion.proofs.Runs.{clear-go, clear-stop, clear-end, clear-left}
+use Rattle.cellunion.proofs.Runs.{clear-go, clear-stop, clear-end}
 use Rattle.cellunion.proofs.clear_of.Statement.{statement}
 use Rattle.cellunion.proofs.clear_of.Tie as tie
 
@@ -40,12 +40,12 @@ loop-again c =
     (omega arith, sym (clear-go _ _ _ _ (c .before .before .before .loop-test .taken) (c .before .contains .ensures) (c .if1 .left)) ∙ L .inv .1)
 
 returns : tie.Need-returns Inv-loop μ-loop
-returns c = clear-left _ _ _ _ (c .before .loop .inv .0) (sym (clear-end _ _ _ (c .loop-test .left)) ∙ c .before .loop .inv .1)
+returns c = (c .before .loop .inv .0, sym (clear-end _ _ _ (c .loop-test .left)) ∙ c .before .loop .inv .1)
 
 returns-2 : tie.Need-returns-2 Inv-loop μ-loop
 returns-2 c =
     let L = c .before .before .before .before .loop in
-    clear-left _ _ _ _ (L .inv .0) (sym (clear-stop _ _ _ _ (c .before .before .before .loop-test .taken) (c .before .contains .ensures) (c .if1 .taken)) ∙ L .inv .1)
+    (L .inv .0, sym (clear-stop _ _ _ _ (c .before .before .before .loop-test .taken) (c .before .contains .ensures) (c .if1 .taken)) ∙ L .inv .1)
 
 pub clear-of-spec : {M : Type 1} → statement M
 clear-of-spec =

@@ -17,7 +17,7 @@ slice-read-contains : tie.Need-slice-read-contains
 slice-read-contains c = search needs
 
 contains-requires : tie.Need-contains-requires
-contains-requires c κs = head-pos _ _ _ (c .before .before .before .pre .1) (c .before .if1 .taken)
+contains-requires c κs = head-pos _ _ (c .before .before .before .pre .1 .stack .cells) (c .before .if1 .taken)
 
 returns : tie.Need-returns
 returns c = keep-skip _ _ _ _ (c .before .before .before .if1 .taken) (c .before .contains .ensures) (c .if2 .taken)

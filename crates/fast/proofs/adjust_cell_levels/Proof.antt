@@ -8,7 +8,7 @@ use Rattle.cellid.proofs.Laws.{level-le}
 use Rattle.fast.specs.Fast.{adjusted}
 use Rattle.fast.proofs.Levels.{adjusted-le}
 use Rattle.fast.proofs.StartLaws.{raised}
-use Rattle.fast.proofs.StartTurns.{Adjusting, adjusting-start, adjusting-next, adjusting-turn, adjusting-done}
+use Rattle.fast.proofs.StartTurns.{Adjusting, adjusting-start, adjusting-asks, adjusting-turn, adjusting-done}
 use Rattle.fast.proofs.adjust_cell_levels.Statement.{statement}
 use Rattle.fast.proofs.adjust_cell_levels.Tie as tie
 
@@ -25,7 +25,7 @@ up-is : (low step id level to up : ℕ) → level ≡ levelOf id → to ≡ adju
 up-is low step id level to up e f g = g ∙ ap (parentAt id) (f ∙ ap (adjusted low step) e)
 
 loop-holds : tie.Need-loop-holds Inv-loop μ-loop
-loop-holds c = let s = c .before in adjusting-start _ _ _ _ (s .pre .1 .0) (s .pre .1 .1) (s .pre .2)
+loop-holds c = let s = c .before in adjusting-start _ _ _ _ (s .pre .1 .0) (s .pre .1 .1)
 
 mul-id : tie.Need-mul-id Inv-loop μ-loop
 mul-id c = omega arith
@@ -46,7 +46,7 @@ keep-start-requires : tie.Need-keep-start-requires Inv-loop μ-loop
 keep-start-requires c κs =
     let p = c .before in
     let l = p .before .before .before .before .before in
-    adjusting-next _ _ _ _ _ _ _ _ (l .loop .inv) (p .before .before .before .before .loop-test .taken)
+    adjusting-asks _ _ _ _ _ _ _ _ (l .loop .inv) (p .before .before .before .before .loop-test .taken)
     (up-is _ _ _ _ _ _ (p .before .before .level .ensures) (p .before .adjust-level .ensures) (p .parent .ensures))
 
 add-i : tie.Need-add-i Inv-loop μ-loop
@@ -59,8 +59,8 @@ loop-again : tie.Need-loop-again Inv-loop μ-loop
 loop-again c =
     let p = c .before .before .before .before in
     let l = p .before .before .before .before .before in
-    adjusting-turn _ _ _ _ _ _ _ _ _ _ (l .loop .inv) (p .before .before .before .before .loop-test .taken)
-    (up-is _ _ _ _ _ _ (p .before .before .level .ensures) (p .before .adjust-level .ensures) (p .parent .ensures)) (c .before .before .keep-start .kept .0) (c .before .before .keep-start .ensures)
+    adjusting-turn _ _ _ _ _ _ _ _ (l .loop .inv) (p .before .before .before .before .loop-test .taken)
+    (up-is _ _ _ _ _ _ (p .before .before .level .ensures) (p .before .adjust-level .ensures) (p .parent .ensures)) _ _ (c .before .before .keep-start .kept .0) (c .before .before .keep-start .ensures)
 
 clear-requires : tie.Need-clear-requires Inv-loop μ-loop
 clear-requires c κs = let A = c .before .before .loop .inv in omega (arith, A .few, A .within, A .room, A .len)

@@ -22,8 +22,7 @@ adjust-cell-levels-requires c κs =
     let m = c .before .before .before .before .before in
     let l = m .before .before in
     let s = l .before .before in
-    let a = adjust-asks (s .args .c .«min_level») _ (s .args .c .«level_mod») _ _ _ (s .pre .1 .0) (s .pre .1 .1) _ _ _ (l .lesser .ensures) (m .merge-covering .ensures .0) (m .merge-covering .ensures .1) in
-    (s .pre .0, (a .0, a .1), a .2)
+    (s .pre .0, adjust-asks (s .args .c .«min_level») _ (s .args .c .«level_mod») _ _ _ (s .pre .1 .0) (s .pre .1 .1) _ _ _ (l .lesser .ensures) (m .merge-covering .ensures .0) (m .merge-covering .ensures .1))
 
 returns-2 : tie.Need-returns-2
 returns-2 c =
