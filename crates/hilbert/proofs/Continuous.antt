@@ -11,8 +11,8 @@ use borrow.Author.Tests.{eqb-true}
 use Rattle.cellid.specs.CellId.{IsCell, faceOf}
 use Rattle.cellid.proofs.Laws.{every, every-at}
 use Rattle.cellid.proofs.Parts.{upper, upper-step, upper-place}
-use Rattle.hilbert.specs.declared.Walk.{Walk}
-use Rattle.hilbert.specs.Curve.{ijAt, rowAt, posAt, turnOf, walk, faceIj}
+use Rattle.turns.specs.Turns.{rowAt, Walk}
+use Rattle.hilbert.specs.Curve.{ijAt, posAt, turnOf, walk, faceIj}
 use Rattle.hilbert.proofs.Laws.{ij-lt, walk-in}
 use Rattle.hilbert.proofs.Depth.{pos-upper, walk-same}
 

@@ -9,8 +9,10 @@ use borrow.Author.Tests.{eqb-true}
 use Rattle.cellid.specs.CellId.{IsCell, idOf, faceOf}
 use Rattle.cellid.proofs.Laws.{every, pow-pair, level-cell}
 use Rattle.cellid.proofs.Parts.{upper, upper-step}
-use Rattle.hilbert.specs.Curve.{ijAt, posAt, turnOf, walk, faceIj, indexIn, posOf, ijOf, stepOf, digits, leafOf}
-use Rattle.hilbert.proofs.Laws.{table, ij-lt, pos-lt, walk-in, digits-in, leaf-cell}
+use Rattle.turns.proofs.Laws.{table}
+use Rattle.positions.specs.Positions.{indexIn, ijOf, stepOf}
+use Rattle.hilbert.specs.Curve.{ijAt, posAt, turnOf, walk, faceIj, posOf, digits, leafOf}
+use Rattle.hilbert.proofs.Laws.{ij-lt, pos-lt, walk-in, digits-in, leaf-cell}
 use Rattle.hilbert.proofs.Depth.{pos-upper, walk-on}
 
 -- in each row the two tables undo each other
