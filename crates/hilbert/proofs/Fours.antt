@@ -3,31 +3,46 @@ use mathlib.Core.Path.{_≡_, refl, sym, ap, ap₂, _∙_}
 use Prim.Native.Nat.{ℕ, zero, suc, _+_, _-_, _*_, _/_, _%_, _^_, _≤_, _<_}
 use native.Mathlib.Nat.{add-zero, mul-left-comm}
 use native.Mathlib.Omega.{arith}
-use lib.Pow.{shr-shr, pow-add}
-use lib.Bits.{bitAnd, and-mask}
+use lib.Pow.{pow-add}
+use lib.Bits.{bitAnd}
 use Rattle.cellid.specs.CellId.{faceOf}
 use Rattle.turns.specs.Turns.{ijAt, rowAt, Walk, turnOf}
 use Rattle.turns.specs.Table.{pairAt, fourTurns, turnsWord}
-use Rattle.turns.proofs.Laws.{cut, Within, four-within, PackedWalk, turns-next}
+use Rattle.turns.proofs.Words.{bits-of}
+use Rattle.turns.proofs.Laws.{Within, four-within, PackedWalk, turns-next}
 use Rattle.positions.specs.Positions.{posOf, indexIn, ijOf, Digits, stepOf}
 use Rattle.positions.specs.Table.{fourSteps, stepsFrom, stepsWord}
 use Rattle.positions.proofs.Laws.{Below, four-below, steps-from, PackedDigits, steps-next}
 use Rattle.hilbert.specs.Curve.{posAt, walk, digits}
+use Rattle.hilbert.specs.Fours.{posFour, bitsFour}
+
+-- ---- four levels of either way
+
+-- from a level to the next by `step`, with the numbers d 29 to d 0; q 3 to q 0 are the four of these from the place 4 * k on
+four-levels : {A : Type 0} (step : A → ℕ → A) (w : ℕ → A) (d q : ℕ → ℕ) (n k : ℕ) → ((m : ℕ) → w (suc m) ≡ step (w m) (d (29 - m)))
+    → ((c : ℕ) → c < 4 → 4 * k + c < 30 → q c ≡ d (4 * k + c)) → n + 4 * k ≡ 26
+    → step (step (step (step (w n) (q 3)) (q 2)) (q 1)) (q 0) ≡ w (suc (suc (suc (suc n))))
+four-levels {A} step w d q n k s e h = level 0 (omega arith) (level 1 (omega arith) (level 2 (omega arith) (level 3 (omega arith) refl (omega arith)) (omega arith)) (omega arith)) (omega arith)
+  where
+    level : (c : ℕ) → c < 4 → {m : ℕ} {a : A} → a ≡ w m → m + 4 * k + c ≡ 29 → step a (q c) ≡ w (suc m)
+    level c b {m} f g = let t : 4 * k + c ≡ 29 - m = omega arith in ap₂ step f (e c b (omega arith) ∙ ap d t) ∙ sym (s m)
+
+-- the first four, of which two lead nowhere
+first-levels : {A : Type 0} (step : A → ℕ → A) (a : A) (d q : ℕ → ℕ) → step (step a 0) 0 ≡ a → (q 3 ≡ 0) × (q 2 ≡ 0)
+    → ((c : ℕ) → c < 4 → 4 * 7 + c < 30 → q c ≡ d (4 * 7 + c)) → step (step (step (step a (q 3)) (q 2)) (q 1)) (q 0) ≡ step (step a (d 29)) (d 28)
+first-levels step a d q i z e =
+    ap₂ step (ap₂ step (ap₂ (λ (x y : ℕ). step (step a x) y) (z .0) (z .1) ∙ i) (e 1 (omega arith) (omega arith))) (e 0 (omega arith) (omega arith))
 
 -- ---- from an id to its place
-
--- the k-th four positions from the right, of the thirty-two that are two positions 0 and those of the id
-abbrev pub posFour : ℕ → ℕ → ℕ
-posFour id k = id / 2 ^ 1 % 2 ^ 60 / 2 ^ (8 * k) % 2 ^ 8
 
 pos-in-four : (id k c : ℕ) → c < 4 → 4 * k + c < 30 → pairAt (posFour id k) c ≡ posAt id (4 * k + c)
 pos-in-four id k c h g =
     let e : 8 * k + 2 * c ≡ 2 * (4 * k + c) = omega arith in
     let f : 1 + 2 * (4 * k + c) ≡ 2 * (4 * k + c) + 1 = omega arith in
-    cut (id / 2 ^ 1 % 2 ^ 60 / 2 ^ (8 * k)) 8 (2 * c) 2 (omega arith)
-    ∙ ap (λ (x : ℕ). x % 4) (shr-shr (id / 2 ^ 1 % 2 ^ 60) (8 * k) (2 * c) ∙ ap (λ (t : ℕ). id / 2 ^ 1 % 2 ^ 60 / 2 ^ t) e)
-    ∙ cut (id / 2 ^ 1) 60 (2 * (4 * k + c)) 2 (omega arith)
-    ∙ ap (λ (x : ℕ). x % 4) (shr-shr id 1 (2 * (4 * k + c)) ∙ ap (λ (t : ℕ). id / 2 ^ t) f)
+    bits-of (id / 2 ^ 1 % 2 ^ 60) (8 * k) 8 (2 * c) 2 (omega arith)
+    ∙ ap (λ (t : ℕ). id / 2 ^ 1 % 2 ^ 60 / 2 ^ t % 4) e
+    ∙ bits-of id 1 60 (2 * (4 * k + c)) 2 (omega arith)
+    ∙ ap (λ (t : ℕ). id / 2 ^ t % 4) f
 
 -- where the first n fours lead
 unfoldable pub walkFours : ℕ → ℕ → Walk
@@ -37,21 +52,9 @@ walkFours id (suc n) = fourTurns (walkFours id n) (posFour id (7 - n))
 pub walk-fours-in : (id n : ℕ) → Within (4 * n) (walkFours id n)
 unfolding walkFours
 walk-fours-in id zero = record { i = omega arith; j = omega arith; row = omega arith }
-walk-fours-in id (suc n) = let e : 4 * suc n ≡ suc (suc (suc (suc (4 * n)))) = omega arith in
+walk-fours-in id (suc n) =
+    let e : 4 * suc n ≡ suc (suc (suc (suc (4 * n)))) = omega arith in
     rw e (four-within (4 * n) (posFour id (7 - n)) (walkFours id n) (walk-fours-in id n))
-
--- four levels of the walk
-four-walk : (id n k : ℕ) → n + 4 * k ≡ 26 → fourTurns (walk id n) (posFour id k) ≡ walk id (suc (suc (suc (suc n))))
-unfolding fourTurns walk
-four-walk id n k e =
-    ap₂ turnOf
-    (ap₂ turnOf
-    (ap₂ turnOf (ap (turnOf (walk id n)) (at 3 n (omega arith) (omega arith))) (at 2 (suc n) (omega arith) (omega arith)))
-    (at 1 (suc (suc n)) (omega arith) (omega arith)))
-    (at 0 (suc (suc (suc n))) (omega arith) (omega arith))
-  where
-    at : (c m : ℕ) → c < 4 → m + 4 * k + c ≡ 29 → pairAt (posFour id k) c ≡ posAt id (29 - m)
-    at c m h f = let g : 4 * k + c ≡ 29 - m = omega arith in pos-in-four id k c h (omega arith) ∙ ap (posAt id) g
 
 -- two turns at position 0, from the rows of a face
 idle-turns : (row : ℕ) → row < 2 → turnOf (turnOf (record { i = 0; j = 0; row = row }) 0) 0 ≡ record { i = 0; j = 0; row = row }
@@ -63,39 +66,24 @@ idle-turns (suc (suc row)) h = absurd (omega (arith, h))
 -- two levels of the id's own, and four with each four more
 pub walk-by-fours : (id n : ℕ) → n < 8 → walkFours id (suc n) ≡ walk id (2 + 4 * n)
 unfolding walkFours walk fourTurns
-walk-by-fours id zero h =
-    let a : pairAt (posFour id 7) 3 ≡ 0 = omega arith in
-    let b : pairAt (posFour id 7) 2 ≡ 0 = omega arith in
-    ap₂ turnOf
-    (ap₂ turnOf (ap₂ (λ (x y : ℕ). turnOf (turnOf (record { i = 0; j = 0; row = faceOf id % 2 }) x) y) a b ∙ idle-turns (faceOf id % 2) (omega arith)) (pos-in-four id 7 1 (omega arith) (omega arith)))
-    (pos-in-four id 7 0 (omega arith) (omega arith))
+walk-by-fours id zero h = first-levels turnOf _ (posAt id) (pairAt (posFour id 7)) (idle-turns (faceOf id % 2) (omega arith)) (omega arith, omega arith) (pos-in-four id 7)
 walk-by-fours id (suc n) h =
     let e : 2 + 4 * suc n ≡ suc (suc (suc (suc (2 + 4 * n)))) = omega arith in
-    rw (e, walk-by-fours id n (omega arith)) (four-walk id (2 + 4 * n) (7 - suc n) (omega arith))
+    rw (e, walk-by-fours id n (omega arith)) (four-levels turnOf (walk id) (posAt id) (pairAt (posFour id (7 - suc n))) (2 + 4 * n) (7 - suc n) (λ m. refl) (pos-in-four id (7 - suc n)) (omega arith))
 
--- one turn of the loop: the next four positions, cut out of the id
-pub four-more : (id k ij row word : ℕ) → 0 < k → k ≤ 8 → PackedWalk (walkFours id (8 - k)) ij row
-    → word ≡ turnsWord (bitAnd (bitAnd (id / 2 ^ 1) (2 ^ 60 - 1) / 2 ^ (8 * (k - 1))) (2 ^ 8 - 1))
+-- one turn of the loop
+pub four-more : (id k ij row word : ℕ) → 0 < k → k ≤ 8 → PackedWalk (walkFours id (8 - k)) ij row → word ≡ turnsWord (posFour id (k - 1))
     → PackedWalk (walkFours id (8 - (k - 1))) (16 * ij + bitAnd (word / 2 ^ row) 0xf0000000f) (bitAnd (word / 2 ^ row / 2 ^ 16) 12)
 unfolding walkFours
 four-more id k ij row word h g p f =
     let n : 8 - (k - 1) ≡ suc (8 - k) = omega arith in
     let m : 7 - (8 - k) ≡ k - 1 = omega arith in
-    rw (n, walkFours, m)
-    (turns-next _ word ij row (walkFours id (8 - k)) (walk-fours-in id (8 - k) .row) p
-    (f ∙ ap turnsWord (and-mask (bitAnd (id / 2 ^ 1) (2 ^ 60 - 1) / 2 ^ (8 * (k - 1))) 8 ∙ ap (λ (x : ℕ). x / 2 ^ (8 * (k - 1)) % 2 ^ 8) (and-mask (id / 2 ^ 1) 60))))
+    rw (n, walkFours, m) (turns-next _ word ij row (walkFours id (8 - k)) (walk-fours-in id (8 - k) .row) p f)
 
 -- ---- from a place to its leaf
 
--- the k-th four bits from the right
-abbrev pub bitsFour : ℕ → ℕ → ℕ
-bitsFour x k = x / 2 ^ (4 * k) % 2 ^ 4
-
-quarter-in-four : (i j k c : ℕ) → c < 4 → ijOf (bitsFour i k) (bitsFour j k) c ≡ ijOf i j (4 * k + c)
-quarter-in-four i j k c h = ap₂ (λ (x y : ℕ). 2 * x + y) (bit i) (bit j)
-  where
-    bit : (x : ℕ) → bitsFour x k / 2 ^ c % 2 ≡ x / 2 ^ (4 * k + c) % 2
-    bit x = cut (x / 2 ^ (4 * k)) 4 c 1 (omega arith) ∙ ap (λ (y : ℕ). y % 2) (shr-shr x (4 * k) c)
+quarter-in-four : (i j k c : ℕ) → c < 4 → 4 * k + c < 30 → ijOf (bitsFour i k) (bitsFour j k) c ≡ ijOf i j (4 * k + c)
+quarter-in-four i j k c h g = ap₂ (λ (x y : ℕ). 2 * x + y) (bits-of i (4 * k) 4 c 1 (omega arith)) (bits-of j (4 * k) 4 c 1 (omega arith))
 
 -- the positions that the first n fours take
 unfoldable pub digitFours : ℕ → ℕ → ℕ → ℕ → Digits
@@ -110,18 +98,12 @@ digit-fours-in face i j (suc n) =
     let p : 2 ^ (8 * suc n) ≡ 4 * (4 * (4 * (4 * 2 ^ (8 * n)))) = ap (λ (k : ℕ). 2 ^ k) e ∙ pow-add 2 8 (8 * n) ∙ omega arith in
     rw p (four-below (2 ^ (8 * n)) (bitsFour i (7 - n)) (bitsFour j (7 - n)) (digitFours face i j n) (digit-fours-in face i j n))
 
--- four levels of the digits
-four-digits : (face i j n k : ℕ) → n + 4 * k ≡ 26 → fourSteps (digits face i j n) (bitsFour i k) (bitsFour j k) ≡ digits face i j (suc (suc (suc (suc n))))
-unfolding fourSteps digits
-four-digits face i j n k e =
-    ap₂ stepOf
-    (ap₂ stepOf
-    (ap₂ stepOf (ap (stepOf (digits face i j n)) (at 3 n (omega arith) (omega arith))) (at 2 (suc n) (omega arith) (omega arith)))
-    (at 1 (suc (suc n)) (omega arith) (omega arith)))
-    (at 0 (suc (suc (suc n))) (omega arith) (omega arith))
-  where
-    at : (c m : ℕ) → c < 4 → m + 4 * k + c ≡ 29 → ijOf (bitsFour i k) (bitsFour j k) c ≡ ijOf i j (29 - m)
-    at c m h f = let g : 4 * k + c ≡ 29 - m = omega arith in quarter-in-four i j k c h ∙ ap (ijOf i j) g
+-- two levels at quarter 0, from the rows of a face
+idle-steps : (row : ℕ) → row < 2 → stepOf (stepOf (record { n = 0; row = row }) 0) 0 ≡ record { n = 0; row = row }
+unfolding stepOf posOf indexIn rowAt
+idle-steps zero h = refl
+idle-steps (suc zero) h = refl
+idle-steps (suc (suc row)) h = absurd (omega (arith, h))
 
 -- what stands before the digits stays before them
 abbrev pub behind : ℕ → Digits → Digits
@@ -136,55 +118,35 @@ four-behind x i j d =
     let e : 256 * (x + d .n) + stepsFrom (d .row) i j .n ≡ 256 * x + (256 * d .n + stepsFrom (d .row) i j .n) = omega arith in
     steps-from (behind x d) i j ∙ ap (λ (y : ℕ). record { n = y; row = stepsFrom (d .row) i j .row }) e ∙ ap (behind (256 * x)) (sym (steps-from d i j))
 
--- two steps at quarter 0, from the rows of a face
-idle-steps : (row : ℕ) → row < 2 → stepOf (stepOf (record { n = 0; row = row }) 0) 0 ≡ record { n = 0; row = row }
-unfolding stepOf posOf indexIn rowAt
-idle-steps zero h = refl
-idle-steps (suc zero) h = refl
-idle-steps (suc (suc row)) h = absurd (omega (arith, h))
-
-first-four : (row i j : ℕ) → row < 2 → i < 2 ^ 30 → j < 2 ^ 30
-    → fourSteps (record { n = 0; row = row }) (bitsFour i 7) (bitsFour j 7) ≡ stepOf (stepOf (record { n = 0; row = row }) (ijOf i j 29)) (ijOf i j 28)
-unfolding fourSteps
-first-four row i j h f g =
-    let a : ijOf (bitsFour i 7) (bitsFour j 7) 3 ≡ 0 = omega arith in
-    let b : ijOf (bitsFour i 7) (bitsFour j 7) 2 ≡ 0 = omega arith in
-    ap₂ stepOf
-    (ap₂ stepOf (ap₂ (λ (x y : ℕ). stepOf (stepOf (record { n = 0; row = row }) x) y) a b ∙ idle-steps row h) (quarter-in-four i j 7 1 (omega arith)))
-    (quarter-in-four i j 7 0 (omega arith))
-
 -- two levels of the place's own behind the face, and four with each four more
 pub digits-by-fours : (face i j n : ℕ) → n < 8 → i < 2 ^ 30 → j < 2 ^ 30
     → digits face i j (2 + 4 * n) ≡ behind (face * 2 ^ (2 * (2 + 4 * n))) (digitFours face i j (suc n))
-unfolding digitFours digits
+unfolding digitFours digits fourSteps
 digits-by-fours face i j zero h f g =
     let d : Digits = record { n = 0; row = face % 2 } in
     let e : 4 * (4 * face) ≡ face * 16 = omega arith in
     ap (λ (x : ℕ). stepOf (stepOf (record { n = x; row = face % 2 }) (ijOf i j 29)) (ijOf i j 28)) (sym (add-zero face))
     ∙ ap (λ (x : Digits). stepOf x (ijOf i j 28)) (step-behind face (ijOf i j 29) d)
     ∙ step-behind (4 * face) (ijOf i j 28) (stepOf d (ijOf i j 29))
-    ∙ ap₂ behind e (sym (first-four (face % 2) i j (omega arith) f g))
+    ∙ ap₂ behind e (sym (first-levels stepOf d (ijOf i j) (ijOf (bitsFour i 7) (bitsFour j 7)) (idle-steps (face % 2) (omega arith)) (omega arith, omega arith) (quarter-in-four i j 7)))
 digits-by-fours face i j (suc n) h f g =
     let e : 2 + 4 * suc n ≡ suc (suc (suc (suc (2 + 4 * n)))) = omega arith in
     let t : 2 * (2 + 4 * suc n) ≡ 8 + 2 * (2 + 4 * n) = omega arith in
     let p : 256 * (face * 2 ^ (2 * (2 + 4 * n))) ≡ face * 2 ^ (2 * (2 + 4 * suc n)) =
     mul-left-comm 256 face (2 ^ (2 * (2 + 4 * n))) ∙ ap (λ (x : ℕ). face * x) (sym (pow-add 2 8 (2 * (2 + 4 * n))) ∙ ap (λ (k : ℕ). 2 ^ k) (sym t)) in
+    let k = 7 - suc n in
     ap (digits face i j) e
-    ∙ sym (four-digits face i j (2 + 4 * n) (7 - suc n) (omega arith))
-    ∙ ap (λ (d : Digits). fourSteps d (bitsFour i (7 - suc n)) (bitsFour j (7 - suc n))) (digits-by-fours face i j n (omega arith) f g)
-    ∙ four-behind (face * 2 ^ (2 * (2 + 4 * n))) (bitsFour i (7 - suc n)) (bitsFour j (7 - suc n)) (digitFours face i j (suc n))
+    ∙ sym (four-levels stepOf (digits face i j) (ijOf i j) (ijOf (bitsFour i k) (bitsFour j k)) (2 + 4 * n) k (λ m. refl) (quarter-in-four i j k) (omega arith))
+    ∙ ap (λ (d : Digits). fourSteps d (bitsFour i k) (bitsFour j k)) (digits-by-fours face i j n (omega arith) f g)
+    ∙ four-behind (face * 2 ^ (2 * (2 + 4 * n))) (bitsFour i k) (bitsFour j k) (digitFours face i j (suc n))
     ∙ ap (λ (x : ℕ). behind x (digitFours face i j (suc (suc n)))) p
 
--- one turn of the loop: the next four bits of i and of j
+-- one turn of the loop
 pub four-back : (face i j k n row word : ℕ) → 0 < k → k ≤ 8 → PackedDigits (digitFours face i j (8 - k)) n row
-    → let ij = 16 * bitAnd (i / 2 ^ (4 * (k - 1))) (2 ^ 4 - 1) + bitAnd (j / 2 ^ (4 * (k - 1))) (2 ^ 4 - 1) in
-    word ≡ stepsWord (ij / 16) (ij % 16)
+    → let ij = 16 * bitsFour i (k - 1) + bitsFour j (k - 1) in word ≡ stepsWord (ij / 16) (ij % 16)
     → PackedDigits (digitFours face i j (8 - (k - 1))) (256 * n + bitAnd (word / 2 ^ row) 255) (bitAnd (word / 2 ^ row / 2 ^ 32) 24)
 unfolding digitFours
 four-back face i j k n row word h g p f =
     let s : 8 - (k - 1) ≡ suc (8 - k) = omega arith in
     let m : 7 - (8 - k) ≡ k - 1 = omega arith in
-    let a = and-mask (i / 2 ^ (4 * (k - 1))) 4 in
-    let b = and-mask (j / 2 ^ (4 * (k - 1))) 4 in
-    rw (s, digitFours, m)
-    (steps-next _ _ word n row (digitFours face i j (8 - k)) (digit-fours-in face i j (8 - k) .row) p (f ∙ ap₂ stepsWord (omega (arith, a, b)) (omega (arith, a, b))))
+    rw (s, digitFours, m) (steps-next _ _ word n row (digitFours face i j (8 - k)) (digit-fours-in face i j (8 - k) .row) p (f ∙ ap₂ stepsWord (omega arith) (omega arith)))

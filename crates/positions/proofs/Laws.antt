@@ -1,4 +1,4 @@
--- Laws of one step and of four, and what a row finds in a word of the table.
+-- Laws of one level of the way back and of four, what a row finds in a word of the table, and how the way goes on by it.
 use mathlib.Core.Path.{_≡_, refl, sym, ap, _∙_}
 use Prim.Native.Nat.{ℕ, _+_, _*_, _/_, _%_, _^_, _<_}
 use native.Mathlib.Omega.{arith}
@@ -7,8 +7,8 @@ use lib.Dec.{ltb}
 use borrow.Author.Tests.{ltb-true}
 use Rattle.cellid.proofs.Laws.{every}
 use Rattle.turns.specs.Turns.{rowAt}
-use Rattle.turns.specs.Table.{byRow}
-use Rattle.turns.proofs.Laws.{table, row-lt, by-row-lt, in-word}
+use Rattle.turns.proofs.Words.{by-row-lt, in-word}
+use Rattle.turns.proofs.Laws.{table, row-lt}
 use Rattle.positions.specs.Positions.{indexIn, posOf, ijOf, Digits, stepOf}
 use Rattle.positions.specs.Table.{fourSteps, stepsFrom, stepsWord}
 

@@ -1,16 +1,17 @@
--- Laws of one turn and of four, and what a row finds in a word of the table.
+-- Laws of one turn and of four, what a row finds in a word of the table, and how a walk goes on by it.
 use mathlib.Core.Path.{_≡_, refl, sym, ap, ap₂, _∙_}
 use mathlib.Core.Bool.{Bool, true}
-use Prim.Native.Nat.{ℕ, zero, suc, _+_, _-_, _*_, _/_, _%_, _^_, _≤_, _<_}
-use native.Mathlib.Nat.{div-one, mod-eq-of-lt, mul-le-mul-left, mul-le-mul-right, suc-mul, mul-suc, add-comm, pow-suc}
+use Prim.Native.Nat.{ℕ, suc, _+_, _-_, _*_, _/_, _%_, _^_, _≤_, _<_}
+use native.Mathlib.Nat.{pow-suc}
 use native.Mathlib.Omega.{arith}
-use lib.Pow.{shr-shr, field, mod-mod-pow, high, low, split, pow-add, pow-mono}
+use lib.Pow.{split, pow-mono}
 use lib.Bits.{bitAnd, and-mask, and-high, and-block}
 use lib.Dec.{ltb}
 use borrow.Author.Tests.{ltb-true}
 use Rattle.cellid.proofs.Laws.{every, every-at}
 use Rattle.turns.specs.Turns.{ijAt, rowAt, Walk, turnOf}
-use Rattle.turns.specs.Table.{fourTurns, turnsFrom, byRow, turnsWord}
+use Rattle.turns.specs.Table.{fourTurns, turnsFrom, turnsWord}
+use Rattle.turns.proofs.Words.{by-row-lt, in-word}
 
 -- what antt computes of each row and each place in it
 pub table : (f : ℕ → ℕ → Bool) → every 4 (λ row. every 4 (f row)) ≡ true → (row k : ℕ) → row < 4 → k < 4 → f row k ≡ true
@@ -51,51 +52,6 @@ turns-from w pos = ap₂ (λ (x y : ℕ). record { i = x; j = y; row = turnsFrom
   where
     bits : (x a b c d : ℕ) → 2 * (2 * (2 * (2 * x + a) + b) + c) + d ≡ 16 * x + (2 * (2 * (2 * (2 * 0 + a) + b) + c) + d)
     bits x a b c d = omega arith
-
--- ---- what stands side by side
-
--- bits of a number's last N bits are its own
-pub cut : (x N t b : ℕ) → t + b ≤ N → x % 2 ^ N / 2 ^ t % 2 ^ b ≡ x / 2 ^ t % 2 ^ b
-cut x N t b h =
-    let e : N ≡ (N - t - b + b) + t = omega arith in
-    rw e (ap (λ (y : ℕ). y % 2 ^ b) (field x (N - t - b + b) t) ∙ mod-mod-pow (x / 2 ^ t) (N - t - b) b)
-
--- one more to the right
-past : (x s t : ℕ) {y : ℕ} → y < 2 ^ s → (x * 2 ^ s + y) / 2 ^ (s + t) ≡ x / 2 ^ t
-past x s t {y} h = sym (shr-shr (x * 2 ^ s + y) s t) ∙ ap (λ (z : ℕ). z / 2 ^ t) (high x s h)
-
-beside-lt : (x k s : ℕ) {y : ℕ} → x < 2 ^ k → y < 2 ^ s → x * 2 ^ s + y < 2 ^ (k + s)
-beside-lt x k s {y} h g = rw (pow-add 2 k s) (omega (arith, mul-le-mul-right (2 ^ s) h, suc-mul x (2 ^ s)))
-
--- the number of a row
-at-row : (s : ℕ) (f : ℕ → ℕ) (row : ℕ) → row < 4 → ((r : ℕ) → r < 4 → f r < 2 ^ s) → byRow s f / 2 ^ (s * row) % 2 ^ s ≡ f row
-unfolding byRow
-at-row s f zero h b = let e : s * 0 ≡ 0 = omega arith in rw (e, div-one (byRow s f)) (low _ s (b 0 h))
-at-row s f (suc zero) h b = let e : s * 1 ≡ s + 0 = omega arith in rw (e, past _ s 0 (b 0 (omega arith)), div-one) (low _ s (b 1 h))
-at-row s f (suc (suc zero)) h b =
-    let e : s * 2 ≡ s + (s + 0) = omega arith in
-    rw (e, past _ s (s + 0) (b 0 (omega arith)), past _ s 0 (b 1 (omega arith)), div-one) (low _ s (b 2 h))
-at-row s f (suc (suc (suc zero))) h b =
-    let e : s * 3 ≡ s + (s + (s + 0)) = omega arith in
-    rw (e, past _ s (s + (s + 0)) (b 0 (omega arith)), past _ s (s + 0) (b 1 (omega arith)), past _ s 0 (b 2 (omega arith)), div-one) (mod-eq-of-lt (b 3 h))
-at-row s f (suc (suc (suc (suc row)))) h b = omega (arith, h)
-
-pub by-row-lt : (s : ℕ) (f : ℕ → ℕ) → ((r : ℕ) → r < 4 → f r < 2 ^ s) → byRow s f < 2 ^ (s + s + s + s)
-unfolding byRow
-by-row-lt s f b = beside-lt _ (s + s + s) s (beside-lt _ (s + s) s (beside-lt _ s s (b 3 (omega arith)) (b 2 (omega arith))) (b 1 (omega arith))) (b 0 (omega arith))
-
--- of a word that has them from its bit g on
-pub in-word : (x g s : ℕ) (f : ℕ → ℕ) (row : ℕ) → row < 4 → ((r : ℕ) → r < 4 → f r < 2 ^ s) → x / 2 ^ g % 2 ^ (s + s + s + s) ≡ byRow s f
-    → x / 2 ^ (s * row) / 2 ^ g % 2 ^ s ≡ f row
-in-word x g s f row h b e =
-    let l : s * row + s ≤ s + s + s + s = room s row h in
-    ap (λ (y : ℕ). y % 2 ^ s) (shr-shr x (s * row) g ∙ ap (λ (n : ℕ). x / 2 ^ n) (add-comm (s * row) g) ∙ sym (shr-shr x g (s * row)))
-    ∙ sym (cut (x / 2 ^ g) (s + s + s + s) (s * row) s l)
-    ∙ ap (λ (y : ℕ). y / 2 ^ (s * row) % 2 ^ s) e
-    ∙ at-row s f row h b
-  where
-    room : (s row : ℕ) → row < 4 → s * row + s ≤ s + s + s + s
-    room s row h = omega (arith, mul-le-mul-left s h, mul-suc s row)
 
 -- ---- a word of the table
 
