@@ -1,19 +1,20 @@
 -- Thirty levels as eight times four, both ways: the first four begin two levels above the face, and those two lead nowhere.
 use mathlib.Core.Path.{_≡_, refl, sym, ap, ap₂, _∙_}
 use Prim.Native.Nat.{ℕ, zero, suc, _+_, _-_, _*_, _/_, _%_, _^_, _≤_, _<_}
-use native.Mathlib.Nat.{add-zero, mul-left-comm}
+use native.Mathlib.Nat.{mul-left-comm}
 use native.Mathlib.Omega.{arith}
 use lib.Pow.{pow-add}
 use lib.Bits.{bitAnd}
 use Rattle.cellid.specs.CellId.{faceOf}
+use Rattle.cellid.proofs.Laws.{pow-pair}
 use Rattle.turns.specs.Turns.{ijAt, rowAt, Walk, turnOf}
 use Rattle.turns.specs.Table.{pairAt, fourTurns, turnsWord}
 use Rattle.turns.proofs.Words.{bits-of}
 use Rattle.turns.proofs.Laws.{Within, four-within, PackedWalk, turns-next}
 use Rattle.positions.specs.Positions.{posOf, indexIn, ijOf, Digits, stepOf}
-use Rattle.positions.specs.Table.{fourSteps, stepsFrom, stepsWord}
-use Rattle.positions.proofs.Laws.{Below, four-below, steps-from, PackedDigits, steps-next}
-use Rattle.hilbert.specs.Curve.{posAt, walk, digits}
+use Rattle.positions.specs.Table.{fourSteps, stepsWord}
+use Rattle.positions.proofs.Laws.{Below, four-below, PackedDigits, steps-next}
+use Rattle.hilbert.specs.Curve.{posAt, walk, digits, leafOf}
 use Rattle.hilbert.specs.Fours.{posFour, bitsFour}
 
 -- ---- four levels of either way
@@ -105,41 +106,34 @@ idle-steps zero h = refl
 idle-steps (suc zero) h = refl
 idle-steps (suc (suc row)) h = absurd (omega (arith, h))
 
--- what stands before the digits stays before them
-abbrev pub behind : ℕ → Digits → Digits
-behind x d = record { n = x + d .n; row = d .row }
+-- the first n pairs of bits of the leaf at i, j, with no face before them
+unfoldable pairs : ℕ → ℕ → ℕ → ℕ → Digits
+pairs face i j zero = record { n = 0; row = face % 2 }
+pairs face i j (suc n) = stepOf (pairs face i j n) (ijOf i j (29 - n))
 
-step-behind : (x ij : ℕ) (d : Digits) → stepOf (behind x d) ij ≡ behind (4 * x) (stepOf d ij)
-unfolding stepOf
-step-behind x ij d = ap (λ (y : ℕ). record { n = y; row = stepOf d ij .row }) (omega arith)
-
-four-behind : (x i j : ℕ) (d : Digits) → fourSteps (behind x d) i j ≡ behind (256 * x) (fourSteps d i j)
-four-behind x i j d =
-    let e : 256 * (x + d .n) + stepsFrom (d .row) i j .n ≡ 256 * x + (256 * d .n + stepsFrom (d .row) i j .n) = omega arith in
-    steps-from (behind x d) i j ∙ ap (λ (y : ℕ). record { n = y; row = stepsFrom (d .row) i j .row }) e ∙ ap (behind (256 * x)) (sym (steps-from d i j))
-
--- two levels of the place's own behind the face, and four with each four more
-pub digits-by-fours : (face i j n : ℕ) → n < 8 → i < 2 ^ 30 → j < 2 ^ 30
-    → digits face i j (2 + 4 * n) ≡ behind (face * 2 ^ (2 * (2 + 4 * n))) (digitFours face i j (suc n))
-unfolding digitFours digits fourSteps
-digits-by-fours face i j zero h f g =
-    let d : Digits = record { n = 0; row = face % 2 } in
-    let e : 4 * (4 * face) ≡ face * 16 = omega arith in
-    ap (λ (x : ℕ). stepOf (stepOf (record { n = x; row = face % 2 }) (ijOf i j 29)) (ijOf i j 28)) (sym (add-zero face))
-    ∙ ap (λ (x : Digits). stepOf x (ijOf i j 28)) (step-behind face (ijOf i j 29) d)
-    ∙ step-behind (4 * face) (ijOf i j 28) (stepOf d (ijOf i j 29))
-    ∙ ap₂ behind e (sym (first-levels stepOf d (ijOf i j) (ijOf (bitsFour i 7) (bitsFour j 7)) (idle-steps (face % 2) (omega arith)) (omega arith, omega arith) (quarter-in-four i j 7)))
-digits-by-fours face i j (suc n) h f g =
+-- two levels of the place's own, and four with each four more
+pairs-by-fours : (face i j n : ℕ) → n < 8 → i < 2 ^ 30 → j < 2 ^ 30 → digitFours face i j (suc n) ≡ pairs face i j (2 + 4 * n)
+unfolding digitFours pairs fourSteps
+pairs-by-fours face i j zero h f g =
+    first-levels stepOf _ (ijOf i j) (ijOf (bitsFour i 7) (bitsFour j 7)) (idle-steps (face % 2) (omega arith)) (omega arith, omega arith) (quarter-in-four i j 7)
+pairs-by-fours face i j (suc n) h f g =
     let e : 2 + 4 * suc n ≡ suc (suc (suc (suc (2 + 4 * n)))) = omega arith in
-    let t : 2 * (2 + 4 * suc n) ≡ 8 + 2 * (2 + 4 * n) = omega arith in
-    let p : 256 * (face * 2 ^ (2 * (2 + 4 * n))) ≡ face * 2 ^ (2 * (2 + 4 * suc n)) =
-    mul-left-comm 256 face (2 ^ (2 * (2 + 4 * n))) ∙ ap (λ (x : ℕ). face * x) (sym (pow-add 2 8 (2 * (2 + 4 * n))) ∙ ap (λ (k : ℕ). 2 ^ k) (sym t)) in
     let k = 7 - suc n in
-    ap (digits face i j) e
-    ∙ sym (four-levels stepOf (digits face i j) (ijOf i j) (ijOf (bitsFour i k) (bitsFour j k)) (2 + 4 * n) k (λ m. refl) (quarter-in-four i j k) (omega arith))
-    ∙ ap (λ (d : Digits). fourSteps d (bitsFour i k) (bitsFour j k)) (digits-by-fours face i j n (omega arith) f g)
-    ∙ four-behind (face * 2 ^ (2 * (2 + 4 * n))) (bitsFour i k) (bitsFour j k) (digitFours face i j (suc n))
-    ∙ ap (λ (x : ℕ). behind x (digitFours face i j (suc (suc n)))) p
+    rw (e, pairs-by-fours face i j n (omega arith) f g)
+    (four-levels stepOf (pairs face i j) (ijOf i j) (ijOf (bitsFour i k) (bitsFour j k)) (2 + 4 * n) k (λ m. refl) (quarter-in-four i j k) (omega arith))
+
+-- the face stands before them
+digits-pairs : (face i j n : ℕ) → digits face i j n ≡ record { n = face * 2 ^ (2 * n) + pairs face i j n .n; row = pairs face i j n .row }
+unfolding digits pairs stepOf
+digits-pairs face i j zero = ap (λ (x : ℕ). record { n = x; row = face % 2 }) (omega arith)
+digits-pairs face i j (suc n) =
+    let p : face * 2 ^ (2 * suc n) ≡ 4 * (face * 2 ^ (2 * n)) = ap (λ (x : ℕ). face * x) (pow-pair n (suc n) (omega arith)) ∙ mul-left-comm face 4 (2 ^ (2 * n)) in
+    rw (digits-pairs face i j n) (ap (λ (x : ℕ). record { n = x; row = pairs face i j (suc n) .row }) (omega (arith, p)))
+
+-- so the leaf's id is its face, what eight fours take, a one
+pub leaf-by-fours : (face i j : ℕ) → i < 2 ^ 30 → j < 2 ^ 30 → leafOf face i j ≡ face * 2 ^ 61 + 2 * digitFours face i j 8 .n + 1
+unfolding leafOf
+leaf-by-fours face i j f g = rw (digits-pairs face i j 30, pairs-by-fours face i j 7 (omega arith) f g) (omega arith)
 
 -- one turn of the loop
 pub four-back : (face i j k n row word : ℕ) → 0 < k → k ≤ 8 → PackedDigits (digitFours face i j (8 - k)) n row

@@ -34,7 +34,7 @@ four-below N i j d b =
     step-below _ _ _ (omega arith) (step-below _ _ _ (omega arith) (step-below _ _ _ (omega arith) (step-below N _ d (omega arith) b)))
 
 -- from where the way stands: four positions more, as from no digits
-pub steps-from : (d : Digits) (i j : ℕ) → fourSteps d i j ≡ record { n = 256 * d .n + stepsFrom (d .row) i j .n; row = stepsFrom (d .row) i j .row }
+steps-from : (d : Digits) (i j : ℕ) → fourSteps d i j ≡ record { n = 256 * d .n + stepsFrom (d .row) i j .n; row = stepsFrom (d .row) i j .row }
 unfolding fourSteps stepsFrom stepOf
 steps-from d i j = ap (λ (x : ℕ). record { n = x; row = stepsFrom (d .row) i j .row }) (places (d .n) _ _ _ _)
   where

@@ -3,11 +3,11 @@ use Prim.Native.Nat.{ℕ, _+_, _*_, _^_}
 use Rattle.turns.specs.Table.{byRow}
 use Rattle.positions.specs.Positions.{Digits, stepOf, ijOf}
 
--- four levels down, by the lowest four bits of i and of j
+-- four levels down, by the lowest four bits of i and of j, the highest first
 unfoldable pub fourSteps : Digits → ℕ → ℕ → Digits
 fourSteps d i j = stepOf (stepOf (stepOf (stepOf d (ijOf i j 3)) (ijOf i j 2)) (ijOf i j 1)) (ijOf i j 0)
 
--- the table of turns "turned round": the positions that four steps take from a row, and the row to which they lead
+-- the table of `turns` turned round: the positions that lead from a row to a place in four levels, and the row that is come to
 unfoldable pub stepsFrom : ℕ → ℕ → ℕ → Digits
 stepsFrom row i j = fourSteps (record { n = 0; row = row }) i j
 

@@ -1,8 +1,9 @@
 -- Bits of numbers that stand side by side in a word, and what one row of four finds there.
 use mathlib.Core.Path.{_≡_, sym, ap, _∙_}
 use Prim.Native.Nat.{ℕ, zero, suc, _+_, _-_, _*_, _/_, _%_, _^_, _≤_, _<_}
-use native.Mathlib.Nat.{div-one, mod-eq-of-lt, mul-le-mul-left, mul-le-mul-right, suc-mul, mul-suc, add-comm}
+use native.Mathlib.Nat.{div-one, mod-eq-of-lt, mul-le-mul-left, mul-suc, add-comm}
 use native.Mathlib.Omega.{arith}
+use lib.Arith.{digits-lt}
 use lib.Pow.{shr-shr, field, mod-mod-pow, high, low, pow-add}
 use Rattle.turns.specs.Table.{byRow}
 
@@ -17,7 +18,7 @@ past : (x s t : ℕ) {y : ℕ} → y < 2 ^ s → (x * 2 ^ s + y) / 2 ^ (s + t) �
 past x s t {y} h = sym (shr-shr (x * 2 ^ s + y) s t) ∙ ap (λ (z : ℕ). z / 2 ^ t) (high x s h)
 
 beside-lt : (x k s : ℕ) {y : ℕ} → x < 2 ^ k → y < 2 ^ s → x * 2 ^ s + y < 2 ^ (k + s)
-beside-lt x k s {y} h g = rw (pow-add 2 k s) (omega (arith, mul-le-mul-right (2 ^ s) h, suc-mul x (2 ^ s)))
+beside-lt x k s h g = rw (pow-add 2 k s) (digits-lt h g)
 
 pub by-row-lt : (s : ℕ) (f : ℕ → ℕ) → ((r : ℕ) → r < 4 → f r < 2 ^ s) → byRow s f < 2 ^ (s + s + s + s)
 unfolding byRow

@@ -6,7 +6,7 @@ use Rattle.turns.specs.Turns.{Walk, turnOf}
 abbrev pub pairAt : ℕ → ℕ → ℕ
 pairAt n k = n / 2 ^ (2 * k) % 4
 
--- four levels down, by the four positions of a number below 256, the first in its highest bits
+-- four levels down, by the four positions that stand in the lowest eight bits of a number, the first the highest
 unfoldable pub fourTurns : Walk → ℕ → Walk
 fourTurns w pos = turnOf (turnOf (turnOf (turnOf w (pairAt pos 3)) (pairAt pos 2)) (pairAt pos 1)) (pairAt pos 0)
 
