@@ -1,9 +1,12 @@
 """How the scripts for people ask the proved programs, and what they say where an answer, or their own list, was cut.
 
-`cover` answers lines. The filters `read_tokens` and `write_tokens` turn a text with a name a line into as many lines, or refuse it.
+`cover` answers lines. The filters `read_tokens` and `write_tokens` turn a text with a name a line into as many lines, or refuse it; so does
+`night` with a night's orders.
 """
 
+import contextlib
 import os
+import signal
 import subprocess
 import sys
 
@@ -20,12 +23,14 @@ REFUSALS = {
     8: "a 1,025th raw cell would be kept",
     9: "the allowance of steps is used up",
     10: "the list is longer than the output",
+    13: "more than 256 orders, nothing was run",
     15: "the first list is not valid, ascending and free of overlap, or has over 4,096 ids",
     16: "the second list is not valid, ascending and free of overlap, or has over 4,096 ids",
     17: "the answer is longer than the output",
     25: "the list is not valid, ascending and free of overlap",
     26: "the pairs are longer than the output",
 }
+ENDING = signal.SIGHUP, signal.SIGINT, signal.SIGQUIT, signal.SIGTERM
 
 
 # ---- cover
@@ -68,11 +73,29 @@ def start(who, program, text, **more):
         sys.exit(f"{who}: {program} can't be run: {fault.strerror}")
 
 
+def on_signals(numbers, action):
+    """What these signals do from here on. One that is ignored stays so."""
+    for number in numbers:
+        if signal.getsignal(number) != signal.SIG_IGN:
+            signal.signal(number, action)
+
+
+def hand_on(filter):
+    """Hands the signals that end the script on to a filter from here on: that ends the program, and then says so."""
+    on_signals(ENDING, lambda number, _: filter.send_signal(number))
+
+
+def status(filter):
+    """The status of a script that ends as its filter did."""
+    return filter.returncode if filter.returncode >= 0 else 128 - filter.returncode
+
+
 def refusal(filter):
-    """Waits for a filter's end. What it refuses, as it says it; None if nothing. Anything else that is said is passed on as it comes."""
+    """Waits for a filter's end. What it refuses, or which line it finds wrong, as it says it; None if nothing. Anything else that is said is passed on as
+    it comes."""
     found = None
     for line in filter.stderr:
-        if line.startswith(b"refused "):
+        if line.startswith((b"refused ", b"error ")):
             found = line.decode().rstrip("\n")
         elif not found:
             tell(line.decode(errors="replace"), end="")
@@ -80,13 +103,19 @@ def refusal(filter):
     return found
 
 
-def turned(who, program, text):
-    """What a filter turns a text into, line by line, and what it refuses, or None. An answer that was cut ends the script."""
+def caught(who, program, text, meanwhile=contextlib.nullcontext):
+    """What a filter writes that is started on a text; what it refuses, or None; and the filter, which has ended. meanwhile: the context in which it runs."""
     with os.fdopen(os.memfd_create("answer"), "r+b") as file:
         filter = start(who, program, text, stdout=file)
-        refused = refusal(filter)
+        with meanwhile(filter):
+            refused = refusal(filter)
         file.seek(0)
-        written = file.read().decode()
+        return file.read().decode(), refused, filter
+
+
+def turned(who, program, text):
+    """What a filter turns a text into, line by line, and what it refuses, or None. An answer that was cut ends the script."""
+    written, refused, filter = caught(who, program, text)
     if not refused and (filter.returncode != 0 or written.count("\n") != text.count(b"\n")):
         sys.exit(f"{who}: the answer of {program} was cut (its status was {filter.returncode}), so nothing is listed")
     return written.splitlines(), refused
@@ -108,6 +137,8 @@ def run(who, main):
     """Runs a script's main; where standard output fails, the script ends with status 1."""
     if sys.stdout is None:
         sys.exit(f"{who}: standard output is closed")
+    # with a buffer, whatever PYTHONUNBUFFERED says: without one, Python takes a write that the system cuts short for whole
+    sys.stdout = open(sys.stdout.fileno(), "w", encoding=sys.stdout.encoding, errors=sys.stdout.errors, closefd=False)
     try:
         main()
         sys.stdout.flush()

@@ -47,6 +47,7 @@
 #ifndef FLAXBADGER_H
 #define FLAXBADGER_H
 
+#include <stdbool.h>
 #include <stddef.h>
 #include <stdint.h>
 
@@ -153,6 +154,55 @@ uint64_t flaxbadger_write_tokens(const uint64_t *ids, size_t ids_len, uint8_t *t
                                  uint64_t *count, uint64_t *first);
 uint64_t flaxbadger_read_tokens(const uint8_t *text, size_t text_len, uint64_t *ids, size_t ids_len,
                                 uint64_t *count, uint64_t *first);
+
+/* A NIGHT'S ORDERS IN ONE CALL. Up to 256 orders, each a record with what it asks, are answered one after another; the lists stand one behind
+ * another in the output's first places. Each order is answered as flaxbadger_covering_cap, flaxbadger_interior_covering_cap or
+ * flaxbadger_fast_covering_cap, or its counterpart for a cell, answers it alone, called with mem and with the room that the orders before it
+ * left in the output: refusals, count, steps, aside, mem and the ids in the output are the same. An order that is refused takes no room, and
+ * the next one is answered.
+ *
+ * Into each record the answer is written: number (0 for success, or the refusal's), count, steps and aside. Nothing else in it is changed. The
+ * list of the record orders[k] begins behind the counts of those before it, at out[orders[0].count + .. + orders[k - 1].count]; the counts
+ * of all are the places that are taken. The rest of the output stays as it was.
+ *
+ *   fast, inner        the quick covering; or else cells inside the region; or else a covering. Where fast is true, inner says nothing
+ *   cell, id, cap      the region is the cell id; or, where cell is false, the cap. The other of the two says nothing
+ *   coverer            the levels, level_mod and max_cells of the order
+ *   allowance          how many steps its run may take; of a quick covering it says nothing
+ *
+ * The result is 0; or 13, where orders_len is over 256: no order is looked at, and records, mem and out are as they were. The record is laid
+ * out as C does it, in 120 bytes on x86-64 Linux. A bool is 0 or 1, as C makes it. orders may not overlap mem or out, nor they each other, and
+ * what is said of pointers above holds here too. */
+typedef struct {
+    double x, y, z;
+} flaxbadger_point;
+
+typedef struct {
+    flaxbadger_point center;
+    double radius;
+} flaxbadger_cap;
+
+typedef struct {
+    uint64_t min_level, max_level, level_mod, max_cells;
+} flaxbadger_coverer;
+
+typedef struct {
+    uint64_t number; /* from byte 0 */
+    size_t count;    /* 8 */
+    uint32_t steps;  /* 16 */
+    uint64_t aside;  /* 24 */
+    bool fast;       /* 32 */
+    bool inner;      /* 33 */
+    bool cell;       /* 34 */
+    uint64_t id;     /* 40 */
+    flaxbadger_cap cap;         /* 48 */
+    flaxbadger_coverer coverer; /* 80 */
+    uint32_t allowance;         /* 112 */
+} flaxbadger_order;
+
+#define FLAXBADGER_ORDERS 256 /* orders that a night may have */
+
+uint64_t flaxbadger_night(flaxbadger_order *orders, size_t orders_len, uint64_t *mem, size_t mem_len, uint64_t *out, size_t out_len);
 
 #ifdef __cplusplus
 }

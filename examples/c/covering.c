@@ -1,13 +1,30 @@
 /* Coverings from C: a cap that is covered, a cell and a list as regions, a list as leaf ranges and back, two lists as one, a list as tokens and
- * back, and seven refusals. Writes what comes back; exits with 1 where it is not what papers 01 and 02 say. */
+ * back, a night's orders in one call, and nine refusals. Writes what comes back; exits with 1 where it is not what papers 01 and 02 say. Doesn't
+ * compile where the record of an order is not laid out as the header says. */
 #include <inttypes.h>
 #include <stdio.h>
 #include <string.h>
 
 #include "flaxbadger.h"
 
+/* An array of -1 places doesn't compile. */
+#define AT(field, byte) typedef char at_##field[offsetof(flaxbadger_order, field) == (byte) ? 1 : -1]
+AT(number, 0);
+AT(count, 8);
+AT(steps, 16);
+AT(aside, 24);
+AT(fast, 32);
+AT(inner, 33);
+AT(cell, 34);
+AT(id, 40);
+AT(cap, 48);
+AT(coverer, 80);
+AT(allowance, 112);
+typedef char an_order_has_120_bytes[sizeof(flaxbadger_order) == 120 ? 1 : -1];
+
 static uint64_t mem[FLAXBADGER_MEMORY];
 static uint64_t out[64];
+static flaxbadger_order orders[FLAXBADGER_ORDERS + 1], as_before[FLAXBADGER_ORDERS + 1];
 
 static int show(const char *name, uint64_t number, uint64_t count, uint64_t steps, uint64_t aside) {
     printf("%s: number %" PRIu64 ", %" PRIu64 " cells, %" PRIu64 " steps, %" PRIu64 " leaves set aside\n", name, number, count, steps, aside);
@@ -119,6 +136,58 @@ int main(void) {
     number = flaxbadger_read_tokens(text, 9, out, 64, &count, &line);
     printf("with a capital: number %" PRIu64 ", line %" PRIu64 "\n", number, line);
     ok &= number == 11 && count == 0 && line == 2;
+
+    /* Four orders of a night: around a cap at the pole, and inside it; the whole sphere, with fewer steps than it takes; and face 0, quickly. The
+     * second and the last stand behind the lists before them; the third is refused with 9, and takes no room. */
+    const flaxbadger_cap pole = {{0, 0, 1}, 1e-6}, sphere = {{1, 0, 0}, 4};
+    const flaxbadger_coverer any = {0, 30, 1, 8}, from_level_1 = {1, 30, 1, 8};
+    flaxbadger_order night[4] = {
+        {.cap = pole, .coverer = any, .allowance = 1000},
+        {.inner = true, .cap = pole, .coverer = any, .allowance = 1000},
+        {.cap = sphere, .coverer = from_level_1, .allowance = 5},
+        {.fast = true, .cell = true, .id = faces[0], .coverer = any},
+    };
+    const char *const names[4] = {"around the cap", "inside it", "the whole sphere", "face 0, quickly"};
+    const uint64_t refusals[4] = {0, 0, 9, 0};
+    uint64_t alone[64];
+    size_t begin = 0;
+    number = flaxbadger_night(night, 4, mem, FLAXBADGER_MEMORY, out, 64);
+    printf("a night of four orders: number %" PRIu64 "\n", number);
+    ok &= number == 0;
+    for (int k = 0; k < 4; k++) {
+        const flaxbadger_order *o = &night[k];
+        printf("  %s: number %" PRIu64 ", %zu cells from place %zu on, %" PRIu32 " steps, %" PRIu64 " leaves set aside\n", names[k], o->number,
+               o->count, begin, o->steps, o->aside);
+        ok &= o->number == refusals[k] && (o->number == 0 || (o->count == 0 && o->steps == 0 && o->aside == 0));
+        begin += o->count;
+    }
+
+    /* Each alone has the same answer. */
+    number = flaxbadger_covering_cap(0, 0, 1, 1e-6, 0, 30, 1, 8, 1000, mem, FLAXBADGER_MEMORY, alone, 64, &count, &steps, &aside);
+    ok &= number == 0 && count == night[0].count && steps == night[0].steps && aside == night[0].aside && memcmp(alone, out, count * sizeof *out) == 0;
+    begin = night[0].count;
+    number = flaxbadger_interior_covering_cap(0, 0, 1, 1e-6, 0, 30, 1, 8, 1000, mem, FLAXBADGER_MEMORY, alone, 64, &count, &steps, &aside);
+    ok &= number == 0 && count == night[1].count && steps == night[1].steps && memcmp(alone, out + begin, count * sizeof *out) == 0;
+    begin += night[1].count;
+    number = flaxbadger_fast_covering_cell(faces[0], 0, 30, 1, 8, mem, FLAXBADGER_MEMORY, alone, 64, &count, &steps, &aside);
+    ok &= number == 0 && count == night[3].count && count > 0 && memcmp(alone, out + begin, count * sizeof *out) == 0;
+
+    /* One order too many: refused with 13, and records, memory and output are as they were. */
+    for (int k = 0; k < FLAXBADGER_ORDERS + 1; k++) {
+        orders[k] = night[k % 4];
+    }
+    memcpy(as_before, orders, sizeof orders);
+    memset(mem, 0xff, sizeof mem);
+    memset(out, 0xff, sizeof out);
+    number = flaxbadger_night(orders, FLAXBADGER_ORDERS + 1, mem, FLAXBADGER_MEMORY, out, 64);
+    printf("a night of %d orders: number %" PRIu64 "\n", FLAXBADGER_ORDERS + 1, number);
+    ok &= number == 13 && memcmp(as_before, orders, sizeof orders) == 0;
+    for (int i = 0; i < FLAXBADGER_MEMORY; i++) {
+        ok &= mem[i] == UINT64_MAX;
+    }
+    for (int i = 0; i < 64; i++) {
+        ok &= out[i] == UINT64_MAX;
+    }
 
     puts(ok ? "as expected" : "NOT as expected");
     return ok ? 0 : 1;

@@ -1,5 +1,8 @@
 // Coverings from Rust: safe functions over the archive's, a covering of a cap, its leaf ranges, two coverings as one list, this list as a region, a
-// list as tokens and back, and refusals. Exits with 1 where an answer is not what papers 01 and 02 say.
+// list as tokens and back, a night's orders in one call, and refusals. Exits with 1 where an answer is not what papers 01 and 02 say. Doesn't compile
+// where the record of an order is not laid out as in C.
+
+use std::mem::{offset_of, size_of};
 
 extern "C" {
     fn flaxbadger_covering_cap(
@@ -21,16 +24,46 @@ extern "C" {
     ) -> u64;
     fn flaxbadger_write_tokens(ids: *const u64, ids_len: usize, text: *mut u8, text_len: usize, count: &mut u64, first: &mut u64) -> u64;
     fn flaxbadger_read_tokens(text: *const u8, text_len: usize, ids: *mut u64, ids_len: usize, count: &mut u64, first: &mut u64) -> u64;
+    fn flaxbadger_night(orders: *mut Order, orders_len: usize, mem: *mut u64, mem_len: usize, out: *mut u64, out_len: usize) -> u64;
 }
 
 /// Levels and the number of cells that are aimed at.
-#[derive(Clone, Copy)]
+#[repr(C)]
+#[derive(Clone, Copy, Debug, Default, PartialEq)]
 struct Coverer {
     min_level: u64,
     max_level: u64,
     level_mod: u64,
     max_cells: u64,
 }
+
+#[repr(C)]
+#[derive(Clone, Copy, Debug, Default, PartialEq)]
+struct Cap {
+    center: [f64; 3],
+    radius: f64,
+}
+
+/// An order of a night: its answer, and what it asks.
+#[repr(C)]
+#[derive(Clone, Copy, Debug, Default, PartialEq)]
+struct Order {
+    number: u64,
+    count: usize,
+    steps: u32,
+    aside: u64,
+    fast: bool,
+    inner: bool,
+    cell: bool,
+    id: u64,
+    cap: Cap,
+    coverer: Coverer,
+    allowance: u32,
+}
+
+const _: () = assert!(size_of::<Order>() == 120);
+const _: () = assert!(offset_of!(Order, steps) == 16 && offset_of!(Order, aside) == 24 && offset_of!(Order, fast) == 32 && offset_of!(Order, cell) == 34);
+const _: () = assert!(offset_of!(Order, id) == 40 && offset_of!(Order, cap) == 48 && offset_of!(Order, coverer) == 80 && offset_of!(Order, allowance) == 112);
 
 /// A success.
 #[derive(Debug)]
@@ -103,6 +136,13 @@ fn read_tokens(text: &[u8]) -> Result<Vec<u64>, (u64, u64)> {
     if number == 0 { Ok(ids) } else { Err((number, first)) }
 }
 
+/// Answers the orders one after another, each in its record, with the lists one behind another in the output; or gives the number of the refusal (13:
+/// over 256 orders).
+fn night(orders: &mut [Order], mem: &mut [u64], out: &mut [u64]) -> Result<(), u64> {
+    let number = unsafe { flaxbadger_night(orders.as_mut_ptr(), orders.len(), mem.as_mut_ptr(), mem.len(), out.as_mut_ptr(), out.len()) };
+    if number == 0 { Ok(()) } else { Err(number) }
+}
+
 fn main() {
     let mut mem = vec![0u64; 4096];
     let mut out = vec![0u64; 64];
@@ -164,6 +204,30 @@ fn main() {
     let capital = read_tokens(b"04\n0C\n");
     println!("with a capital: {capital:?}");
     ok &= capital == Err((11, 2));
+
+    let around = Order { cap: Cap { center: [0.0, 0.0, 1.0], radius: 1e-6 }, coverer: Coverer { min_level: 0, ..c }, allowance: 1000, ..Order::default() };
+    let inside = Order { inner: true, ..around };
+    let sphere = Order { cap: Cap { center: [1.0, 0.0, 0.0], radius: 4.0 }, coverer: c, allowance: 5, ..around };
+    let face = Order { fast: true, cell: true, id: 0x1000000000000000, ..around };
+    let asked = [around, inside, sphere, face];
+    let (mut orders, mut lists) = (asked, vec![u64::MAX; 64]);
+    let whole = night(&mut orders, &mut mem, &mut lists);
+    println!("a night of four orders: {whole:?}");
+    ok &= whole.is_ok() && orders.map(|o| o.number) == [0, 0, 9, 0];
+    let mut begin = 0;
+    for (o, name) in orders.iter().zip(["around the cap", "inside it", "the whole sphere", "face 0, quickly"]) {
+        println!("  {name}: number {}, {} cells from place {begin} on, {} steps, {} leaves set aside", o.number, o.count, o.steps, o.aside);
+        let mut alone = vec![u64::MAX; 64];
+        let mut single = [Order { number: 0, count: 0, steps: 0, aside: 0, ..*o }];
+        ok &= night(&mut single, &mut mem, &mut alone).is_ok() && single[0] == *o && alone[..o.count] == lists[begin..begin + o.count];
+        begin += o.count;
+    }
+    ok &= begin > 0 && lists[begin..].iter().all(|id| *id == u64::MAX);
+
+    let (mut many, before) = (vec![around; 257], lists.clone());
+    let refused = night(&mut many, &mut mem, &mut lists);
+    println!("a night of 257 orders: {refused:?}");
+    ok &= refused == Err(13) && many == vec![around; 257] && lists == before;
 
     println!("{}", if ok { "as expected" } else { "NOT as expected" });
     std::process::exit(if ok { 0 } else { 1 });

@@ -10,6 +10,7 @@ ghost use Rattle.region.specs.Region.{areaOf, cellArea, listArea};
 ghost use Rattle.ranges.specs.Ranges.{pairsResult, cellsResult, numberOf, wordsOf};
 ghost use Rattle.sets.specs.declared.Op.{Op};
 ghost use Rattle.sets.specs.Sets.{setResult};
+ghost use Rattle.orders.specs.Orders.{NightOver};
 ghost use Rattle.tokens.specs.declared.Form.{Form};
 ghost use Rattle.tokens.specs.Tokens.{writeResult, readResult};
 ghost use Rattle.capi.specs.Calls.{regionCoverer, capGiven, Told, Called, CalledOf, NamesTold, NamesCalled};
@@ -17,6 +18,7 @@ use cell::Cap;
 use covering::Answer;
 use covering::Ending;
 use covering::Kind;
+use orders::Order;
 use point::Point;
 use region::Region;
 use run::RegionCoverer;
@@ -711,4 +713,12 @@ pub extern "C" fn flaxbadger_read_tokens(
 {
     let a = tokens::read(Form::Token, text, ids);
     tell_names(a, count, first)
+}
+
+// A night's orders, one after another: each record is answered as the functions above answer it alone, with the room that the orders before it left.
+#[no_mangle]
+pub extern "C" fn flaxbadger_night(orders: &mut [Order], mem: &mut [u64], out: &mut [u64]) -> u64
+    ensures { λ r. ⌜ NightOver (now (orders .entry)) (now (orders .exit)) (now (mem .entry)) (now (mem .exit)) (now (out .entry)) (now (out .exit)) r ⌝ }
+{
+    orders::night(orders, mem, out)
 }

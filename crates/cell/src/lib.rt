@@ -31,6 +31,7 @@ pub struct Cell {
 }
 
 // A centre, and the square of the chord from it to the edge; a negative radius means empty.
+#[repr(C)]
 pub struct Cap {
     pub center: Point,
     pub radius: f64,

@@ -1,5 +1,5 @@
 -- Laws of `specs/Cover.antt`: what is written for each that is found, whole, and where it ends.
-use mathlib.Core.Path.{_≡_, ap, _∙_}
+use mathlib.Core.Path.{_≡_}
 use mathlib.Core.List.{List, [], _++_, append-nil}
 use Prim.Native.Nat.{ℕ, _+_, _-_, _*_, _≤_}
 use native.Mathlib.Omega.{arith}
@@ -8,8 +8,8 @@ use lib.Seq.{length-take-le, take-all, take-at, drop-at}
 use Rattle.text.specs.declared.Fault.{Fault}
 use Rattle.input.specs.declared.Feed.{Feed}
 use Rattle.input.specs.declared.Found.{Found}
-use Rattle.replies.specs.Write.{Wrote, Whole, errorText, endText}
-use Rattle.replies.proofs.Lengths.{wrote-whole, error-length, end-length}
+use Rattle.replies.specs.Write.{Wrote, errorText, endText}
+use Rattle.replies.proofs.Lengths.{wrote-whole, within, error-length, end-length}
 use Rattle.lines.specs.Lines.{Replied}
 use Rattle.cover.specs.Cover.{textFor, lentFor, memoryFor, outputFor, lineOf, Told, ToldAt}
 
@@ -30,10 +30,6 @@ module _ (f : Feed) (number answered : ℕ) (buf words mem out page : List ℕ) 
     pub told-end : f .found ≡ Found.End → Wrote 0 (endText answered) page r page' → Told f number answered buf words words mem mem out out page r page'
     unfolding textFor lentFor memoryFor outputFor
     told-end e w = record { wrote = rw e (wrote-whole (omega (arith, end-length answered)) w); lent = rw e; memory = rw e; output = rw e }
-
--- a text that is whole lies in its page
-pub within : (s d : List ℕ) (r : ℕ) (d' : List ℕ) → Whole s d r d' → r ≤ length d'
-within s d r d' w = let n : length d' ≡ length s + length (drop (length s) d) = ap length (w .bytes) ∙ length-append s (drop (length s) d) in omega (arith, w .count)
 
 -- an answer in the part of a page behind its first bytes
 module _ (f : Feed) (number answered : ℕ) (buf words words' mem mem' out out' : List ℕ) (at : ℕ) (page : List ℕ) (r : ℕ) (part : List ℕ) where

@@ -32,17 +32,9 @@ use Rattle.picklist.specs.PickList.{isPickList}
 use Rattle.sets.specs.Sets.{combined, setResult}
 use Rattle.lines.specs.declared.ListRead.{ListRead}
 use Rattle.lines.specs.declared.ListsRead.{ListsRead}
-use Rattle.lines.specs.Lines.{wordAfter, isAt, asksList, secondAfter, listsAfter, ReadLists, Question, questionOf, ReadQuestion, opOf, resultFor, resultIn, resultOf, resultText, AnsweredIn, answerText, textAt, outputAt, ListReplied, textOf, lentOf, memoryOf, outputOf, Replied}
+use Rattle.lines.specs.Lines.{wordAfter, asksList, secondAfter, listsAfter, ReadLists, Question, questionOf, ReadQuestion, opOf, resultFor, resultIn, resultOf, resultText, AnsweredIn, answerText, textAt, outputAt, ListReplied, textOf, lentOf, memoryOf, outputOf, Replied}
 
 -- ---- reading
-
-pub asks-yes : (l : List ℕ) (word : Read) (at : ℕ) → word ≡ wordAfter l (Place.At 0) → word .after ≡ Place.At at → true ≡ asksList l
-unfolding asksList isAt
-asks-yes l word at e q = rw (asksList, ← e, q)
-
-pub asks-no : (l : List ℕ) (word : Read) (f : Fault) → word ≡ wordAfter l (Place.At 0) → word .after ≡ Place.Bad f → false ≡ asksList l
-unfolding asksList isAt
-asks-no l word f e q = rw (asksList, ← e, q)
 
 module _ (kind most : ℕ) (l : List ℕ) (p : Place) where
   second-none : ltb kind 2 ≡ true → secondAfter kind most l p ≡ record { values = []; after = p }

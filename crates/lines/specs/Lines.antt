@@ -10,7 +10,7 @@ use Rattle.text.specs.Ascii.{ascii}
 use Rattle.text.specs.declared.Fault.{Fault}
 use Rattle.text.specs.declared.Place.{Place}
 use Rattle.text.specs.declared.Read.{Read}
-use Rattle.text.specs.Text.{Numbers, choiceAfter, listAfter, endAfter, startOf, wordsWith}
+use Rattle.text.specs.Text.{Numbers, choiceAfter, listAfter, endAfter, startOf, wordsWith, isAt}
 use Rattle.tokens.specs.declared.Form.{Form}
 use Rattle.replies.specs.Write.{Whole, refusedText, listText, errorText}
 use Rattle.requests.specs.Line.{valueOr, formOf, optionsAfter}
@@ -32,10 +32,6 @@ questions = ascii "ranges cells union common difference"
 -- which of them the next field is, counted from 0
 unfoldable pub wordAfter : List ℕ → Place → Read
 wordAfter l p = choiceAfter questions 5 Fault.UnknownKind l p
-
-unfoldable pub isAt : Place → Bool
-isAt (Place.At at) = true
-isAt (Place.Bad f) = false
 
 -- the line's first field is one of them
 unfoldable pub asksList : List ℕ → Bool

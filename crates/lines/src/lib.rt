@@ -51,10 +51,7 @@ fn asks_list(line: &[u8]) -> bool
 {
     let word = read_word(line, Place::At(0));
     let after = word.after;
-    match after {
-        Place::At(_) => true,
-        Place::Bad(_) => false,
-    }
+    text::is_at(after)
 }
 
 // The second list, into the words that are lent; none where one alone is asked about.

@@ -8,6 +8,7 @@ ghost use Rattle.point.specs.Floats.{absOf};
 ghost use Rattle.point.specs.Vector.{subOf, mulOf, dotOf, crossOf, norm2Of, normOf, normalizeOf, isUnit};
 ghost use Rattle.point.specs.ChordAngle.{chordAngle, sin2Of};
 
+#[repr(C)]
 pub struct Point {
     pub x: f64,
     pub y: f64,

@@ -4,3 +4,4 @@ pub mod Rows
 pub mod Lists
 pub mod Answers
 pub mod Calls
+pub mod Nights

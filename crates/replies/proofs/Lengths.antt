@@ -1,12 +1,12 @@
 -- Lengths of the texts of `specs/Write.antt`, and that a text is written whole where there is room for it.
-use mathlib.Core.Path.{_∙_}
+use mathlib.Core.Path.{_≡_, ap, _∙_}
 use mathlib.Core.List.{List, [], _∷_}
 use Prim.Native.Nat.{ℕ, zero, suc, _+_, _*_, _/_, _≤_}
 use native.Mathlib.Omega.{arith}
 use native.Mathlib.Nat.{zero-add}
 use native.Mathlib.Decide.{decLt}
 use mathlib.Core.Logic.{by-cases}
-use lib.ListN.{length, length-append, length-take, length-drop}
+use lib.ListN.{length, drop, length-append, length-take, length-drop}
 use lib.Seq.{sets-eq}
 use borrow.Author.Tests.{lt-ltb, le-ltb}
 use Rattle.text.specs.Ascii.{ascii}
@@ -20,6 +20,10 @@ use Rattle.replies.specs.Write.{Wrote, Whole, spelled, decimalText, idTe
 
 pub wrote-whole : {s d : List ℕ} {r : ℕ} {d' : List ℕ} → length s ≤ length d → Wrote 0 s d r d' → Whole s d r d'
 wrote-whole {s} {d} h w = record { count = omega arith; bytes = w .bytes ∙ rw zero-add at (sets-eq s d 0 (omega arith)) }
+
+-- a text that is whole lies in its buffer
+pub within : (s d : List ℕ) (r : ℕ) (d' : List ℕ) → Whole s d r d' → r ≤ length d'
+within s d r d' w = let n : length d' ≡ length s + length (drop (length s) d) = ap length (w .bytes) ∙ length-append s (drop (length s) d) in omega (arith, w .count)
 
 -- ---- lengths
 
@@ -59,7 +63,7 @@ pub end-length : (answered : ℕ) → length (endText answered) ≤ 25
 unfolding endText ascii
 end-length answered = simp length-append (omega (arith, decimal-length answered))
 
-counted-length : (form : Form) (ids : List ℕ) → length (countedText form ids) ≤ 17 * length ids + 21
+pub counted-length : (form : Form) (ids : List ℕ) → length (countedText form ids) ≤ 17 * length ids + 21
 unfolding countedText
 counted-length form ids = simp length-append (omega (arith, ids-length form ids, decimal-length (length ids)))
 

@@ -146,7 +146,7 @@ pub fn put_end(text: &mut [u8], answered: u64) -> usize
 }
 
 // Writes how many ids there are, their names, and the line's end.
-fn put_counted(text: &mut [u8], at: usize, form: Form, ids: &[u64]) -> usize
+pub fn put_counted(text: &mut [u8], at: usize, form: Form, ids: &[u64]) -> usize
     ensures { λ r. ⌜ Wrote at (countedText form (now (ids .entry))) (now (text .entry)) r (now (text .exit)) ⌝ }
 {
     let a = put_decimal(text, at, ids.len() as u64);

@@ -11,12 +11,14 @@ ghost use Rattle.requests.specs.Requests.{allowanceOf, resultFor, Answer
 use covering::Answer;
 use line::Asked;
 pub use line::CovererRead;
+pub use line::Four;
 pub use line::Options;
 pub use line::RegionRead;
 pub use line::cap_of;
 pub use line::form_of;
 use line::read_asked;
 pub use line::read_coverer;
+pub use line::read_four;
 pub use line::read_options;
 pub use line::read_region;
 pub use line::value_or;
@@ -24,7 +26,7 @@ use text::Place;
 use tokens::Form;
 
 // The allowance as a u32; a number that none holds allows as much as any.
-fn allowance_of(n: u64) -> u32
+pub fn allowance_of(n: u64) -> u32
     ensures { λ r. ⌜ r ≡ allowanceOf n ⌝ }
 {
     if n < 4294967295 {

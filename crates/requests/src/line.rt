@@ -81,7 +81,8 @@ fn kind_of(k: u64) -> Kind
     }
 }
 
-fn read_four(line: &[u8], p: Place, base: Base) -> Four
+// Four numbers in the base.
+pub fn read_four(line: &[u8], p: Place, base: Base) -> Four
     ensures { λ r. ⌜ r ≡ fourAfter base (now (line .entry)) p ⌝ }
 {
     let mut values = [0u64; 4];

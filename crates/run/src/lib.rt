@@ -12,6 +12,7 @@ pub const QUEUE_WORDS: usize = 3072;
 pub const MEMORY_WORDS: usize = 4096;
 
 // The numbers of a request, region.rs's RegionCoverer.
+#[repr(C)]
 pub struct RegionCoverer {
     pub min_level: u64,
     pub max_level: u64,

@@ -176,6 +176,11 @@ unfoldable pub choiceAfter : List ℕ → ℕ → Fault → List ℕ → Place �
 choiceAfter words count fault l (Place.Bad f) = faulty f
 choiceAfter words count fault l (Place.At at) = fieldAs (λ next word. chosen count fault (placeAmong count words 0 word) next) l at
 
+-- whether nothing is wrong up to a place
+unfoldable pub isAt : Place → Bool
+isAt (Place.At at) = true
+isAt (Place.Bad f) = false
+
 -- a place, if no further field stands after it
 unfoldable pub endAfter : List ℕ → Place → Place
 endAfter l (Place.Bad f) = Place.Bad f

@@ -6,7 +6,7 @@ ghost use mathlib.Core.Bool.{true, false, cond};
 ghost use Prim.Native.Nat.{_+_, _*_, _≤_, _<_, min};
 ghost use lib.Dec.{ltb};
 ghost use lib.ListN.{length, drop};
-ghost use Rattle.text.specs.Text.{digitOf, allDigits, valueFrom, faulty, limited, numberAs, numberIn, isBlank, leading, until, fieldAt, fieldNo, same, bytesOf, placeAmong, Spells, Stopped, fieldAs, numberAfter, numbersAfter, listAfter, ReadList, choiceAfter, endAfter, isPlain, allPlain, isSilent, startOf};
+ghost use Rattle.text.specs.Text.{digitOf, allDigits, valueFrom, faulty, limited, numberAs, numberIn, isBlank, leading, until, fieldAt, fieldNo, same, bytesOf, placeAmong, Spells, Stopped, fieldAs, numberAfter, numbersAfter, listAfter, ReadList, choiceAfter, isAt, endAfter, isPlain, allPlain, isSilent, startOf};
 
 // What is wrong with a line.
 pub enum Fault {
@@ -469,6 +469,16 @@ pub fn is_silent(line: &[u8]) -> bool
         return false;
     }
     all_plain(line)
+}
+
+// Whether nothing is wrong up to a place.
+pub fn is_at(p: Place) -> bool
+    ensures { λ r. ⌜ r ≡ isAt p ⌝ }
+{
+    match p {
+        Place::At(_) => true,
+        Place::Bad(_) => false,
+    }
 }
 
 // The line's beginning, if no byte of it is 0 or over 127.

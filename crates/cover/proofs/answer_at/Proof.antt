@@ -1,6 +1,7 @@
 -- `cover::answer_at`: only what stands behind the first bytes is lent.
 use native.Mathlib.Omega.{arith}
-use Rattle.cover.proofs.Laws.{within, told-at}
+use Rattle.replies.proofs.Lengths.{within}
+use Rattle.cover.proofs.Laws.{told-at}
 use borrow.Author.Needs.{needs}
 use Rattle.cover.proofs.answer_at.Statement.{statement}
 use Rattle.cover.proofs.answer_at.Tie as tie
