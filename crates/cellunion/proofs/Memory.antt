@@ -1,11 +1,11 @@
 -- Words of a memory one after another, and lists laid over a slice.
 use mathlib.Core.Path.{_≡_, refl, sym, ap, ap₂, _∙_}
-use mathlib.Core.List.{List, [], _∷_, _++_, append-assoc}
+use mathlib.Core.List.{List, [], _∷_, _++_, append-assoc, append-nil}
 use Prim.Native.Nat.{ℕ, zero, suc, _+_, _-_, _≤_, _<_}
 use native.Mathlib.Nat.{add-zero}
 use native.Mathlib.Omega.{arith}
 use native.Mathlib.Numerals.{add-one}
-use lib.ListN.{length, getD, take, drop, set, replicate, length-set, take-append-drop, drop-of-length-le}
+use lib.ListN.{length, getD, take, drop, set, replicate, length-set, length-drop, take-append-drop, drop-of-length-le}
 use lib.Seq.{take-nil, take-suc-set, drop-set-lt, drop-cons, drop-drop, getD-take, length-take-le}
 use borrow.Author.Tests.{le-leb, lt-leb}
 use Rattle.order.specs.Order.{All}
@@ -47,6 +47,10 @@ drop-take-same n i x y e = drop-take n i x ∙ ap (take (n - i)) e ∙ sym (drop
     drop-take zero (suc i) l = let e : 0 - suc i ≡ 0 = omega arith in rw e
     drop-take (suc n) (suc i) [] = sym (take-nil (suc n - suc i))
     drop-take (suc n) (suc i) (x ∷ l) = let e : suc n - suc i ≡ n - i = omega arith in rw e (drop-take n i l)
+
+-- behind a part that is lent to its end there is nothing
+pub past-end : (l part : List ℕ) (k : ℕ) → part ++ drop (length l - k) (drop k l) ≡ part
+past-end l part k = ap (λ (t : List ℕ). part ++ t) (drop-of-length-le (drop k l) {i = length l - k} (omega (arith, length-drop k l))) ∙ append-nil part
 
 -- ---- lists laid over a slice
 

@@ -2,14 +2,15 @@
 -- result, and a page with room for as many ids as the output has places holds it whole.
 use mathlib.Core.Path.{_≡_, refl, sym, ap, ap₂, _∙_}
 use mathlib.Core.Bool.{Bool, true, false}
-use mathlib.Core.List.{List, [], _++_, append-assoc, append-nil}
+use mathlib.Core.List.{List, [], _++_, append-assoc}
 use Prim.Native.Nat.{ℕ, _+_, _-_, _*_, min, _≤_, _<_}
 use native.Mathlib.Omega.{arith}
 use lib.Dec.{leb, ltb, eqb}
-use lib.ListN.{length, getD, take, drop, length-append, length-drop, drop-of-length-le}
+use lib.ListN.{length, getD, take, drop, length-append, length-drop}
 use lib.Seq.{take-append-seam, drop-append-seam, drop-drop}
 use borrow.Rule.Slice.PartAt.{part-to-end}
 use borrow.Author.Tests.{leb-true, lt-ltb, le-ltb, eq-eqb, ne-eqb}
+use Rattle.cellunion.proofs.Memory.{past-end}
 use Rattle.text.specs.declared.Fault.{Fault}
 use Rattle.text.specs.declared.Place.{Place}
 use Rattle.text.specs.declared.Read.{Read}
@@ -59,10 +60,6 @@ both-words a b words = ap (λ (t : List ℕ). a ++ (b ++ t)) (drop-drop (length 
 
 pub read-fits : (n : Numbers) (r : Read) (words words' : List ℕ) → ReadList n r words words' → r .value ≤ length words'
 read-fits n r words words' R = words-fit (n .values) words words' (r .value) (R .count) (R .lent)
-
--- behind a part that is lent to its end there is nothing
-past-end : (l part : List ℕ) (k : ℕ) → part ++ drop (length l - k) (drop k l) ≡ part
-past-end l part k = ap (λ (t : List ℕ). part ++ t) (drop-of-length-le (drop k l) {i = length l - k} (omega (arith, length-drop k l))) ∙ append-nil part
 
 pub lists-read : (kind : ℕ) (l : List ℕ) (p : Place) (a b : Read) (words mid part : List ℕ) → ReadList (listAfter (length words) l p) a words mid
     → ReadList (secondAfter kind (length (take (length mid - a .value) (drop (a .value) mid))) l (a .after)) b (take (length mid - a .value) (drop (a .value) mid)) part

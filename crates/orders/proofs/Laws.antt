@@ -5,11 +5,13 @@ use mathlib.Core.List.{List, [], _∷_, _++_, append-assoc, append-nil}
 use Prim.Native.Nat.{ℕ, suc, _+_, _-_, _≤_, _<_}
 use native.Mathlib.Omega.{arith}
 use native.Mathlib.Numerals.{add-one}
-use lib.ListN.{length, take, drop, set, getD, length-append, length-drop, length-set, drop-of-length-le}
-use lib.Seq.{take-all, take-length, drop-length, drop-cons, take-suc-set, drop-set-lt, length-take-le}
+use lib.ListN.{length, take, drop, set, getD, length-append, length-drop, length-set}
+use lib.Seq.{take-length, drop-length, drop-cons, take-suc-set, drop-set-lt, length-take-le}
 use lib.Ieee.{binary64, ofBits}
 use borrow.Author.Tests.{lt-ltb, le-ltb}
+use borrow.Rule.Slice.PartAt.{part-to-end}
 use borrow.Rule.Slice.PartMut.{midOf, putMid}
+use Rattle.cellunion.proofs.Memory.{past-end}
 use Rattle.region.specs.Region.{Area}
 use Rattle.covering.specs.declared.Answer.{Answer}
 use Rattle.covering.specs.declared.Kind.{Kind}
@@ -52,21 +54,14 @@ laid-long o mem out used h =
     omega (arith, length-append (take used out) (outputAfter (resultAt o mem out used) (drop used out)), length-take-le used out h, output-long (resultAt o mem out used) (drop used out) fits, length-drop used out)
 
 -- the part of the output from `used` on was lent whole, and is laid back
-module _ (out : List ℕ) (used : ℕ) (h : used ≤ length out) where
-  part-is : midOf used (length out - used) out ≡ drop used out
-  part-is = take-all (length out - used) (drop used out) (omega (arith, length-drop used out))
-
-  put-is : (l : List ℕ) → putMid used (length out - used) out l ≡ take used out ++ l
-  put-is l = rw (drop-of-length-le (drop used out) {i = length out - used} (omega (arith, length-drop used out)), append-nil)
-
-module _ (o : Order) (used : ℕ) (mem mem' out l : List ℕ) (r : Answer) (k : Kind) (a : Area) (h : used ≤ length out) (ek : k ≡ kindOf (o .fast) (o .inner)) (ea : a ≡ areaFor (o .cell) (o .id) (o .cap)) where
+module _ (o : Order) (used : ℕ) (mem mem' out l : List ℕ) (r : Answer) (k : Kind) (a : Area) (ek : k ≡ kindOf (o .fast) (o .inner)) (ea : a ≡ areaFor (o .cell) (o .id) (o .cap)) where
   pub served-is : Answered (resultOf k (o .coverer) a (o .allowance) (length mem) (length (midOf used (length out - used) out))) r mem mem' (midOf used (length out - used) out) l
       → Served o used r mem mem' out (putMid used (length out - used) out l)
   unfolding laidFrom resultFor
-  served-is = rw (ek, ea, part-is out used h, length-drop used out) (λ A. record {
+  served-is = rw (ek, ea, part-to-end out used, length-drop used out) (λ A. record {
     answer = A .answer;
     memory = A .memory;
-    output = put-is out used h l ∙ ap (λ (p : List ℕ). take used out ++ p) (A .output);
+    output = ap (λ (p : List ℕ). take used out ++ p) (past-end out l used ∙ A .output);
   })
 
 -- the order takes as many places as its answer counts

@@ -9,7 +9,7 @@ returns c =
     let called = c .before .before .before .before in
     let placed = called .before .before .before .before .before in
     let s = placed .before .before .before .before .before in
-    served-is (s .args .o) (s .args .used) _ _ (s .args .out .now) _ _ _ _ (s .pre) (placed .before .before .kind-of .ensures) (placed .region-of .ensures) (called .respond .ensures)
+    served-is (s .args .o) (s .args .used) _ _ (s .args .out .now) _ _ _ _ (placed .before .before .kind-of .ensures) (placed .region-of .ensures) (called .respond .ensures)
 
 pub serve-spec : {M : Type 1} → statement M
 serve-spec =
