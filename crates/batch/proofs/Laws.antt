@@ -28,26 +28,26 @@ use Rattle.requests.specs.Line.{fourAfter, covererAfter, capOf, none, valueOr, 
 use Rattle.requests.specs.Requests.{allowanceOf}
 use Rattle.orders.specs.declared.Order.{Order}
 use Rattle.batch.specs.declared.About.{About}
-use Rattle.batch.specs.Batch.{kindAfter, shapeAfter, capAfter, cellAfter, aboutAfter, lacking, allowAfter, orderOf, wordAfter, headOf, doneText, servedText, summaryText, tooManyText}
+use Rattle.batch.specs.Batch.{kindAfter, shapeAfter, capAbout, cellAbout, aboutAfter, lacking, allowAfter, orderOf, wordAfter, headOf, doneText, servedText, summaryText, tooManyText}
 
 -- ---- an order
 
 module _ (l : List ℕ) (p : Place) where
   pub cap-read : (n : Four) (c : Cap) → n ≡ fourAfter Base.Sixteen l p → c ≡ capOf (getD (n .values) 0 0) (getD (n .values) 1 0) (getD (n .values) 2 0) (getD (n .values) 3 0)
-      → record { cell = false; id = 0; cap = c; after = n .after } ≡ capAfter l p
-  unfolding capAfter
+      → record { cell = false; id = 0; cap = c; after = n .after } ≡ capAbout l p
+  unfolding capAbout
   cap-read n c e d = rw (d, e)
 
-  pub cell-read : (id : Read) (c : Cap) → id ≡ numberAfter Base.Sixteen 0xffff_ffff_ffff_ffff l p → c ≡ capOf 0 0 0 0 → record { cell = true; id = id .value; cap = c; after = id .after } ≡ cellAfter l p
-  unfolding cellAfter
+  pub cell-read : (id : Read) (c : Cap) → id ≡ numberAfter Base.Sixteen 0xffff_ffff_ffff_ffff l p → c ≡ capOf 0 0 0 0 → record { cell = true; id = id .value; cap = c; after = id .after } ≡ cellAbout l p
+  unfolding cellAbout
   cell-read id c e d = rw (d, e)
 
   module _ (which : Read) (e : which ≡ shapeAfter l p) (r : About) where
-    pub about-cap : which .value ≡ 0 → r ≡ capAfter l (which .after) → r ≡ aboutAfter l p
+    pub about-cap : which .value ≡ 0 → r ≡ capAbout l (which .after) → r ≡ aboutAfter l p
     unfolding aboutAfter
     about-cap h d = rw (aboutAfter, ← e, eq-eqb _ _ h, ← e) d
 
-    pub about-cell : (which .value ≡ 0 → ⊥) → r ≡ cellAfter l (which .after) → r ≡ aboutAfter l p
+    pub about-cell : (which .value ≡ 0 → ⊥) → r ≡ cellAbout l (which .after) → r ≡ aboutAfter l p
     unfolding aboutAfter
     about-cell h d = rw (aboutAfter, ← e, ne-eqb _ _ h, ← e) d
 
@@ -109,11 +109,11 @@ done-length : (form : Form) (begin steps aside : ℕ) (ids : List ℕ) → lengt
 unfolding doneText ascii
 done-length form begin steps aside ids = simp length-append (omega (arith, decimal-length begin, decimal-length steps, decimal-length aside, counted-length form ids))
 
-pub summary-length : (orders refused cells left : ℕ) → length (summaryText orders refused cells left) ≤ 88
+summary-length : (orders refused cells left : ℕ) → length (summaryText orders refused cells left) ≤ 88
 unfolding summaryText ascii
 summary-length orders refused cells left = simp length-append (omega (arith, decimal-length orders, decimal-length refused, decimal-length cells, decimal-length left))
 
-pub too-many-length : length tooManyText ≤ 50
+too-many-length : length tooManyText ≤ 50
 unfolding tooManyText ascii
 too-many-length = omega arith
 
@@ -126,7 +126,7 @@ module _ (form : Form) (o : Order) (begin : ℕ) (out : List ℕ) where
   unfolding servedText
   refused-text h = rw (servedText, ne-eqb (o .number) 0 h)
 
-  pub served-length : length (servedText form o begin out) ≤ 17 * length out + 256
+  served-length : length (servedText form o begin out) ≤ 17 * length out + 256
   served-length = by-cases (ℕ-discrete (o .number) 0)
       (λ h. rw (done-text h) (omega (arith, length-take (o .count) (drop begin out), length-drop begin out, done-length form begin (o .steps) (o .aside) (take (o .count) (drop begin out)))))
       (λ h. rw (refused-text h) (omega (arith, refused-length (o .number))))

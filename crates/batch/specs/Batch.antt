@@ -39,17 +39,17 @@ unfoldable pub shapeAfter : List ℕ → Place → Read
 shapeAfter l p = choiceAfter shapes 2 Fault.UnknownRegion l p
 
 -- a cap; the id is then 0
-unfoldable pub capAfter : List ℕ → Place → About
-capAfter l p =
+unfoldable pub capAbout : List ℕ → Place → About
+capAbout l p =
     let v = fourAfter Base.Sixteen l p in
     record { cell = false; id = 0; cap = capOf (getD (v .values) 0 0) (getD (v .values) 1 0) (getD (v .values) 2 0) (getD (v .values) 3 0); after = v .after }
 
 -- a cell; the cap's numbers are then 0
-unfoldable pub cellAfter : List ℕ → Place → About
-cellAfter l p = let id = numberAfter Base.Sixteen 0xffff_ffff_ffff_ffff l p in record { cell = true; id = id .value; cap = capOf 0 0 0 0; after = id .after }
+unfoldable pub cellAbout : List ℕ → Place → About
+cellAbout l p = let id = numberAfter Base.Sixteen 0xffff_ffff_ffff_ffff l p in record { cell = true; id = id .value; cap = capOf 0 0 0 0; after = id .after }
 
 unfoldable pub aboutAfter : List ℕ → Place → About
-aboutAfter l p = let which = shapeAfter l p in elim (eqb (which .value) 0) [ true ↦ capAfter l (which .after) | false ↦ cellAfter l (which .after) ]
+aboutAfter l p = let which = shapeAfter l p in elim (eqb (which .value) 0) [ true ↦ capAbout l (which .after) | false ↦ cellAbout l (which .after) ]
 
 -- ---- options: those of `requests`, of which a line here has some
 

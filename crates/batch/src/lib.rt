@@ -4,7 +4,7 @@ ghost use mathlib.Core.Path.{_≡_};
 ghost use Prim.Native.Nat.{_+_, _*_, _≤_};
 ghost use lib.ListN.{length};
 ghost use Rattle.replies.specs.Write.{Wrote, Whole};
-ghost use Rattle.batch.specs.Batch.{kindAfter, shapeAfter, capAfter, cellAfter, aboutAfter, lacking, allowAfter, orderOf, wordAfter, isHead, headOf, doneText, servedText, summaryText, tooManyText};
+ghost use Rattle.batch.specs.Batch.{kindAfter, shapeAfter, capAbout, cellAbout, aboutAfter, lacking, allowAfter, orderOf, wordAfter, isHead, headOf, doneText, servedText, summaryText, tooManyText};
 use cell::Cap;
 use orders::Order;
 use run::MEMORY_WORDS;
@@ -46,7 +46,7 @@ fn read_shape(line: &[u8], p: Place) -> Read
 
 // `X Y Z R`.
 fn read_cap(line: &[u8], p: Place) -> About
-    ensures { λ r. ⌜ r ≡ capAfter (now (line .entry)) p ⌝ }
+    ensures { λ r. ⌜ r ≡ capAbout (now (line .entry)) p ⌝ }
 {
     let n = requests::read_four(line, p, Base::Sixteen);
     let v = n.values;
@@ -62,7 +62,7 @@ fn read_cap(line: &[u8], p: Place) -> About
 
 // `ID`.
 fn read_cell(line: &[u8], p: Place) -> About
-    ensures { λ r. ⌜ r ≡ cellAfter (now (line .entry)) p ⌝ }
+    ensures { λ r. ⌜ r ≡ cellAbout (now (line .entry)) p ⌝ }
 {
     let id = text::read_number(line, p, Base::Sixteen, u64::MAX);
     let after = id.after;
