@@ -7,7 +7,6 @@ use Prim.Native.Nat.{ℕ, _+_, _-_, _*_, _≤_}
 use native.Mathlib.Omega.{arith}
 use native.Mathlib.Decide.{ℕ-discrete}
 use mathlib.Core.Logic.{by-cases}
-use lib.Dec.{eqb}
 use lib.ListN.{length, getD, take, drop, length-append, length-take, length-drop}
 use borrow.Author.Tests.{eq-eqb, ne-eqb}
 use Rattle.text.specs.Ascii.{ascii}
@@ -28,7 +27,7 @@ use Rattle.requests.specs.Line.{fourAfter, covererAfter, capOf, none, valueOr, 
 use Rattle.requests.specs.Requests.{allowanceOf}
 use Rattle.orders.specs.declared.Order.{Order}
 use Rattle.batch.specs.declared.About.{About}
-use Rattle.batch.specs.Batch.{kindAfter, shapeAfter, capAbout, cellAbout, aboutAfter, lacking, allowAfter, orderOf, wordAfter, headOf, doneText, servedText, summaryText, tooManyText}
+use Rattle.batch.specs.Batch.{kindAfter, shapeAfter, capAbout, cellAbout, aboutAfter, lacking, allowAfter, orderWith, orderOf, wordAfter, headOf, doneText, servedText, summaryText, tooManyText}
 
 -- ---- an order
 
@@ -58,24 +57,7 @@ module _ (l : List ℕ) (p : Place) where
 
 pub order-read : (l : List ℕ) (start : Place) (word : Read) (c : CovererRead) (g : About) (a : Read) (allowance : ℕ) → start ≡ startOf l → word ≡ kindAfter l start → c ≡ covererAfter l (word .after)
     → g ≡ aboutAfter l (c .after) → a ≡ allowAfter l (g .after) → allowance ≡ allowanceOf (a .value)
-    → record {
-      order =
-          record {
-            number = 0;
-            count = 0;
-            steps = 0;
-            aside = 0;
-            fast = eqb (word .value) 2;
-            inner = eqb (word .value) 1;
-            cell = g .cell;
-            id = g .id;
-            cap = g .cap;
-            coverer = c .coverer;
-            allowance = allowance;
-          };
-      after = a .after;
-    }
-    ≡ orderOf l
+    → record { order = orderWith word c g allowance; after = a .after } ≡ orderOf l
 unfolding orderOf
 order-read l start word c g a allowance es ek ec eg ea e = rw (e, ea, eg, ec, ek, es)
 

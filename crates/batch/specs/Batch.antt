@@ -14,6 +14,7 @@ use Rattle.text.specs.Text.{numberAfter, choiceAfter, endAfter, startOf, isAt}
 use Rattle.tokens.specs.declared.Form.{Form}
 use Rattle.replies.specs.Write.{space, newline, decimalText, countedText, refusedText}
 use Rattle.run.specs.Run.{memoryWords}
+use Rattle.requests.specs.declared.line.CovererRead.{CovererRead}
 use Rattle.requests.specs.Line.{fourAfter, covererAfter, capOf, none, valueOr, formOf, optionsAfter}
 use Rattle.requests.specs.Requests.{allowanceOf}
 use Rattle.orders.specs.declared.Order.{Order}
@@ -69,29 +70,29 @@ allowAfter l p =
 
 -- ---- an order: one part after another, as a record that was not served yet; the place after it is a fault's where the line is no order
 
+-- the record of an order, by its parts
+abbrev pub orderWith : Read → CovererRead → About → ℕ → Order
+orderWith word c g allowance = record {
+  number = 0;
+  count = 0;
+  steps = 0;
+  aside = 0;
+  fast = eqb (word .value) 2;
+  inner = eqb (word .value) 1;
+  cell = g .cell;
+  id = g .id;
+  cap = g .cap;
+  coverer = c .coverer;
+  allowance = allowance;
+}
+
 unfoldable pub orderOf : List ℕ → OrderRead
 orderOf l =
     let word = kindAfter l (startOf l) in
     let c = covererAfter l (word .after) in
     let g = aboutAfter l (c .after) in
     let a = allowAfter l (g .after) in
-    record {
-      order =
-          record {
-            number = 0;
-            count = 0;
-            steps = 0;
-            aside = 0;
-            fast = eqb (word .value) 2;
-            inner = eqb (word .value) 1;
-            cell = g .cell;
-            id = g .id;
-            cap = g .cap;
-            coverer = c .coverer;
-            allowance = allowanceOf (a .value);
-          };
-      after = a .after;
-    }
+    record { order = orderWith word c g (allowanceOf (a .value)); after = a .after }
 
 -- ---- the line before the orders
 

@@ -26,25 +26,29 @@ ahead xs mem out = serveAll xs mem out 0
 abbrev pub begins : List Order → List ℕ → List ℕ → ℕ
 begins xs mem out = placesOf (ahead xs mem out .orders)
 
+-- the same once it is served too
+abbrev pub through : List Order → Order → List ℕ → List ℕ → After
+through xs o mem out = ahead (xs ++ (o ∷ [])) mem out
+
 -- "Each order must answer as if called alone with the room then left in the output": its public function, called with the memory as it then is and with what the lists
 -- before leave of the output, answers `answer`, and leaves that memory and that part of the output as they are once it is served
 pub record Alone (xs : List Order) (o : Order) (ys : List Order) (mem out : List ℕ) : Type 0 where
   pub answer : Answer
-  pub called : Answered (resultFor o (length mem) (length out - begins xs mem out)) answer (ahead xs mem out .memory) (ahead (xs ++ (o ∷ [])) mem out .memory) (drop (begins xs mem out) (ahead xs mem out .output)) (drop (begins xs mem out) (ahead (xs ++ (o ∷ [])) mem out .output))
+  pub called : Answered (resultFor o (length mem) (length out - begins xs mem out)) answer (ahead xs mem out .memory) (through xs o mem out .memory) (drop (begins xs mem out) (ahead xs mem out .output)) (drop (begins xs mem out) (through xs o mem out .output))
   pub long : length (ahead xs mem out .memory) ≡ length mem  -- the lengths that it is answered for are those of what it is lent
   pub room : length (drop (begins xs mem out) (ahead xs mem out .output)) ≡ length out - begins xs mem out
-  pub written : serveAll (xs ++ (o ∷ ys)) mem out 0 .orders ≡ ahead xs mem out .orders ++ (withAnswer o answer ∷ serveAll ys (ahead (xs ++ (o ∷ [])) mem out .memory) (ahead (xs ++ (o ∷ [])) mem out .output) (begins xs mem out + answer .count) .orders)
-  pub next : begins (xs ++ (o ∷ [])) mem out ≡ begins xs mem out + answer .count  -- "one behind another": the next list begins where this one ends
-  pub kept : take (begins xs mem out) (ahead (xs ++ (o ∷ [])) mem out .output) ≡ take (begins xs mem out) (ahead xs mem out .output)  -- the lists before it stay
-  pub last : take (begins xs mem out + answer .count) (serveAll (xs ++ (o ∷ ys)) mem out 0 .output) ≡ take (begins xs mem out + answer .count) (ahead (xs ++ (o ∷ [])) mem out .output)  -- and so does its own, whatever is behind it
+  pub written : serveAll (xs ++ (o ∷ ys)) mem out 0 .orders ≡ ahead xs mem out .orders ++ (withAnswer o answer ∷ serveAll ys (through xs o mem out .memory) (through xs o mem out .output) (begins xs mem out + answer .count) .orders)
+  pub next : placesOf (through xs o mem out .orders) ≡ begins xs mem out + answer .count  -- "one behind another": the next list begins where this one ends
+  pub kept : take (begins xs mem out) (through xs o mem out .output) ≡ take (begins xs mem out) (ahead xs mem out .output)  -- the lists before it stay
+  pub last : take (begins xs mem out + answer .count) (serveAll (xs ++ (o ∷ ys)) mem out 0 .output) ≡ take (begins xs mem out + answer .count) (through xs o mem out .output)  -- and so does its own, whatever is behind it
 
 -- "A refused order takes no room and the next one runs": the next is answered (`Alone`) for the room that this one was answered for
 pub record NoneTaken (xs : List Order) (o : Order) (mem out : List ℕ) (answer : Answer) : Type 0 where
   pub count : answer .count ≡ 0
   pub steps : answer .steps ≡ 0
   pub aside : answer .aside ≡ 0
-  pub next : begins (xs ++ (o ∷ [])) mem out ≡ begins xs mem out
-  pub output : ahead (xs ++ (o ∷ [])) mem out .output ≡ ahead xs mem out .output
+  pub next : placesOf (through xs o mem out .orders) ≡ begins xs mem out
+  pub output : through xs o mem out .output ≡ ahead xs mem out .output
 
 -- the output from where its list begins, when the night is over
 abbrev pub partOf : List Order → Order → List Order → List ℕ → List ℕ → List ℕ
@@ -52,7 +56,7 @@ partOf xs o ys mem out = drop (begins xs mem out) (serveAll (xs ++ (o ∷ ys)) m
 
 -- its public function, called on that part, would answer the same and leave it as it is
 pub record Stands (xs : List Order) (o : Order) (ys : List Order) (mem out : List ℕ) (answer : Answer) : Type 0 where
-  pub called : Answered (resultFor o (length mem) (length out - begins xs mem out)) answer (ahead xs mem out .memory) (ahead (xs ++ (o ∷ [])) mem out .memory) (partOf xs o ys mem out) (partOf xs o ys mem out)
+  pub called : Answered (resultFor o (length mem) (length out - begins xs mem out)) answer (ahead xs mem out .memory) (through xs o mem out .memory) (partOf xs o ys mem out) (partOf xs o ys mem out)
   pub room : length (partOf xs o ys mem out) ≡ length out - begins xs mem out
 
 -- ---- the records
