@@ -25,6 +25,8 @@
 //!     valid, is_unit, cell_contains_point, cap_contains_cell, cap_intersects_cell, common_ancestor_level, level,
 //!     face_ij_orientation, cellid_from_point, vertices, edges, cell_cap_bound, sqrt, st_to_uv, uv_to_st, vertex_neighbors,
 //!     bound REGION, starts MIN MAX MOD MAX_CELLS REGION, region_contains_cell REGION ID, region_intersects_cell REGION ID
+//!     region_look REGION ID  what the cell is to the region, 0 outside, 1 crossing, 2 inside, and whether it is not outside; the same of
+//!                            its children, as sets by place: those not outside, those inside, those not outside; 0 0 0 for a leaf
 //!
 //! The values are the Rust's. The papers' refusals 1 to 6, 10 to 12, 15 to 17, 25 and 26 are decided here, around it; 7, 8 and 9 by the hooks.
 //! The Rust has no function for ranges: first and last leaf are its range_min and range_max, joined here; a pair's cells are
@@ -633,6 +635,24 @@ fn probe(question: &str, fields: &mut Fields) -> Result<String, Word> {
             let region = fields.region()?.ok_or("domain")?;
             ASKED.set(0);
             truth(region.intersects_cell(&Cell::from(fields.id()?)))
+        }
+        "region_look" => {
+            let region = fields.region()?.ok_or("domain")?;
+            let id = fields.id()?;
+            ASKED.set(0);
+            let look = |id: CellID| {
+                let cell = Cell::from(id);
+                (region.intersects_cell(&cell) as u64, region.contains_cell(&cell) as u64)
+            };
+            let (own, (mut passing, mut inside)) = (look(id), (0, 0));
+            if !id.is_leaf() {
+                for (place, child) in id.children().iter().enumerate() {
+                    let seen = look(*child);
+                    passing |= seen.0 << place;
+                    inside |= seen.1 << place;
+                }
+            }
+            format!("{} {} {passing} {inside} {passing}", own.0 + own.1, own.0)
         }
         "bound" => list(&fields.region()?.ok_or("domain")?.cell_union_bound()),
         "normalize" => {

@@ -1,20 +1,79 @@
--- The four children of a cell have one level, so that one rule makes their sets of the two that a look gives.
+-- What one look makes of a cell in a run; and since the four children of a cell have one level, one rule makes their sets of the two that a look gives.
 use mathlib.Core.Path.{_≡_, refl, sym, ap, ap₂, _∙_}
-use mathlib.Core.Bool.{Bool, true, false, true≢false}
-use Prim.Native.Nat.{ℕ, _+_, _*_, _/_, _%_, _^_, _≤_, _<_}
+use mathlib.Core.Logic.{by-cases}
+use mathlib.Core.Bool.{Bool, true, false, not, cond, _&&_, _||_}
+use Prim.Native.Nat.{ℕ, _+_, _*_, _/_, _^_, _<_}
+use native.Mathlib.Decide.{decLt}
 use native.Mathlib.Omega.{arith}
 use lib.Bits.{bitAnd, and-mask}
+use lib.Dec.{leb, ltb}
+use borrow.Author.Tests.{lt-ltb, le-ltb, lt-leb, le-leb}
 use Rattle.cellid.specs.CellId.{Cell, levelOf, childOf, one}
 use Rattle.cellid.proofs.Laws.{level-cell, one-le}
 use Rattle.cellid.proofs.Leaves.{child-cell}
-use Rattle.cap.specs.Siblings.{fourBits, setOf, looksOf}
-use Rattle.cap.specs.declared.Looks.{Looks}
-use Rattle.cap.proofs.Siblings.{pick-bit}
+use Rattle.sight.specs.Sight.{sightBy, sightOf, passes, isInside, fourBits, fourSights, sightsOf}
+use Rattle.sight.specs.declared.Sight.{Sight}
+use Rattle.sight.specs.declared.Sights.{Sights}
+use Rattle.sight.proofs.Laws.{pick-bit, passes-by}
 use Rattle.run.specs.declared.Found.{Found}
-use Rattle.run.specs.Run.{minLevel, maxLevel, levelMod, Task, look}
+use Rattle.run.specs.declared.Request.{Request}
+use Rattle.run.specs.Run.{minLevel, maxLevel, levelMod, Task, Look, fails, none, terminal, divide, look}
 use Rattle.run.specs.Masks.{foundAt, found, foundPart, placeIn, upTo}
-use Rattle.run.proofs.Looks.{look-fails, look-below, look-inside, look-bottom, look-none, look-above}
+use Rattle.run.proofs.Looks.{lookBy, look-by}
 use Rattle.run.proofs.Masks.{part-last, found-four}
+use Rattle.candidate.specs.Candidate.{asksWhole, crossingAs, candidateOf}
+use Rattle.candidate.specs.declared.Candidate.{Candidate}
+
+-- ---- one cell
+
+-- what the run takes a cell for, by a look that tells as much as it asks, where it takes a crossing one for x
+abbrev lookAs : Look → Sight → Look
+lookAs x Sight.Outside = fails
+lookAs x Sight.Crossing = x
+lookAs x Sight.Inside = terminal
+
+look-five : (h l w b i : Bool) → lookBy h l w b i ≡ lookAs (cond l divide (cond b (cond i none terminal) divide)) (sightBy h ((not l && (i || not b)) && w))
+unfolding lookBy sightBy
+look-five false l w b i = refl
+look-five true true w b i = refl
+look-five true false true true true = refl
+look-five true false true true false = refl
+look-five true false true false true = refl
+look-five true false true false false = refl
+look-five true false false true true = refl
+look-five true false false true false = refl
+look-five true false false false true = refl
+look-five true false false false false = refl
+
+look-as : (T : Task) (id : ℕ) → look T id ≡ lookAs (crossingAs (T .asked) (levelOf id)) (sightOf (T .hits) (T .within) (asksWhole (T .asked) (levelOf id)) id)
+unfolding sightOf asksWhole crossingAs
+look-as T id = look-by T id ∙ look-five (T .hits id) (ltb (levelOf id) (minLevel (T .asked))) (T .within id) (ltb (maxLevel (T .asked)) (levelOf id + levelMod (T .asked))) (T .asked .inner)
+
+pub seen-as : (T : Task) (id level : ℕ) (whole : Bool) (s : Sight) → level ≡ levelOf id → whole ≡ asksWhole (T .asked) level → s ≡ sightOf (T .hits) (T .within) whole id → lookAs (crossingAs (T .asked) level) s ≡ look T id
+seen-as T id level whole s el ew es = rw (es, ew, el) (sym (look-as T id))
+
+-- what a crossing cell is to the run tells whether it asks for more, at min or deeper
+abbrev asksBy : Candidate → Bool → Bool
+asksBy Candidate.Kept deep = false
+asksBy Candidate.Queued deep = deep
+asksBy Candidate.None deep = true
+
+asks-three : (l b i : Bool) → asksBy (candidateOf (cond l divide (cond b (cond i none terminal) divide))) (not l) ≡ (not l && (i || not b))
+unfolding candidateOf
+asks-three true b i = refl
+asks-three false true true = refl
+asks-three false true false = refl
+asks-three false false true = refl
+asks-three false false false = refl
+
+leb-not : (a b : ℕ) → leb a b ≡ not (ltb b a)
+leb-not a b = by-cases (decLt b a) (λ h. rw (lt-leb a b h, lt-ltb b a h)) (λ h. rw (le-leb a b (omega arith), le-ltb b a (omega arith)))
+
+pub asks-by : (q : Request) (level : ℕ) (c : Candidate) → c ≡ candidateOf (crossingAs q level) → asksBy c (leb (minLevel q) level) ≡ asksWhole q level
+unfolding crossingAs asksWhole
+asks-by q level c e = rw (e, leb-not (minLevel q) level) (asks-three (ltb level (minLevel q)) (ltb (maxLevel q) (level + levelMod q)) (q .inner))
+
+-- ---- four
 
 abbrev sets : ℕ → ℕ → Found
 sets p t = record { present = p; terminal = t }
@@ -29,69 +88,76 @@ unfolding upTo placeIn
 up-four f id p t e =
     rw (e 0 (omega arith), e 1 (omega arith), e 2 (omega arith), e 3 (omega arith)) (ap₂ sets (join-four (p 0) (p 1) (p 2) (p 3)) (join-four (t 0) (t 1) (t 2) (t 3)))
 
--- one cell, by what the two tests say of it
-module _ (T : Task) (x : ℕ) where
-  below : (h : Bool) → T .hits x ≡ h → levelOf x < minLevel (T .asked) → foundAt (look T x) ≡ sets (one h) 0
-  unfolding foundAt one
-  below true e l = rw (look-below T x e l)
-  below false e l = rw (look-fails T x e)
+-- whether a cell is one of the children, and a terminal one, by what a crossing cell of its level is to the run
+abbrev isPresent : Candidate → Sight → Bool
+isPresent Candidate.Kept s = passes s
+isPresent Candidate.Queued s = passes s
+isPresent Candidate.None s = isInside s
 
-  outer : (h : Bool) → T .hits x ≡ h → minLevel (T .asked) ≤ levelOf x → maxLevel (T .asked) < levelOf x + levelMod (T .asked) → T .asked .inner ≡ false → foundAt (look T x) ≡ sets (one h) (one h)
-  unfolding foundAt one
-  outer true e l b o = rw (look-bottom T x e l b o)
-  outer false e l b o = rw (look-fails T x e)
+abbrev isTerminal : Candidate → Sight → Bool
+isTerminal Candidate.Kept s = passes s
+isTerminal Candidate.Queued s = isInside s
+isTerminal Candidate.None s = isInside s
 
-  inner : (h w : Bool) → T .hits x ≡ h → T .within x ≡ w → (T .within x ≡ true → T .hits x ≡ true) → minLevel (T .asked) ≤ levelOf x → maxLevel (T .asked) < levelOf x + levelMod (T .asked) → T .asked .inner ≡ true → foundAt (look T x) ≡ sets (one w) (one w)
-  unfolding foundAt one
-  inner true true e f i l b o = rw (look-inside T x e l f)
-  inner true false e f i l b o = rw (look-none T x e l b o f)
-  inner false true e f i l b o = absurd (true≢false (sym (i f) ∙ e))
-  inner false false e f i l b o = rw (look-fails T x e)
+-- a look as sets of one, by the candidate that it makes
+look-found : (x : Look) → foundAt x ≡ sets (one (isPresent (candidateOf x) Sight.Crossing)) (one (isTerminal (candidateOf x) Sight.Crossing))
+unfolding foundAt candidateOf one
+look-found fails = refl
+look-found none = refl
+look-found terminal = refl
+look-found divide = refl
 
-  between : (h w : Bool) → T .hits x ≡ h → T .within x ≡ w → (T .within x ≡ true → T .hits x ≡ true) → minLevel (T .asked) ≤ levelOf x → levelOf x + levelMod (T .asked) ≤ maxLevel (T .asked) → foundAt (look T x) ≡ sets (one h) (one w)
-  unfolding foundAt one
-  between true true e f i l b = rw (look-inside T x e l f)
-  between true false e f i l b = rw (look-above T x e l b f)
-  between false true e f i l b = absurd (true≢false (sym (i f) ∙ e))
-  between false false e f i l b = rw (look-fails T x e)
+cell-found : (x : Look) (c : Candidate) (s : Sight) → c ≡ candidateOf x → foundAt (lookAs x s) ≡ sets (one (isPresent c s)) (one (isTerminal c s))
+unfolding foundAt one
+cell-found x Candidate.Kept Sight.Outside e = refl
+cell-found x Candidate.Queued Sight.Outside e = refl
+cell-found x Candidate.None Sight.Outside e = refl
+cell-found x c Sight.Crossing e = look-found x ∙ rw (← e)
+cell-found x Candidate.Kept Sight.Inside e = refl
+cell-found x Candidate.Queued Sight.Inside e = refl
+cell-found x Candidate.None Sight.Inside e = refl
 
--- the level of each child, and that the containment test implies the other
-module _ (T : Task) (id : ℕ) (c : Cell id) (deep : levelOf id < 30) where
+-- the sets of the four children
+abbrev setsBy : Candidate → Sights → Found
+setsBy Candidate.Kept l = sets (l .passing) (l .passing)
+setsBy Candidate.Queued l = sets (l .passing) (l .inside)
+setsBy Candidate.None l = sets (l .inside) (l .inside)
+
+module _ (T : Task) (id : ℕ) (C : Cell id) (deep : levelOf id < 30) where
   level-under : (k : ℕ) → k < 4 → levelOf (childOf id k) ≡ levelOf id + 1
   level-under k g =
-      let l : levelOf id ≡ c .0 = level-cell id (c .0) (c .1) (c .2) in
-      level-cell (childOf id k) (c .0 + 1) (4 * c .1 + k) (child-cell k (c .2) (omega arith) g) ∙ sym (ap (λ (n : ℕ). n + 1) l)
+      let l : levelOf id ≡ C .0 = level-cell id (C .0) (C .1) (C .2) in
+      level-cell (childOf id k) (C .0 + 1) (4 * C .1 + k) (child-cell k (C .2) (omega arith) g) ∙ sym (ap (λ (n : ℕ). n + 1) l)
 
-  four : (p t : ℕ → ℕ) → ((k : ℕ) → k < 4 → foundAt (look T (childOf id k)) ≡ sets (p k) (t k))
-      → found T 1 id ≡ sets (fourBits (p 0) (p 1) (p 2) (p 3)) (fourBits (t 0) (t 1) (t 2) (t 3))
-  four p t e = found-four T 0 id ∙ up-four (foundPart T 0) id p t (λ k g. part-last T (childOf id k) ∙ e k g)
+  module _ (c : Candidate) (e : c ≡ candidateOf (crossingAs (T .asked) (levelOf id + 1))) where
+    abbrev sightBelow : ℕ → Sight
+    sightBelow x = sightOf (T .hits) (T .within) (asksWhole (T .asked) (levelOf id + 1)) x
 
-  pub four-below : levelOf id + 1 < minLevel (T .asked) → found T 1 id ≡ sets (setOf (T .hits) id) 0
-  unfolding setOf
-  four-below l = four (λ k. one (T .hits (childOf id k))) (λ k. 0)
-      (λ k g. below T (childOf id k) (T .hits (childOf id k)) refl (omega (arith, level-under k g)))
+    child-found : (k : ℕ) → k < 4 → foundAt (look T (childOf id k)) ≡ sets (one (isPresent c (sightBelow (childOf id k)))) (one (isTerminal c (sightBelow (childOf id k))))
+    child-found k g = rw (look-as T (childOf id k), level-under k g) (cell-found (crossingAs (T .asked) (levelOf id + 1)) c (sightBelow (childOf id k)) e)
 
-  module _ (l : minLevel (T .asked) ≤ levelOf id + 1) where
-    pub four-outer : maxLevel (T .asked) < levelOf id + 1 + levelMod (T .asked) → T .asked .inner ≡ false → found T 1 id ≡ sets (setOf (T .hits) id) (setOf (T .hits) id)
-    unfolding setOf
-    four-outer b o = four (λ k. one (T .hits (childOf id k))) (λ k. one (T .hits (childOf id k)))
-        (λ k g. outer T (childOf id k) (T .hits (childOf id k)) refl (omega (arith, level-under k g)) (omega (arith, level-under k g)) o)
+    four : found T 1 id
+        ≡ sets (fourBits (one (isPresent c (sightBelow (childOf id 0)))) (one (isPresent c (sightBelow (childOf id 1)))) (one (isPresent c (sightBelow (childOf id 2)))) (one (isPresent c (sightBelow (childOf id 3)))))
+        (fourBits (one (isTerminal c (sightBelow (childOf id 0)))) (one (isTerminal c (sightBelow (childOf id 1)))) (one (isTerminal c (sightBelow (childOf id 2)))) (one (isTerminal c (sightBelow (childOf id 3)))))
+    four = found-four T 0 id ∙ up-four (foundPart T 0) id (λ k. one (isPresent c (sightBelow (childOf id k)))) (λ k. one (isTerminal c (sightBelow (childOf id k)))) (λ k g. part-last T (childOf id k) ∙ child-found k g)
 
-    module _ (implies : (k : ℕ) → k < 4 → T .within (childOf id k) ≡ true → T .hits (childOf id k) ≡ true) where
-      pub four-inner : maxLevel (T .asked) < levelOf id + 1 + levelMod (T .asked) → T .asked .inner ≡ true → found T 1 id ≡ sets (setOf (T .within) id) (setOf (T .within) id)
-      unfolding setOf
-      four-inner b o = four (λ k. one (T .within (childOf id k))) (λ k. one (T .within (childOf id k)))
-          (λ k g. inner T (childOf id k) (T .hits (childOf id k)) (T .within (childOf id k)) refl refl (implies k g) (omega (arith, level-under k g)) (omega (arith, level-under k g)) o)
+    four-found : (l : Sights) → l ≡ sightsOf sightBelow id → setsBy c l ≡ found T 1 id
+    unfolding sightsOf fourSights
+    four-found l f = rw f (by c ∙ sym four)
+      where
+        by : (c : Candidate) → setsBy c (sightsOf sightBelow id)
+            ≡ sets (fourBits (one (isPresent c (sightBelow (childOf id 0)))) (one (isPresent c (sightBelow (childOf id 1)))) (one (isPresent c (sightBelow (childOf id 2)))) (one (isPresent c (sightBelow (childOf id 3)))))
+            (fourBits (one (isTerminal c (sightBelow (childOf id 0)))) (one (isTerminal c (sightBelow (childOf id 1)))) (one (isTerminal c (sightBelow (childOf id 2)))) (one (isTerminal c (sightBelow (childOf id 3)))))
+        by Candidate.Kept = refl
+        by Candidate.Queued = refl
+        by Candidate.None = refl
 
-      pub four-between : levelOf id + 1 + levelMod (T .asked) ≤ maxLevel (T .asked) → found T 1 id ≡ sets (setOf (T .hits) id) (setOf (T .within) id)
-      unfolding setOf
-      four-between b = four (λ k. one (T .hits (childOf id k))) (λ k. one (T .within (childOf id k)))
-          (λ k g. between T (childOf id k) (T .hits (childOf id k)) (T .within (childOf id k)) refl refl (implies k g) (omega (arith, level-under k g)) (omega (arith, level-under k g)))
+  pub four-seen : (level : ℕ) (whole : Bool) (c : Candidate) (l : Sights) → level ≡ levelOf id → c ≡ candidateOf (crossingAs (T .asked) (level + 1)) → whole ≡ asksWhole (T .asked) (level + 1)
+      → l ≡ sightsOf (sightOf (T .hits) (T .within) whole) id → setsBy c l ≡ found T 1 id
+  unfolding sightsOf
+  four-seen level whole c l el ec ew es = four-found c (rw (← el) ec) l (rw (← el, ← ew) es)
 
--- a bit of a set
-pub set-bit : (test : ℕ → Bool) (id k : ℕ) → k < 4 → setOf test id / 2 ^ k % 2 ≡ one (test (childOf id k))
-unfolding setOf
-set-bit test id k g = pick-bit (λ n. one (test (childOf id n))) (λ n. one-le (test (childOf id n))) k g
+-- ---- a bit of the set of those that pass
 
 pub bit-yes : (b : Bool) → one b ≡ 1 → b ≡ true
 unfolding one
@@ -103,7 +169,8 @@ unfolding one
 bit-no true h = absurd (h refl)
 bit-no false h = refl
 
--- the test of a bit of the set that a look gives
-pub bit-test : (hits within : ℕ → Bool) (id k : ℕ) (l : Looks) → k < 4 → l ≡ looksOf hits within id → bitAnd (l .meets / 2 ^ k) 1 ≡ one (hits (childOf id k))
-unfolding looksOf
-bit-test hits within id k l g e = rw (and-mask (l .meets / 2 ^ k) 1, e) (set-bit hits id k g)
+pub bit-test : (hits within : ℕ → Bool) (whole : Bool) (id k : ℕ) (l : Sights) → k < 4 → l ≡ sightsOf (sightOf hits within whole) id → bitAnd (l .passing / 2 ^ k) 1 ≡ one (hits (childOf id k))
+unfolding sightsOf fourSights sightOf
+bit-test hits within whole id k l g e =
+    rw (and-mask (l .passing / 2 ^ k) 1, e)
+    (pick-bit (λ n. one (passes (sightOf hits within whole (childOf id n)))) (λ n. one-le (passes (sightOf hits within whole (childOf id n)))) k g ∙ ap one (passes-by _ _))

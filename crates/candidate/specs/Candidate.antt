@@ -1,7 +1,8 @@
 -- What the code's values stand for in the defined run. Assumes nothing.
 use mathlib.Core.Path.{_≡_}
-use mathlib.Core.Bool.{true}
-use Prim.Native.Nat.{ℕ, _*_, _^_, _≤_, _<_}
+use mathlib.Core.Bool.{Bool, true, not, cond, _&&_, _||_}
+use Prim.Native.Nat.{ℕ, _+_, _*_, _^_, _≤_, _<_}
+use lib.Dec.{ltb}
 use Rattle.region.specs.Region.{Area, inDomain, intersectsCell, containsCell}
 use Rattle.run.specs.declared.Found.{Found}
 use Rattle.run.specs.declared.Request.{Request}
@@ -19,6 +20,14 @@ pub record Asks (q : Request) (a : Area) : Type 0 where
   pub some : 0 < levelMod q
   pub few : levelMod q ≤ 3
   pub region : inDomain a ≡ true
+
+-- whether the run asks of a cell of this level if it lies inside: "At min or deeper", but not of an outer one that is "terminal if level + level_mod > max"
+unfoldable pub asksWhole : Request → ℕ → Bool
+asksWhole q level = not (ltb level (minLevel q)) && (q .inner || not (ltb (maxLevel q) (level + levelMod q)))
+
+-- what the run takes a cell of this level for that intersects and isn't contained
+unfoldable pub crossingAs : Request → ℕ → Look
+crossingAs q level = cond (ltb level (minLevel q)) divide (cond (ltb (maxLevel q) (level + levelMod q)) (cond (q .inner) none terminal) divide)
 
 -- kept, queued, or none
 unfoldable pub candidateOf : Look → Candidate

@@ -3,13 +3,14 @@
 ghost use mathlib.Core.Path.{_≡_};
 ghost use Prim.Native.Nat.{_+_, _<_, _≤_};
 ghost use Rattle.cellid.specs.CellId.{Cell, levelOf};
-ghost use Rattle.run.specs.Run.{look, depth};
+ghost use Rattle.run.specs.Run.{levelMod, look, depth};
 ghost use Rattle.region.specs.Region.{areaOf};
 ghost use Rattle.run.specs.Masks.{placeIn, found};
-ghost use Rattle.candidate.specs.Candidate.{taskOf, Asks, candidateOf, Roomy};
+ghost use Rattle.candidate.specs.Candidate.{taskOf, Asks, asksWhole, crossingAs, candidateOf, Roomy};
 use region::Region;
 use run::Found;
 use run::Request;
+use sight::Sight;
 
 // What a cell is to a run: terminal, to be expanded, or neither.
 pub enum Candidate {
@@ -18,37 +19,49 @@ pub enum Candidate {
     None,
 }
 
-// What the cell is to the run: kept if it is terminal, queued if it is to be expanded, none if it fails the intersection test or an inner run can't use it.
-// One intersection test; a containment test at min or deeper, but for an outer cell that is terminal by its level.
+// What a cell of this level that crosses the rim is to a run.
+fn crossing(q: Request, level: u64) -> Candidate
+    requires { ⌜ (level ≤ 30) × (levelMod q ≤ 3) ⌝ }
+    ensures { λ r. ⌜ r ≡ candidateOf (crossingAs q level) ⌝ }
+{
+    if level < q.coverer.min_level {
+        return Candidate::Queued;
+    }
+    if level + q.coverer.level_mod <= q.coverer.max_level {
+        return Candidate::Queued;
+    }
+    if q.inner {
+        return Candidate::None;
+    }
+    Candidate::Kept
+}
+
+// Whether the run asks of a cell of this level if it lies inside: at min or deeper, but for an outer one that is kept in any case.
+fn asks_whole(q: Request, level: u64, crossing: Candidate) -> bool
+    requires { ⌜ crossing ≡ candidateOf (crossingAs q level) ⌝ }
+    ensures { λ r. ⌜ r ≡ asksWhole q level ⌝ }
+{
+    match crossing {
+        Candidate::Kept => false,
+        Candidate::Queued => q.coverer.min_level <= level,
+        Candidate::None => true,
+    }
+}
+
+// What the cell is to the run: kept if it is terminal, queued if it is to be expanded, none if it lies outside or an inner run can't use it. One look, for no
+// more than the run asks.
 pub fn new_candidate(q: Request, g: Region, list: &[u64], id: u64) -> Candidate
     requires { ⌜ Asks q (areaOf g (now list)) ⌝ }
     requires { ⌜ Cell id ⌝ }
     ensures { λ r. ⌜ r ≡ candidateOf (look (taskOf q (areaOf g (now (list .entry)))) id) ⌝ }
 {
-    if region::intersects_cell(g, list, id) {
-        let level = cellid::level(id);
-        if level < q.coverer.min_level {
-            return Candidate::Queued;
-        }
-        if level + q.coverer.level_mod > q.coverer.max_level {
-            if q.inner {
-                if region::contains_cell(g, list, id) {
-                    Candidate::Kept
-                } else {
-                    Candidate::None
-                }
-            } else {
-                Candidate::Kept
-            }
-        } else {
-            if region::contains_cell(g, list, id) {
-                Candidate::Kept
-            } else {
-                Candidate::Queued
-            }
-        }
-    } else {
-        Candidate::None
+    let level = cellid::level(id);
+    let c = crossing(q, level);
+    let s = region::look_at(g, list, id, asks_whole(q, level, c));
+    match s {
+        Sight::Outside => Candidate::None,
+        Sight::Crossing => c,
+        Sight::Inside => Candidate::Kept,
     }
 }
 
@@ -58,29 +71,22 @@ fn children(q: Request, g: Region, list: &[u64], id: u64) -> Found
     requires { ⌜ Cell id × (levelOf id < 30) ⌝ }
     ensures { λ r. ⌜ r ≡ found (taskOf q (areaOf g (now (list .entry)))) 1 id ⌝ }
 {
-    let l = region::look_children(g, list, id);
     let under = cellid::level(id) + 1;
-    if under < q.coverer.min_level {
-        return Found {
-            present: l.meets,
-            terminal: 0,
-        };
-    }
-    if under + q.coverer.level_mod > q.coverer.max_level {
-        if q.inner {
-            return Found {
-                present: l.inside,
-                terminal: l.inside,
-            };
-        }
-        return Found {
-            present: l.meets,
-            terminal: l.meets,
-        };
-    }
-    Found {
-        present: l.meets,
-        terminal: l.inside,
+    let c = crossing(q, under);
+    let l = region::look_children(g, list, id, asks_whole(q, under, c));
+    match c {
+        Candidate::Kept => Found {
+            present: l.passing,
+            terminal: l.passing,
+        },
+        Candidate::Queued => Found {
+            present: l.passing,
+            terminal: l.inside,
+        },
+        Candidate::None => Found {
+            present: l.inside,
+            terminal: l.inside,
+        },
     }
 }
 
@@ -107,15 +113,15 @@ fn expand_children(q: Request, g: Region, list: &[u64], id: u64, left: u64) -> F
     }
     let less = left - 1;
     let width: u64 = 1 << (2 * less);
-    let l = region::look_children(g, list, id);
-    let meets = l.meets;
+    let l = region::look_children(g, list, id, false);
+    let passing = l.passing;
     let mut acc = Found {
         present: 0,
         terminal: 0,
     };
     let mut k: u64 = 0;
     while k < 4 {
-        let f = if (meets >> k) & 1 == 1 {
+        let f = if (passing >> k) & 1 == 1 {
             expand_children(q, g, list, cellid::child(id, k), less)
         } else {
             Found {

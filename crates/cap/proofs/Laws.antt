@@ -26,9 +26,9 @@ corner-at c (suc (suc zero)) d h = refl
 corner-at c (suc (suc (suc zero))) d h = refl
 corner-at c (suc (suc (suc (suc k)))) d h = absurd (omega arith)
 
--- what a test of a corner says, where the cell and the corner were computed on the way
-pub corner-held : (cap : Cap) (id k : ℕ) (c : Cell) (p : Point) (b : Bool) → c ≡ cellOf id → p ≡ vertexAt c k → b ≡ capHolds cap p → capHolds cap (vertexOf id k) ≡ b
-corner-held cap id k c p b e f g = sym (g ∙ ap (capHolds cap) (f ∙ ap (λ (x : Cell). vertexAt x k) e))
+-- what a test of a corner says, where the corner was computed on the way
+pub at-corner : (cap : Cap) (c : Cell) (k : ℕ) (p : Point) (b : Bool) → p ≡ vertexAt c k → b ≡ capHolds cap p → capHolds cap (vertexAt c k) ≡ b
+at-corner cap c k p b e f = sym (f ∙ ap (capHolds cap) e)
 
 pub face-of : (id : ℕ) (c : Cell) → CellId.Cell id → c ≡ cellOf id → c .face < 6
 face-of id c h e = rw e (cell-face id h)

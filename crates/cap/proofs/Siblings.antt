@@ -1,27 +1,69 @@
--- The four children at once: the nine corners decide as each child's four do, and the order of the curve. Assumes nothing.
-use mathlib.Core.Path.{_≡_, refl, sym, _∙_}
-use mathlib.Core.Bool.{Bool, true, false, not, _&&_, _||_}
+-- The four quarters of a cell together: nine corners decide as each quarter's four do, and the order of the curve. Assumes nothing.
+use mathlib.Core.Path.{_≡_, refl, ap, ap₂, _∙_}
+use mathlib.Core.Logic.{inl, inr}
+use mathlib.Core.Bool.{Bool, true, false, not, _&&_, and-eq-true-iff}
 use mathlib.Core.List.{List}
-use Prim.Native.Nat.{ℕ, zero, suc, _+_, _*_, _/_, _%_, _^_, _≤_, _<_}
+use Prim.Native.Nat.{ℕ, zero, suc, _-_, _*_, _/_, _%_, _^_, _≤_, _<_}
 use native.Mathlib.Nat.{mul-le-mul}
 use native.Mathlib.Omega.{arith}
 use lib.ListN.{getD}
 use lib.Dec.{eqb}
-use borrow.Author.Tests.{eqb-true}
+use borrow.Author.Tests.{eqb-true, eq-eqb}
 use Rattle.cellid.specs.CellId as CellId
-use Rattle.cellid.specs.CellId.{levelOf, one}
-use Rattle.cellid.proofs.Laws.{every, every-at, level-cell, one-le}
+use Rattle.cellid.specs.CellId.{levelOf, childOf, one}
+use Rattle.cellid.proofs.Laws.{every, every-at, level-cell, one-le, true-or}
 use Rattle.hilbert.specs.Curve.{ijAt}
 use Rattle.hilbert.proofs.Laws.{ij-lt}
 use Rattle.point.specs.declared.Point.{Point}
 use Rattle.cell.specs.Cell.{cellOf, vertexAt, verticesOf}
-use Rattle.cell.specs.Siblings.{quartersOf, quarterAt, halfOf, cornersOf, scalesOf, scaledOf, cellScales}
+use Rattle.cell.specs.Siblings.{quartersOf, quarterAt, halfOf, sharedCorner, cornersOf, scalesOf, scaledOf, cellScales}
 use Rattle.cell.specs.declared.Cell.{Cell}
 use Rattle.cell.specs.declared.Cap.{Cap}
 use Rattle.cell.specs.declared.Quarters.{Quarters}
 use Rattle.cell.proofs.Siblings.{child-quarter, quarters-in}
-use Rattle.cap.specs.Cap.{capHolds, touches, complementOf, meetsCell, holdsCell, capIntersects, capContains}
-use Rattle.cap.specs.Siblings.{fourBits, setBy, setOf, looksOf, heldOf, lookOf, looksAt, nowhere, heldNine, squareAt, heldAt, cornerAt, hasBit, turned}
+use Rattle.sight.specs.Sight.{sightOf, passes, isInside, fourBits, fourSights, sightsOf}
+use Rattle.sight.specs.declared.Sight.{Sight}
+use Rattle.sight.specs.declared.Sights.{Sights}
+use Rattle.sight.proofs.Laws.{pick-bit, sets-lt}
+use Rattle.cap.proofs.Looks.{enough, not-enough, asked-less}
+use Rattle.cap.specs.Cap.{capHolds, complementOf, capIntersects, capContains}
+use Rattle.cap.specs.Looks.{sightIn, canReach, asksEdges, quarterSights, heldOf, nowhere, heldNine, squareAt, heldAt, cornerAt, turned}
+
+-- ---- the scales of the lines, where edges may be asked
+
+-- a product of four numbers up to 4 fits
+pub product-le : (a b c d : ℕ) → a ≤ 4 → b ≤ 4 → c ≤ 4 → d ≤ 4 → (a * b ≤ 16) × (a * b * c ≤ 64) × (a * b * c * d ≤ 256)
+product-le a b c d e f g h =
+    let x : a * b ≤ 16 = mul-le-mul e f in
+    let y : a * b * c ≤ 64 = mul-le-mul x g in
+    (x, y, mul-le-mul y h)
+
+-- one that is zero is seen
+zero-seen : (a b c d : ℕ) → let r = eqb (a * b * c * d) 0 in (a ≡ 0 → r ≡ true) × (b ≡ 0 → r ≡ true) × (c ≡ 0 → r ≡ true) × (d ≡ 0 → r ≡ true)
+zero-seen a b c d = (
+  λ e. eq-eqb (a * b * c * d) 0 (rw e (omega arith)),
+  λ e. eq-eqb (a * b * c * d) 0 (rw e (omega arith)),
+  λ e. eq-eqb (a * b * c * d) 0 (rw e (omega arith)),
+  λ e. eq-eqb (a * b * c * d) 0 (rw e (omega arith)),
+)
+
+-- so a quarter whose edges may be asked has its scales
+abbrev Asked : Bool → Bool → Bool → ℕ → Type 0
+Asked near beyond asked held = (held ≡ 0 → near ≡ true → asked ≡ true) × (held ≡ 4 → beyond ≡ true → asked ≡ true)
+
+pub edges-asked : (near beyond asked : Bool) (a b c d : ℕ) → asked ≡ asksEdges near beyond a b c d → Asked near beyond asked a × Asked near beyond asked b × Asked near beyond asked c × Asked near beyond asked d
+edges-asked near beyond asked a b c d e =
+    let n = eqb (a * b * c * d) 0 in
+    let f = eqb ((4 - a) * (4 - b) * (4 - c) * (4 - d)) 0 in
+    let none : n ≡ true → near ≡ true → asked ≡ true = λ z t. e ∙ true-or (near && n) (beyond && f) (inl (and-eq-true-iff near n .1 (t, z))) in
+    let all : f ≡ true → beyond ≡ true → asked ≡ true = λ z t. e ∙ true-or (near && n) (beyond && f) (inr (and-eq-true-iff beyond f .1 (t, z))) in
+    let Z = zero-seen a b c d in
+    let F = zero-seen (4 - a) (4 - b) (4 - c) (4 - d) in (
+      (λ h. none (Z .0 h), λ h. all (F .0 (omega arith))),
+      (λ h. none (Z .1 h), λ h. all (F .1 (omega arith))),
+      (λ h. none (Z .2 h), λ h. all (F .2 (omega arith))),
+      (λ h. none (Z .3 h), λ h. all (F .3 (omega arith))),
+    )
 
 -- ---- the corners of a quarter, and which of them lie in the cap, are read from the nine
 
@@ -33,7 +75,7 @@ square-is q (suc (suc zero)) h = refl
 square-is q (suc (suc (suc zero))) h = refl
 square-is q (suc (suc (suc (suc n)))) h = absurd (omega arith)
 
-pub held-is : (cap : Cap) (q : Quarters) (n : ℕ) → n < 4 → heldAt (heldNine cap (cornersOf q)) (cornerAt n) ≡ heldOf cap (quarterAt q n)
+held-is : (cap : Cap) (q : Quarters) (n : ℕ) → n < 4 → heldAt (heldNine cap (cornersOf q)) (cornerAt n) ≡ heldOf cap (quarterAt q n)
 unfolding heldAt heldNine heldOf cornersOf vertexAt quarterAt halfOf
 held-is cap q zero h = refl
 held-is cap q (suc zero) h = refl
@@ -52,57 +94,6 @@ scales-is q (suc (suc (suc (suc n)))) h = absurd (omega arith)
 pub held-le : (cap : Cap) (c : Cell) (r : ℕ) → r ≡ heldOf cap c → r ≤ 4
 unfolding heldOf
 held-le cap c r e = omega (arith, e, one-le (capHolds cap (vertexAt c 0)), one-le (capHolds cap (vertexAt c 1)), one-le (capHolds cap (vertexAt c 2)), one-le (capHolds cap (vertexAt c 3)))
-
--- a product of four numbers up to 4 fits, and where it isn't zero none of them is
-pub product-le : (a b c d : ℕ) → a ≤ 4 → b ≤ 4 → c ≤ 4 → d ≤ 4 → (a * b ≤ 16) × (a * b * c ≤ 64) × (a * b * c * d ≤ 256)
-product-le a b c d e f g h =
-    let x : a * b ≤ 16 = mul-le-mul e f in
-    let y : a * b * c ≤ 64 = mul-le-mul x g in
-    (x, y, mul-le-mul y h)
-
-pub none-zero : (a b c d : ℕ) → (a * b * c * d ≡ 0 → ⊥) → (a ≡ 0 → ⊥) × (b ≡ 0 → ⊥) × (c ≡ 0 → ⊥) × (d ≡ 0 → ⊥)
-none-zero a b c d h = (λ e. h (rw e (omega arith)), λ e. h (rw e (omega arith)), λ e. h (rw e (omega arith)), λ e. h (rw e (omega arith)))
-
--- ---- what the number of corners in the cap decides
-
-look-none : (a b d e t u : Bool) → one a + one b + one d + one e ≡ 0 → one (a || (b || (d || (e || t)))) + 16 * one (a && (b && (d && (e && not u)))) ≡ one t
-unfolding one
-look-none true b d e t u h = absurd (omega arith)
-look-none false true d e t u h = absurd (omega arith)
-look-none false false true e t u h = absurd (omega arith)
-look-none false false false true t u h = absurd (omega arith)
-look-none false false false false t u h = omega arith
-
-look-all : (a b d e t u : Bool) → one a + one b + one d + one e ≡ 4 → one (a || (b || (d || (e || t)))) + 16 * one (a && (b && (d && (e && not u)))) ≡ 1 + 16 * one (not u)
-unfolding one
-look-all true true true true t u h = refl
-look-all false b d e t u h = absurd (omega (arith, one-le b, one-le d, one-le e))
-look-all true false d e t u h = absurd (omega (arith, one-le d, one-le e))
-look-all true true false e t u h = absurd (omega (arith, one-le e))
-look-all true true true false t u h = absurd (omega arith)
-
-look-some : (a b d e t u : Bool) → (one a + one b + one d + one e ≡ 0 → ⊥) → (one a + one b + one d + one e ≡ 4 → ⊥) → one (a || (b || (d || (e || t)))) + 16 * one (a && (b && (d && (e && not u)))) ≡ 1
-unfolding one
-look-some true true true true t u h g = absurd (g refl)
-look-some true true true false t u h g = refl
-look-some true true false e t u h g = refl
-look-some true false d e t u h g = refl
-look-some false true d e t u h g = refl
-look-some false false true e t u h g = refl
-look-some false false false true t u h g = refl
-look-some false false false false t u h g = absurd (h refl)
-
-pub none-held : (cap : Cap) (c : Cell) → heldOf cap c ≡ 0 → lookOf cap c ≡ one (touches cap c)
-unfolding heldOf lookOf meetsCell holdsCell
-none-held cap c h = look-none (capHolds cap (vertexAt c 0)) (capHolds cap (vertexAt c 1)) (capHolds cap (vertexAt c 2)) (capHolds cap (vertexAt c 3)) (touches cap c) (touches (complementOf cap) c) h
-
-pub all-held : (cap : Cap) (c : Cell) (t : Bool) → heldOf cap c ≡ 4 → touches (complementOf cap) c ≡ t → lookOf cap c ≡ 1 + 16 * one (not t)
-unfolding heldOf lookOf meetsCell holdsCell
-all-held cap c t h e = rw (← e) (look-all (capHolds cap (vertexAt c 0)) (capHolds cap (vertexAt c 1)) (capHolds cap (vertexAt c 2)) (capHolds cap (vertexAt c 3)) (touches cap c) (touches (complementOf cap) c) h)
-
-pub some-held : (cap : Cap) (c : Cell) → (heldOf cap c ≡ 0 → ⊥) → (heldOf cap c ≡ 4 → ⊥) → lookOf cap c ≡ 1
-unfolding heldOf lookOf meetsCell holdsCell
-some-held cap c h g = look-some (capHolds cap (vertexAt c 0)) (capHolds cap (vertexAt c 1)) (capHolds cap (vertexAt c 2)) (capHolds cap (vertexAt c 3)) (touches cap c) (touches (complementOf cap) c) h g
 
 -- what is read of the nine on the way
 pub nine-le : (cap : Cap) (p : List Point) (h : List ℕ) (k : ℕ) → h ≡ heldNine cap p → getD h k 0 ≤ 1
@@ -125,73 +116,69 @@ pub held-read : (cap : Cap) (q : Quarters) (p : List Point) (h : List ℕ) (n r 
 held-read cap q p h n r l e f g = g ∙ rw (f, e) (held-is cap q n l)
 
 -- what a look at the n-th quarter asks for, from what was picked for it
-pub part-asks : (cap : Cap) (q s : Quarters) (c m : Cell) (p v : List Point) (n held : ℕ) → n < 4 → q .face < 6 → p ≡ cornersOf q → held ≡ heldOf cap (quarterAt q n)
-    → (held ≡ 0 → s ≡ scaledOf q) → m ≡ quarterAt s n → c ≡ quarterAt q n → v ≡ squareAt p (cornerAt n)
-    → (c .face < 6) × (v ≡ verticesOf c) × (held ≡ heldOf cap c) × (held ≡ 0 → m .uv ≡ cellScales c)
+pub part-asks : (cap : Cap) (near beyond asked : Bool) (q s : Quarters) (c m : Cell) (p v : List Point) (n held : ℕ) → n < 4 → near ≡ canReach cap → beyond ≡ canReach (complementOf cap) → q .face < 6 → p ≡ cornersOf q
+    → held ≡ heldOf cap (quarterAt q n) → Asked near beyond asked held → (asked ≡ true → s ≡ scaledOf q)
+    → m ≡ quarterAt s n → c ≡ quarterAt q n → v ≡ squareAt p (cornerAt n)
+    → ((near ≡ canReach cap) × (beyond ≡ canReach (complementOf cap)) × (held ≡ heldOf cap c)) × ((c .face < 6) × (v ≡ verticesOf c) × (held ≡ 0 → near ≡ true → m .uv ≡ cellScales c) × (held ≡ 4 → beyond ≡ true → m .uv ≡ cellScales c))
 unfolding quarterAt
-part-asks cap q s c m p v n held l f e h k em ec ev = rw ec (f, rw (ev, e) (square-is q n l), h, λ z. rw (em, k z) (scales-is q n l))
+part-asks cap near beyond asked q s c m p v n held l en eb f e h A k em ec ev =
+    let scaled : asked ≡ true → m .uv ≡ cellScales (quarterAt q n) = λ t. rw (em, k t) (scales-is q n l) in
+    rw ec ((en, eb, h), (f, rw (ev, e) (square-is q n l), λ z t. scaled (A .0 z t), λ z t. scaled (A .1 z t)))
 
-pub touched : (cap k : Cap) (c : Cell) (b : Bool) → b ≡ touches k c → k ≡ cap → touches cap c ≡ b
-touched cap k c b e f = rw (← f) (sym e)
+-- ---- the corner that all four share
+
+shared-at : (q : Quarters) (n : ℕ) → n < 4 → (k : ℕ) × (k < 4) × (vertexAt (quarterAt q n) k ≡ sharedCorner q)
+unfolding vertexAt quarterAt halfOf
+shared-at q zero h = (2, omega arith, refl)
+shared-at q (suc zero) h = (1, omega arith, refl)
+shared-at q (suc (suc zero)) h = (3, omega arith, refl)
+shared-at q (suc (suc (suc zero))) h = (0, omega arith, refl)
+shared-at q (suc (suc (suc (suc n)))) h = absurd (omega arith)
+
+module _ (cap : Cap) (q : Quarters) (whole : Bool) where
+  pub shared-enough : (capHolds cap (sharedCorner q) && not whole) ≡ true → record { passing = 15; inside = 0 } ≡ quarterSights cap whole q
+  unfolding fourSights one
+  shared-enough h =
+      let r = asked-less (capHolds cap (sharedCorner q)) whole h in
+      let at : (n : ℕ) → n < 4 → sightIn cap false (quarterAt q n) ≡ Sight.Crossing = λ n l. (let m = shared-at q n l in enough cap (quarterAt q n) (m .0) (m .1) (ap (capHolds cap) (m .2) ∙ r .0)) in
+      rw (r .1, at 0 (omega arith), at 1 (omega arith), at 2 (omega arith), at 3 (omega arith))
+
+  pub shared-not : (capHolds cap (sharedCorner q) && not whole) ≡ false → quarterSights cap true q ≡ quarterSights cap whole q
+  shared-not h =
+      let at : (n : ℕ) → n < 4 → sightIn cap true (quarterAt q n) ≡ sightIn cap whole (quarterAt q n) = λ n l. (let m = shared-at q n l in not-enough cap (quarterAt q n) (m .0) whole (m .1) (rw (m .2) h)) in
+      rw (at 0 (omega arith), at 1 (omega arith), at 2 (omega arith), at 3 (omega arith))
 
 -- ---- the order of the curve
-
-pub pick-bit : (f : ℕ → ℕ) → ((n : ℕ) → f n ≤ 1) → (n : ℕ) → n < 4 → hasBit (fourBits (f 0) (f 1) (f 2) (f 3)) n ≡ f n
-pick-bit f h zero g = omega (arith, h 0, h 1, h 2, h 3)
-pick-bit f h (suc zero) g = omega (arith, h 0, h 1, h 2, h 3)
-pick-bit f h (suc (suc zero)) g = omega (arith, h 0, h 1, h 2, h 3)
-pick-bit f h (suc (suc (suc zero))) g = omega (arith, h 0, h 1, h 2, h 3)
-pick-bit f h (suc (suc (suc (suc n)))) g = absurd (omega arith)
 
 turned-is : (f : ℕ → ℕ) → ((n : ℕ) → f n ≤ 1) → (row : ℕ) → row < 4 → turned row (fourBits (f 0) (f 1) (f 2) (f 3)) ≡ fourBits (f (ijAt row 0)) (f (ijAt row 1)) (f (ijAt row 2)) (f (ijAt row 3))
 unfolding turned
 turned-is f h row g =
     rw (pick-bit f h (ijAt row 0) (ij-lt row 0 g (omega arith)), pick-bit f h (ijAt row 1) (ij-lt row 1 g (omega arith)), pick-bit f h (ijAt row 2) (ij-lt row 2 g (omega arith)), pick-bit f h (ijAt row 3) (ij-lt row 3 g (omega arith)))
 
--- a set of quarters by a test of cells is, turned, the set of children by that test of their cells
+-- four cells by a test
+abbrev setBy : (Cell → Bool) → (ℕ → Cell) → ℕ
+setBy test f = fourBits (one (test (f 0))) (one (test (f 1))) (one (test (f 2))) (one (test (f 3)))
+
+-- a set of quarters is, turned, the set of children
 set-turned : (test : Cell → Bool) (id : ℕ) → CellId.Cell id → levelOf id < 30
-    → turned (quartersOf id .orientation) (setBy (λ n. test (quarterAt (quartersOf id) n))) ≡ setOf (λ x. test (cellOf x)) id
-unfolding setOf
+    → turned (quartersOf id .orientation) (setBy test (quarterAt (quartersOf id))) ≡ setBy test (λ k. cellOf (childOf id k))
 set-turned test id (L, p, c) h =
     let l : L < 30 = omega (arith, level-cell id L p c) in
     turned-is (λ n. one (test (quarterAt (quartersOf id) n))) (λ n. one-le (test (quarterAt (quartersOf id) n))) (quartersOf id .orientation) (quarters-in id (L, p, c) .1)
     ∙ rw (child-quarter 0 c l (omega arith), child-quarter 1 c l (omega arith), child-quarter 2 c l (omega arith), child-quarter 3 c l (omega arith))
 
--- two sets in one number
-abbrev pub both : (ℕ → Bool) → (ℕ → Bool) → ℕ → ℕ
-both f g k = one (f k) + 16 * one (g k)
+pub sights-turned : (cap : Cap) (whole : Bool) (id : ℕ) (q : Quarters) (l r : Sights) → CellId.Cell id → levelOf id < 30 → q ≡ quartersOf id → l ≡ quarterSights cap whole q
+    → r .passing ≡ turned (q .orientation) (l .passing) → r .inside ≡ turned (q .orientation) (l .inside) → r ≡ sightsOf (sightOf (capIntersects cap) (capContains cap) whole) id
+unfolding sightsOf sightOf sightIn fourSights capIntersects capContains
+sights-turned cap whole id q l r c h e f ep ei =
+    ap₂ (λ (p i : ℕ). record { passing = p; inside = i })
+    (ep ∙ rw (f, e) (set-turned (λ x. passes (sightIn cap whole x)) id c h))
+    (ei ∙ rw (f, e) (set-turned (λ x. isInside (sightIn cap whole x)) id c h))
 
-pub two-sets : (f g : ℕ → Bool) → let all = fourBits (both f g 0) (both f g 1) (both f g 2) (both f g 3) in (all % 16 ≡ setBy f) × (all / 16 ≡ setBy g)
-two-sets f g = (omega (arith, one-le (f 0), one-le (f 1), one-le (f 2), one-le (f 3)), omega (arith, one-le (f 0), one-le (f 1), one-le (f 2), one-le (f 3)))
-
-set-lt : (f : ℕ → Bool) → setBy f < 16
-set-lt f = omega (arith, one-le (f 0), one-le (f 1), one-le (f 2), one-le (f 3))
-
-looks-sets : (cap : Cap) (q : Quarters) → (looksAt cap q % 16 ≡ setBy (λ n. meetsCell cap (quarterAt q n))) × (looksAt cap q / 16 ≡ setBy (λ n. holdsCell cap (quarterAt q n)))
-unfolding lookOf looksAt
-looks-sets cap q = two-sets (λ n. meetsCell cap (quarterAt q n)) (λ n. holdsCell cap (quarterAt q n))
-
-looks-are : (cap : Cap) (id : ℕ) → CellId.Cell id → levelOf id < 30
-    → record { meets = turned (quartersOf id .orientation) (looksAt cap (quartersOf id) % 16); inside = turned (quartersOf id .orientation) (looksAt cap (quartersOf id) / 16) }
-    ≡ looksOf (capIntersects cap) (capContains cap) id
-unfolding looksOf capIntersects capContains
-looks-are cap id c h =
-    let s = looks-sets cap (quartersOf id) in
-    rw (s .0, s .1, set-turned (meetsCell cap) id c h, set-turned (holdsCell cap) id c h)
-
-look-small : (cap : Cap) (c : Cell) → lookOf cap c ≤ 17
-unfolding lookOf
-look-small cap c = omega (arith, one-le (meetsCell cap c), one-le (holdsCell cap c))
-
-pub looks-end : (cap : Cap) (id : ℕ) (q : Quarters) (all m s : ℕ) → CellId.Cell id → levelOf id < 30 → q ≡ quartersOf id → all ≡ looksAt cap q
-    → m ≡ turned (q .orientation) (all % 16) → s ≡ turned (q .orientation) (all / 16) → record { meets = m; inside = s } ≡ looksOf (capIntersects cap) (capContains cap) id
-looks-end cap id q all m s cell h e f em es = rw (em, es, f, e) (looks-are cap id cell h)
-
-pub high-lt : (cap : Cap) (q : Quarters) (all : ℕ) → all ≡ looksAt cap q → all / 16 < 16
-high-lt cap q all e = rw (e, looks-sets cap q .1) (set-lt (λ n. holdsCell cap (quarterAt q n)))
-
-pub small : (cap : Cap) (c : Cell) (r : ℕ) → r ≡ lookOf cap c → r ≤ 17
-small cap c r e = rw e (look-small cap c)
+pub in-row : (cap : Cap) (whole : Bool) (id : ℕ) (q : Quarters) (l : Sights) → CellId.Cell id → q ≡ quartersOf id → l ≡ quarterSights cap whole q → (q .orientation < 4) × (l .passing < 16) × (l .inside < 16)
+in-row cap whole id q l c e f =
+    let s = sets-lt (sightIn cap whole (quarterAt q 0)) (sightIn cap whole (quarterAt q 1)) (sightIn cap whole (quarterAt q 2)) (sightIn cap whole (quarterAt q 3)) in
+    (rw e (quarters-in id c .1), rw f (s .0), rw f (s .1))
 
 -- ---- the tables of the four rows, each a number of sixteen digits of four bits
 

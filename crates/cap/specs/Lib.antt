@@ -1,3 +1,3 @@
 pub mod Cap
 pub mod Bound
-pub mod Siblings
+pub mod Looks

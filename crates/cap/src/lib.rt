@@ -1,23 +1,27 @@
-// Caps: the Rust's cap.rs, as far as the coverer reaches it. A cap is a centre and the square of the
-// chord to its edge, by value. A test stops at the first corner that decides, computes no corner and no
-// edge twice, and has the answer of the Rust bit for bit, whatever the floats are. The four children of a
-// cell are looked at together.
+// Caps: the Rust's cap.rs, as far as the coverer reaches it. A cap is a centre and the square of the chord to its edge, by value. One look tells whether a cell
+// lies outside, crosses the rim or lies inside: it stops at the first corner that decides, computes no corner and no edge twice, and has the answer of the Rust
+// bit for bit, whatever the floats are. The four children of a cell are looked at together.
 ghost use mathlib.Core.Path.{_≡_};
+ghost use mathlib.Core.Bool.{true, not, _&&_};
 ghost use Prim.Native.Nat.{ℕ, _*_, _/_, _%_, _^_, _<_, _≤_};
 ghost use Rattle.cellid.specs.CellId as CellId;
 ghost use Rattle.cellid.specs.CellId.{one};
-ghost use Rattle.cell.specs.Cell.{verticesOf};
-ghost use Rattle.cell.specs.Siblings.{quarterAt, cornersOf, scaledOf, cellScales};
+ghost use Rattle.cell.specs.Cell.{vertexAt, verticesOf};
+ghost use Rattle.cell.specs.Siblings.{quarterAt, sharedCorner, cornersOf, scaledOf, cellScales};
+ghost use Rattle.sight.specs.Sight.{sightOf, sightsOf};
+ghost use lib.Dec.{eqb};
 ghost use lib.ListN.{getD};
 ghost use lib.Ieee.{nan};
 ghost use Rattle.cap.specs.Bound.{thresholds, levelFor, unionBound, inSix};
 ghost use Rattle.cap.specs.Cap.{isEmptyCap, isFullCap, capHolds, capAround, complementOf, edgeSays, edgesSay, touches, capIntersects, capContains};
-ghost use Rattle.cap.specs.Siblings.{fourBits, looksOf, heldOf, lookOf, looksAt, heldNine, squareAt, heldAt, turned};
+ghost use Rattle.cap.specs.Looks.{sightIn, otherSide, canReach, sightPast, asksEdges, quarterSights, heldOf, heldNine, squareAt, heldAt, turned};
 use cell::Cap;
 use cell::Cell;
 use cell::Quarters;
 use cell::Rect;
 use point::Point;
+use sight::Sight;
+use sight::Sights;
 
 // What an edge says of a cap that has none of the corners: nothing, or the answer.
 pub enum Verdict {
@@ -126,97 +130,130 @@ fn edges_say(center: Point, sin2: f64, c: Cell, m: Rect, vertices: [Point; 4]) -
     false
 }
 
-// Whether the cap has a point of the cell in it, where it has none of its four corners and the scales of the cell's lines are known: two
-// divisions, no root.
-fn touches_by(cap: Cap, c: Cell, m: Rect, vertices: [Point; 4]) -> bool
-    requires { ⌜ (c .face < 6) × (m ≡ cellScales c) ⌝ }
-    requires { ⌜ vertices ≡ verticesOf c ⌝ }
+// Whether a cap can have a point of a cell of whose corners it has none.
+fn can_reach(cap: Cap) -> bool
+    ensures { λ r. ⌜ r ≡ canReach cap ⌝ }
+{
+    !(cap.radius >= point::RIGHT)
+}
+
+// The scales of a cell's lines: m where they are known, else four roots and four divisions.
+fn scales_of(c: Cell, known: bool, m: Rect) -> Rect
+    requires { ⌜ (known ≡ true → m ≡ cellScales c) ⌝ }
+    ensures { λ r. ⌜ r ≡ cellScales c ⌝ }
+{
+    if known {
+        return m;
+    }
+    cell::cell_scales(c)
+}
+
+// Whether it has one, where it can: the centre lies in the cell, or an edge is crossed. Two divisions; the scales of the cell's lines only for the edges.
+fn touches_by(cap: Cap, c: Cell, known: bool, m: Rect, vertices: [Point; 4]) -> bool
+    requires { ⌜ (canReach cap ≡ true) × (c .face < 6) × (vertices ≡ verticesOf c) × (known ≡ true → m ≡ cellScales c) ⌝ }
     ensures { λ r. ⌜ r ≡ touches cap c ⌝ }
 {
-    if cap.radius >= point::RIGHT {
-        return false;
-    }
     if is_empty(cap) {
         return false;
     }
     if cell::contains_point(c, cap.center) {
         return true;
     }
-    edges_say(cap.center, point::sin2(cap.radius), c, m, vertices)
+    edges_say(
+        cap.center,
+        point::sin2(cap.radius),
+        c,
+        scales_of(c, known, m),
+        vertices,
+    )
 }
 
-// The same where they are not: four roots and four divisions more, none where the radius decides.
-fn intersects_cell_vertices(cap: Cap, c: Cell, vertices: [Point; 4]) -> bool
-    requires { ⌜ c .face < 6 ⌝ }
-    requires { ⌜ vertices ≡ verticesOf c ⌝ }
-    ensures { λ r. ⌜ r ≡ touches cap c ⌝ }
+// What a cell is to a cap that has all of its corners, or none: crossing where the other side of the rim reaches into it.
+fn sight_past(all: bool, reached: bool) -> Sight
+    ensures { λ r. ⌜ r ≡ sightPast all reached ⌝ }
 {
-    if point::RIGHT <= cap.radius {
+    if reached {
+        return Sight::Crossing;
+    }
+    if all {
+        return Sight::Inside;
+    }
+    Sight::Outside
+}
+
+// ---- one cell
+
+// The side of the rim that has none of the corners.
+fn other_side(cap: Cap, all: bool) -> Cap
+    ensures { λ r. ⌜ r ≡ otherSide cap all ⌝ }
+{
+    if all {
+        return complement(cap);
+    }
+    cap
+}
+
+// What a cell is to a cap that has all of its corners, or none. `look_past` says the same where the scales are known: with one call of `touches_by` in all,
+// the compiler would put it in there, and what only decides would be a call that copies corners.
+fn look_edges(cap: Cap, c: Cell, vertices: [Point; 4], all: bool) -> Sight
+    requires { ⌜ (c .face < 6) × (vertices ≡ verticesOf c) ⌝ }
+    ensures { λ r. ⌜ r ≡ sightPast all (touches (otherSide cap all) c) ⌝ }
+{
+    let other = other_side(cap, all);
+    if can_reach(other) {
+        return sight_past(all, touches_by(other, c, false, c.uv, vertices));
+    }
+    sight_past(all, false)
+}
+
+// Past the first corner: one that doesn't lie where the first does, in the cap or not, decides; else the other side of the rim does.
+fn look_corners(cap: Cap, c: Cell, a: Point, all: bool) -> Sight
+    requires { ⌜ (c .face < 6) × (a ≡ vertexAt c 0) × (all ≡ capHolds cap a) ⌝ }
+    ensures { λ r. ⌜ r ≡ sightIn cap true c ⌝ }
+{
+    let b = cell::vertex(c, 1);
+    if contains_point(cap, b) != all {
+        return Sight::Crossing;
+    }
+    let d = cell::vertex(c, 2);
+    if contains_point(cap, d) != all {
+        return Sight::Crossing;
+    }
+    let e = cell::vertex(c, 3);
+    if contains_point(cap, e) != all {
+        return Sight::Crossing;
+    }
+    look_edges(cap, c, [a, b, d, e], all)
+}
+
+// Whether a corner says all that is asked: it lies in the cap, and only outside or not is asked.
+fn is_enough(held: bool, whole: bool) -> bool
+    ensures { λ r. ⌜ r ≡ (held && not whole) ⌝ }
+{
+    if whole {
         return false;
     }
-    touches_by(cap, c, cell::cell_scales(c), vertices)
+    held
 }
 
-// Whether the cap and the cell of a valid id have a point in common. At best one root and one division
-// (the first corner lies in the cap), at worst eight roots and ten divisions.
-pub fn intersects_cell(cap: Cap, id: u64) -> bool
+// What the cell of a valid id is to the cap; where `whole` is false only outside or not. At best one root and one division, at worst eight roots and ten divisions.
+pub fn look_at(cap: Cap, id: u64, whole: bool) -> Sight
     requires { ⌜ CellId.Cell id ⌝ }
-    ensures { λ r. ⌜ r ≡ capIntersects cap id ⌝ }
+    ensures { λ r. ⌜ r ≡ sightOf (capIntersects cap) (capContains cap) whole id ⌝ }
 {
     let c = cell::from_id(id);
     let a = cell::vertex(c, 0);
-    if contains_point(cap, a) {
-        return true;
+    let all = contains_point(cap, a);
+    if is_enough(all, whole) {
+        return Sight::Crossing;
     }
-    let b = cell::vertex(c, 1);
-    if contains_point(cap, b) {
-        return true;
-    }
-    let d = cell::vertex(c, 2);
-    if contains_point(cap, d) {
-        return true;
-    }
-    let e = cell::vertex(c, 3);
-    if contains_point(cap, e) {
-        return true;
-    }
-    intersects_cell_vertices(cap, c, [a, b, d, e])
+    look_corners(cap, c, a, all)
 }
 
-// Whether the cell of a valid id lies in the cap. At best one root and one division (the first corner
-// lies outside), at worst eight roots and ten divisions.
-pub fn contains_cell(cap: Cap, id: u64) -> bool
-    requires { ⌜ CellId.Cell id ⌝ }
-    ensures { λ r. ⌜ r ≡ capContains cap id ⌝ }
-{
-    let c = cell::from_id(id);
-    let a = cell::vertex(c, 0);
-    if !contains_point(cap, a) {
-        return false;
-    }
-    let b = cell::vertex(c, 1);
-    if !contains_point(cap, b) {
-        return false;
-    }
-    let d = cell::vertex(c, 2);
-    if !contains_point(cap, d) {
-        return false;
-    }
-    let e = cell::vertex(c, 3);
-    if !contains_point(cap, e) {
-        return false;
-    }
-    !intersects_cell_vertices(complement(cap), c, [a, b, d, e])
-}
-
-// The children of a cell that have a point in the cap, and those that lie in it, as sets by place on the curve.
-pub struct Looks {
-    pub meets: u64,
-    pub inside: u64,
-}
+// ---- the four children of a cell
 
 // 1 for true, 0 for false.
-pub fn mark(b: bool) -> u64
+fn mark(b: bool) -> u64
     ensures { λ r. ⌜ r ≡ one b ⌝ }
 {
     if b { 1 } else { 0 }
@@ -261,33 +298,169 @@ fn held_square(h: [u64; 9], at: usize) -> u64
     h[at] + h[at + 3] + h[at + 4] + h[at + 1]
 }
 
-// The scales of the lines, if some quarter has none of its corners in the cap, as four counts of them say: nothing else asks for scales.
-fn scaled_if(a: u64, b: u64, c: u64, d: u64, q: Quarters) -> Quarters
+// Whether one of four counts of corners is zero.
+fn some_zero(a: u64, b: u64, c: u64, d: u64) -> bool
     requires { ⌜ (a ≤ 4) × (b ≤ 4) × (c ≤ 4) × (d ≤ 4) ⌝ }
-    ensures { λ r. ⌜ (a ≡ 0 → r ≡ scaledOf q) × (b ≡ 0 → r ≡ scaledOf q) × (c ≡ 0 → r ≡ scaledOf q) × (d ≡ 0 → r ≡ scaledOf q) ⌝ }
+    ensures { λ r. ⌜ r ≡ eqb (a * b * c * d) 0 ⌝ }
 {
-    if a * b * c * d == 0 {
+    a * b * c * d == 0
+}
+
+// Whether the edges of such a quarter may be asked by a side of the rim: it can reach into a cell.
+fn asked_by(can: bool, a: u64, b: u64, c: u64, d: u64) -> bool
+    requires { ⌜ (a ≤ 4) × (b ≤ 4) × (c ≤ 4) × (d ≤ 4) ⌝ }
+    ensures { λ r. ⌜ r ≡ (can && eqb (a * b * c * d) 0) ⌝ }
+{
+    if can {
+        return some_zero(a, b, c, d);
+    }
+    false
+}
+
+// Whether some quarter's edges may be asked, of whose corners a, b, c and d lie in the cap: one that has none of them where the cap can reach into it, or all
+// where the other side of the rim can.
+fn asks_edges(near: bool, beyond: bool, a: u64, b: u64, c: u64, d: u64) -> bool
+    requires { ⌜ (a ≤ 4) × (b ≤ 4) × (c ≤ 4) × (d ≤ 4) ⌝ }
+    ensures { λ r. ⌜ r ≡ asksEdges near beyond a b c d ⌝ }
+{
+    if asked_by(near, a, b, c, d) {
+        return true;
+    }
+    asked_by(beyond, 4 - a, 4 - b, 4 - c, 4 - d)
+}
+
+// The scales of the six lines, if they may be asked for: six roots and six divisions.
+fn scaled_if(asked: bool, q: Quarters) -> Quarters
+    ensures { λ r. ⌜ (asked ≡ true → r ≡ scaledOf q) ⌝ }
+{
+    if asked {
         return cell::scaled(q);
     }
     q
 }
 
-// What a cell is to the cap, where `held` of its corners lie in it: 1 where the cap has a point of it, and 16 more where it has all of it.
-// Some corners in and some out decide by themselves; only none or all take the edges, and only none the scales of its lines.
-fn look_part(cap: Cap, c: Cell, m: Rect, vertices: [Point; 4], held: u64) -> u64
-    requires { ⌜ (c .face < 6) × (vertices ≡ verticesOf c) × (held ≡ heldOf cap c) × (held ≡ 0 → m ≡ cellScales c) ⌝ }
-    ensures { λ r. ⌜ r ≡ lookOf cap c ⌝ }
+// What a quarter with all of its corners in the cap, or none, is to it, where `other` is the side of the rim that has none of them.
+fn look_past(other: Cap, can: bool, c: Cell, m: Rect, vertices: [Point; 4], all: bool) -> Sight
+    requires { ⌜ (can ≡ canReach other) × (c .face < 6) × (vertices ≡ verticesOf c) × (can ≡ true → m ≡ cellScales c) ⌝ }
+    ensures { λ r. ⌜ r ≡ sightPast all (touches other c) ⌝ }
+{
+    if can {
+        return sight_past(all, touches_by(other, c, true, m, vertices));
+    }
+    sight_past(all, false)
+}
+
+// What a quarter is to the cap: some corners in and some out decide by themselves; only none or all take the edges.
+fn look_quarter(
+    cap: Cap,
+    near: bool,
+    beyond: bool,
+    c: Cell,
+    m: Rect,
+    vertices: [Point; 4],
+    held: u64,
+) -> Sight
+    requires { ⌜ (near ≡ canReach cap) × (beyond ≡ canReach (complementOf cap)) × (held ≡ heldOf cap c) ⌝ }
+    requires { ⌜ (c .face < 6) × (vertices ≡ verticesOf c) × (held ≡ 0 → near ≡ true → m ≡ cellScales c) × (held ≡ 4 → beyond ≡ true → m ≡ cellScales c) ⌝ }
+    ensures { λ r. ⌜ r ≡ sightIn cap true c ⌝ }
 {
     if held == 0 {
-        return mark(touches_by(cap, c, m, vertices));
+        return look_past(cap, near, c, m, vertices, false);
     }
     if held == 4 {
-        if intersects_cell_vertices(complement(cap), c, vertices) {
-            return 1;
-        }
-        return 17;
+        return look_past(complement(cap), beyond, c, m, vertices, true);
     }
-    1
+    Sight::Crossing
+}
+
+// The four quarters, of whose corners a, b, c and d lie in the cap. What each takes is picked here, at known places: a call that took all of it would copy
+// it, and a call that only decides is none in the machine code.
+fn look_parts(cap: Cap, q: Quarters, p: [Point; 9], a: u64, b: u64, c: u64, d: u64) -> Sights
+    requires { ⌜ (q .face < 6) × (p ≡ cornersOf q) ⌝ }
+    requires { ⌜ (a ≡ heldOf cap (quarterAt q 0)) × (b ≡ heldOf cap (quarterAt q 1)) × (c ≡ heldOf cap (quarterAt q 2)) × (d ≡ heldOf cap (quarterAt q 3)) ⌝ }
+    ensures { λ r. ⌜ r ≡ quarterSights cap true q ⌝ }
+{
+    let near = can_reach(cap);
+    let beyond = can_reach(complement(cap));
+    let s = scaled_if(asks_edges(near, beyond, a, b, c, d), q);
+    let k = cell::quarter(s, 0);
+    let l = cell::quarter(s, 1);
+    let m = cell::quarter(s, 2);
+    let n = cell::quarter(s, 3);
+    sight::four(
+        look_quarter(
+            cap,
+            near,
+            beyond,
+            cell::quarter(q, 0),
+            k.uv,
+            square(p, 0),
+            a,
+        ),
+        look_quarter(
+            cap,
+            near,
+            beyond,
+            cell::quarter(q, 1),
+            l.uv,
+            square(p, 1),
+            b,
+        ),
+        look_quarter(
+            cap,
+            near,
+            beyond,
+            cell::quarter(q, 2),
+            m.uv,
+            square(p, 3),
+            c,
+        ),
+        look_quarter(
+            cap,
+            near,
+            beyond,
+            cell::quarter(q, 3),
+            n.uv,
+            square(p, 4),
+            d,
+        ),
+    )
+}
+
+// Whether the corner that all four quarters share says all that is asked. Where it doesn't it is worked out again, with the other eight: handed on it costs
+// every look for all of a cell more than it saves here (docs/SPEED.md).
+fn shared_is_enough(cap: Cap, q: Quarters, whole: bool) -> bool
+    requires { ⌜ q .face < 6 ⌝ }
+    ensures { λ r. ⌜ r ≡ (capHolds cap (sharedCorner q) && not whole) ⌝ }
+{
+    if whole {
+        return false;
+    }
+    contains_point(cap, cell::shared_corner(q))
+}
+
+// The four quarters together: nine corners, and the edges of those quarters alone that have no corner in the cap or all four.
+fn look_quarters(cap: Cap, q: Quarters, whole: bool) -> Sights
+    requires { ⌜ q .face < 6 ⌝ }
+    ensures { λ r. ⌜ r ≡ quarterSights cap whole q ⌝ }
+{
+    if shared_is_enough(cap, q, whole) {
+        return Sights {
+            passing: 15,
+            inside: 0,
+        };
+    }
+    let p = cell::corners(q);
+    let h = held_nine(cap, p);
+    look_parts(
+        cap,
+        q,
+        p,
+        held_square(h, 0),
+        held_square(h, 1),
+        held_square(h, 3),
+        held_square(h, 4),
+    )
 }
 
 // A digit of a table of sixteen, four bits each.
@@ -311,65 +484,20 @@ fn by_place(row: u64, set: u64) -> u64
     }
 }
 
-// Four numbers of two bits, 1 and 16, as two sets of four.
-pub fn joined(a: u64, b: u64, c: u64, d: u64) -> u64
-    requires { ⌜ (a ≤ 17) × (b ≤ 17) × (c ≤ 17) × (d ≤ 17) ⌝ }
-    ensures { λ r. ⌜ r ≡ fourBits a b c d ⌝ }
-{
-    a + 2 * b + 4 * c + 8 * d
-}
-
-// The four quarters, of whose corners a, b, c and d lie in the cap. What each takes is picked here, at known places: a call that took all of it would copy
-// it, and a call that only decides is none in the machine code.
-fn look_parts(cap: Cap, q: Quarters, p: [Point; 9], a: u64, b: u64, c: u64, d: u64) -> u64
-    requires { ⌜ (q .face < 6) × (p ≡ cornersOf q) ⌝ }
-    requires { ⌜ (a ≡ heldOf cap (quarterAt q 0)) × (b ≡ heldOf cap (quarterAt q 1)) × (c ≡ heldOf cap (quarterAt q 2)) × (d ≡ heldOf cap (quarterAt q 3)) ⌝ }
-    ensures { λ r. ⌜ r ≡ looksAt cap q ⌝ }
-{
-    let s = scaled_if(a, b, c, d, q);
-    let k = cell::quarter(s, 0);
-    let l = cell::quarter(s, 1);
-    let m = cell::quarter(s, 2);
-    let n = cell::quarter(s, 3);
-    joined(
-        look_part(cap, cell::quarter(q, 0), k.uv, square(p, 0), a),
-        look_part(cap, cell::quarter(q, 1), l.uv, square(p, 1), b),
-        look_part(cap, cell::quarter(q, 2), m.uv, square(p, 3), c),
-        look_part(cap, cell::quarter(q, 3), n.uv, square(p, 4), d),
-    )
-}
-
-// The quarters that have a point in the cap, and those that lie in it, as two sets of four in one number: nine corners, and the edges of
-// those quarters alone that have no corner in the cap or all four.
-fn look_quarters(cap: Cap, q: Quarters) -> u64
-    requires { ⌜ q .face < 6 ⌝ }
-    ensures { λ r. ⌜ r ≡ looksAt cap q ⌝ }
-{
-    let p = cell::corners(q);
-    let h = held_nine(cap, p);
-    look_parts(
-        cap,
-        q,
-        p,
-        held_square(h, 0),
-        held_square(h, 1),
-        held_square(h, 3),
-        held_square(h, 4),
-    )
-}
-
 // The four children of a valid id that is no leaf, looked at together: one walk of the curve.
-pub fn look_children(cap: Cap, id: u64) -> Looks
+pub fn look_children(cap: Cap, id: u64, whole: bool) -> Sights
     requires { ⌜ CellId.Cell id × (CellId.levelOf id < 30) ⌝ }
-    ensures { λ r. ⌜ r ≡ looksOf (capIntersects cap) (capContains cap) id ⌝ }
+    ensures { λ r. ⌜ r ≡ sightsOf (sightOf (capIntersects cap) (capContains cap) whole) id ⌝ }
 {
     let q = cell::quarters_of(id);
-    let all = look_quarters(cap, q);
-    Looks {
-        meets: by_place(q.orientation, all % 16),
-        inside: by_place(q.orientation, all / 16),
+    let l = look_quarters(cap, q, whole);
+    Sights {
+        passing: by_place(q.orientation, l.passing),
+        inside: by_place(q.orientation, l.inside),
     }
 }
+
+// ---- the bound
 
 // The largest squared chord radius at which the Rust still takes level n + 1 for a bound.
 fn threshold(n: u64) -> f64

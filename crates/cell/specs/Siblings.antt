@@ -42,6 +42,10 @@ cellBetween face x y = record { face = face; uv = record { x = x; y = y } }
 unfoldable pub quarterAt : Quarters → ℕ → Cell
 quarterAt q n = cellBetween (q .face) (halfOf (q .x) (n / 2)) (halfOf (q .y) (n % 2))
 
+-- the corner that all four share
+abbrev pub sharedCorner : Quarters → Point
+sharedCorner q = unitAt (q .face) (q .x .b) (q .y .b)
+
 -- the nine corners: the one on the i-th line of u and the j-th of v is at 3 * i + j
 unfoldable pub cornersOf : Quarters → List Point
 cornersOf q =

@@ -10,7 +10,7 @@ ghost use Rattle.point.specs.Floats.{oneF};
 ghost use Rattle.point.specs.Vector.{mulOf, normalizeOf};
 ghost use Rattle.stuv.specs.Projection.{uNorm, vNorm};
 ghost use Rattle.cell.specs.Cell.{ijToStMin, lineAt, spanAt, boundUv, cellOf, unitAt, vertexAt, edgeAt, expandedOf, inInterval, centerOf, holdsPoint, maxOf, addPoint, capBound};
-ghost use Rattle.cell.specs.Siblings.{linesAt, quartersOf, halfOf, cellBetween, quarterAt, cornersOf, scaleOf, scalesOf, scaledOf, cellScales};
+ghost use Rattle.cell.specs.Siblings.{linesAt, quartersOf, halfOf, cellBetween, quarterAt, sharedCorner, cornersOf, scaleOf, scalesOf, scaledOf, cellScales};
 use point::Point;
 
 // A closed interval of floats; empty where lo is above hi.
@@ -269,6 +269,14 @@ pub fn quarter(q: Quarters, n: u64) -> Cell
         2 => between(q.face, upper(q.x), lower(q.y)),
         _ => between(q.face, upper(q.x), upper(q.y)),
     }
+}
+
+// The corner that all four children share.
+pub fn shared_corner(q: Quarters) -> Point
+    requires { ⌜ q .face < 6 ⌝ }
+    ensures { λ r. ⌜ r ≡ sharedCorner q ⌝ }
+{
+    unit_at(q.face, q.x.b, q.y.b)
 }
 
 // The nine corners of the four children, the one on the i-th line of u and the j-th of v at 3 * i + j.

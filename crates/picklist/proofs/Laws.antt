@@ -141,11 +141,8 @@ module _ (l : List ℕ) (P : isPickList l ≡ true) (id at : ℕ) (C : Cell id) 
       let u = span C in
       late i h (omega (arith, n .0, n .1, s .last, u .first, u .some))
 
-  pub none-near : length l ≤ at → (false ≡ listMeets l id) × (false ≡ listHolds l id)
-  none-near h = (
-    sym (some-none (λ y. meets y id) l (λ i g t. omega (arith, meets-late i g t))),
-    sym (some-none (λ y. holds y id) l (λ i g t. omega (arith, holds-late i g t))),
-  )
+  pub none-near : length l ≤ at → false ≡ listMeets l id
+  none-near h = sym (some-none (λ y. meets y id) l (λ i g t. omega (arith, meets-late i g t)))
 
   module _ (h : at < length l) where
     near-meets : (i : ℕ) → i < length l → meets (getD l i 0) id ≡ true → meets (getD l at 0) id ≡ true
@@ -166,11 +163,8 @@ module _ (l : List ℕ) (P : isPickList l ≡ true) (id at : ℕ) (C : Cell id) 
         absurd (omega (arith, S .after at (omega arith) h, apart-get l at i (pick-is l .0 P .2) j g, n .0, s .first, u .first)))
         (λ j. let e : i ≡ at = omega arith in rw e at t)
 
-    pub near-decides : (leb (firstLeaf (getD l at 0)) (lastLeaf id) ≡ listMeets l id) × (holds (getD l at 0) id ≡ listHolds l id)
-    near-decides = (
-      sym (some-one (λ y. meets y id) l at h near-meets ∙ meets-if (getD l at 0) id (S .after at (omega arith) h)),
-      sym (some-one (λ y. holds y id) l at h near-holds),
-    )
+    pub near-decides : (meets (getD l at 0) id ≡ listMeets l id) × (holds (getD l at 0) id ≡ listHolds l id)
+    near-decides = (sym (some-one (λ y. meets y id) l at h near-meets), sym (some-one (λ y. holds y id) l at h near-holds))
 
 -- ---- the tests by leaves
 

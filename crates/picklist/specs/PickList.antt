@@ -6,7 +6,6 @@ use lib.Dec.{leb}
 use lib.ListN.{length, getD}
 use Rattle.cellid.specs.CellId.{lastLeaf, holds, meets}
 use Rattle.cellunion.specs.CellUnion.{isList}
-use Rattle.picklist.specs.declared.Seen.{Seen}
 
 -- the most ids of a list
 abbrev pub picksMost : ℕ
@@ -28,10 +27,6 @@ listMeets l id = some (λ y. meets y id) l
 -- "It contains a cell if some listed cell does"
 abbrev pub listHolds : List ℕ → ℕ → Bool
 listHolds l id = some (λ y. holds y id) l
-
--- both
-abbrev pub seenBy : List ℕ → ℕ → Seen
-seenBy l id = record { meets = listMeets l id; inside = listHolds l id }
 
 -- ---- for the search: the cells before place r end before the leaf `first`, those from r on don't
 

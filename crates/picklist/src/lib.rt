@@ -1,17 +1,15 @@
 // Pick lists: areas that people send as cells. What such a list may be, and what it is to a cell, told by one binary search.
 ghost use mathlib.Core.Path.{_≡_};
 ghost use mathlib.Core.Bool.{true};
-ghost use Rattle.cellid.specs.CellId.{Cell};
-ghost use Rattle.picklist.specs.PickList.{isPickList, seenBy, Parts};
+ghost use Prim.Native.Nat.{_<_};
+ghost use Rattle.cellid.specs.CellId.{Cell, levelOf};
+ghost use Rattle.picklist.specs.PickList.{isPickList, listMeets, listHolds, Parts};
+ghost use Rattle.sight.specs.Sight.{sightOf, sightsOf};
+use sight::Sight;
+use sight::Sights;
 
 // The most ids of a pick list.
 pub const PICKS_MOST: usize = 4096;
-
-// What a list is to a cell: whether some listed cell and the cell share a leaf, and whether some listed cell contains it.
-pub struct Seen {
-    pub meets: bool,
-    pub inside: bool,
-}
 
 // Whether a list may come in: valid, ascending, free of overlap, at most 4,096 ids.
 pub fn is_pick_list(list: &[u64]) -> bool
@@ -42,22 +40,28 @@ fn find(list: &[u64], first: u64) -> usize
     low
 }
 
-// What a list is to the cell of a valid id. The first listed cell that doesn't end before the cell begins decides: if it doesn't meet the cell none does, and no
-// other can contain it.
-pub fn see(list: &[u64], id: u64) -> Seen
+// What the cell of a valid id is to a list; where `whole` is false only outside or not. The first listed cell that doesn't end before the cell begins decides:
+// if it doesn't meet the cell none does, and no other can contain it.
+pub fn look_at(list: &[u64], id: u64, whole: bool) -> Sight
     requires { ⌜ (isPickList (now list) ≡ true) × Cell id ⌝ }
-    ensures { λ r. ⌜ r ≡ seenBy (now (list .entry)) id ⌝ }
+    ensures { λ r. ⌜ r ≡ sightOf (listMeets (now (list .entry))) (listHolds (now (list .entry))) whole id ⌝ }
 {
     let at = find(list, cellid::range_min(id));
     if at < list.len() {
-        let near = list[at];
-        return Seen {
-            meets: cellid::range_min(near) <= cellid::range_max(id),
-            inside: cellid::contains(near, id),
-        };
+        return sight::look_at(list[at], id, whole);
     }
-    Seen {
-        meets: false,
-        inside: false,
-    }
+    Sight::Outside
+}
+
+// What the four children of a valid id that is no leaf are to a list, one after another.
+pub fn look_children(list: &[u64], id: u64, whole: bool) -> Sights
+    requires { ⌜ (isPickList (now list) ≡ true) × Cell id × (levelOf id < 30) ⌝ }
+    ensures { λ r. ⌜ r ≡ sightsOf (sightOf (listMeets (now (list .entry))) (listHolds (now (list .entry))) whole) id ⌝ }
+{
+    sight::four(
+        look_at(list, cellid::child(id, 0), whole),
+        look_at(list, cellid::child(id, 1), whole),
+        look_at(list, cellid::child(id, 2), whole),
+        look_at(list, cellid::child(id, 3), whole),
+    )
 }

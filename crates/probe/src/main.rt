@@ -22,6 +22,7 @@ use region::Region;
 use requests::CovererRead;
 use run::MEMORY_WORDS;
 use run::RegionCoverer;
+use sight::Sight;
 use text::Base;
 use text::Fault;
 use text::Place;
@@ -35,13 +36,13 @@ type Page = [u8; 1114368];
 const NOTHING: u64 = 0xffff_ffff_ffff_ffff;
 
 // The questions by their numbers: 0 to 3 are about numbers and have a hexadecimal answer, 4 to 6 a decimal one; 7 to 11 are about a cell and have a
-// decimal answer, 12 to 14 a hexadecimal one; the answer to 15 to 20 is a list of cells; 21 and 22 are about a region and a cell and have a decimal answer.
+// decimal answer, 12 to 14 a hexadecimal one; the answer to 15 to 20 is a list of cells; 21 to 23 are about a region and a cell and have decimal answers.
 fn read_question(line: &[u8], p: Place) -> Read {
     text::read_choice(
         line,
         p,
-        b"sqrt st_to_uv uv_to_st cellid_from_point valid level is_unit common_ancestor_level cell_contains_point cap_contains_cell cap_intersects_cell face_ij_orientation cell_cap_bound vertices edges vertex_neighbors bound starts normalize denormalize normalize_covering region_contains_cell region_intersects_cell",
-        23,
+        b"sqrt st_to_uv uv_to_st cellid_from_point valid level is_unit common_ancestor_level cell_contains_point cap_contains_cell cap_intersects_cell face_ij_orientation cell_cap_bound vertices edges vertex_neighbors bound starts normalize denormalize normalize_covering region_contains_cell region_intersects_cell region_look",
+        24,
         Fault::UnknownKind,
     )
 }
@@ -141,8 +142,8 @@ fn number_of(k: u64, a: u64, g: Cap, id: u64, c: Cell, i: u64) -> u64
     match k {
         7 => common_level(a, id),
         8 => cell::contains_point(c, g.center) as u64,
-        9 => cap::contains_cell(g, id) as u64,
-        10 => cap::intersects_cell(g, id) as u64,
+        9 => sight::is_inside(cap::look_at(g, id, true)) as u64,
+        10 => sight::is_passing(cap::look_at(g, id, false)) as u64,
         11 => grid_number(hilbert::face_ij_orientation(id), i),
         12 => cap_number(cell::cap_bound(c), i),
         13 => axis(cell::vertex(c, i / 3), i % 3),
@@ -329,14 +330,60 @@ fn put_starts(c: RegionCoverer, g: Region, list: &[u64], page: &mut Page) -> usi
     put_list(page, &ids, s.count)
 }
 
+fn put_number(page: &mut Page, at: usize, x: u64) -> usize {
+    let n = replies::put(page, at, b" ");
+    replies::put_decimal(page, n, x)
+}
+
+// 0 outside, 1 crossing, 2 inside.
+fn sight_number(s: Sight) -> u64 {
+    match s {
+        Sight::Outside => 0,
+        Sight::Crossing => 1,
+        Sight::Inside => 2,
+    }
+}
+
+// The looks at the four children: those that pass and those inside, and, where only outside or not is asked, those that pass; zeros for a leaf, which has none.
+fn put_children(g: Region, list: &[u64], id: u64, page: &mut Page, at: usize) -> usize
+    requires { ⌜ (inDomain (areaOf g (now list)) ≡ true) × CellId.Cell id ⌝ }
+{
+    if cellid::level(id) < 30 {
+        let l = region::look_children(g, list, id, true);
+        let less = region::look_children(g, list, id, false);
+        let n = put_number(page, at, l.passing);
+        let m = put_number(page, n, l.inside);
+        return put_number(page, m, less.passing);
+    }
+    replies::put(page, at, b" 0 0 0")
+}
+
+// The look at the cell, then whether it passes, where only outside or not is asked, then the looks at its children.
+fn put_look(g: Region, list: &[u64], id: u64, page: &mut Page) -> usize
+    requires { ⌜ (inDomain (areaOf g (now list)) ≡ true) × CellId.Cell id ⌝ }
+{
+    let n = replies::put_decimal(page, 0, sight_number(region::look_at(g, list, id, true)));
+    let m = put_number(
+        page,
+        n,
+        sight::is_passing(region::look_at(g, list, id, false)) as u64,
+    );
+    put_children(g, list, id, page, m)
+}
+
+fn put_truth(page: &mut Page, b: bool) -> usize {
+    replies::put_decimal(page, 0, b as u64)
+}
+
 fn put_region(k: u64, c: RegionCoverer, g: Region, list: &[u64], id: u64, page: &mut Page) -> usize
     requires { ⌜ NumbersFit c × (inDomain (areaOf g (now list)) ≡ true) × CellId.Cell id ⌝ }
 {
     match k {
         16 => put_bound(g, list, page),
         17 => put_starts(c, g, list, page),
-        21 => replies::put_decimal(page, 0, region::contains_cell(g, list, id) as u64),
-        _ => replies::put_decimal(page, 0, region::intersects_cell(g, list, id) as u64),
+        21 => put_truth(page, sight::is_inside(region::look_at(g, list, id, true))),
+        22 => put_truth(page, sight::is_passing(region::look_at(g, list, id, false))),
+        _ => put_look(g, list, id, page),
     }
 }
 

@@ -1,5 +1,5 @@
--- A region is a cap, a cell or a lent list of cells, and nothing else: its domain, its two tests and its bound. Definitions only; quoted lines are the words of
--- papers 01 and 02, a.
+-- A region is a cap, a cell or a lent list of cells, and nothing else: its domain, its two tests, the one look that tells both, and its bound. Definitions
+-- only; quoted lines are the words of papers 01 and 02, a.
 use Prim.Native.Nat.{ℕ}
 use mathlib.Core.Bool.{Bool, _&&_, _||_}
 use mathlib.Core.List.{List}
@@ -13,6 +13,8 @@ use Rattle.cell.specs.declared.Cap.{Cap}
 use Rattle.cap.specs.Cap.{capIntersects, capContains}
 use Rattle.cap.specs.Bound.{unionBound}
 use Rattle.picklist.specs.PickList.{isPickList, listMeets, listHolds}
+use Rattle.sight.specs.Sight.{sightOf}
+use Rattle.sight.specs.declared.Sight.{Sight}
 use Rattle.region.specs.declared.Region.{Region}
 
 -- ---- what is asked about: a region's kind, and the ids that are lent beside it, which only a list heeds
@@ -55,6 +57,10 @@ unfoldable pub containsCell : Area → ℕ → Bool
 containsCell (capArea c) id = capContains c id
 containsCell (cellArea own) id = holds own id
 containsCell (listArea ids) id = listHolds ids id
+
+-- what a cell is to the region, by both; where `whole` is false only outside or not
+abbrev pub sightAt : Area → Bool → ℕ → Sight
+sightAt a = sightOf (intersectsCell a) (containsCell a)
 
 -- the ids of the region's bound: of a cap one to six, in the Rust's order; that of a cell is that of its cap_bound; of a list "the list itself"
 unfoldable pub boundOf : Area → List ℕ

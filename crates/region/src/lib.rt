@@ -1,20 +1,21 @@
 // A region is a cap, a cell or a list of cells, and nothing else: the trait of the Rust's region.rs as an enum, by value. The ids of a list are lent beside it,
-// as `list` wherever a region goes; a cap and a cell heed none. Its domain is refusal 5's test; the two tests and the bound go by the case.
+// as `list` wherever a region goes; a cap and a cell heed none. Its domain is refusal 5's test; the look and the bound go by the case.
 ghost use mathlib.Core.Path.{_≡_};
-ghost use mathlib.Core.Bool.{true, _||_};
-ghost use Prim.Native.Nat.{ℕ, _+_, _*_, _/_, _%_, _≤_, _<_};
+ghost use mathlib.Core.Bool.{true};
+ghost use Prim.Native.Nat.{_≤_, _<_};
 ghost use lib.Ieee.Scale.{finite};
 ghost use lib.ListN.{length, take};
-ghost use Rattle.cellid.specs.CellId.{Cell, validId, levelOf, childOf, holds, one};
+ghost use Rattle.cellid.specs.CellId.{Cell, validId, levelOf};
 ghost use Rattle.cell.specs.Cell.{cellOf, capBound};
 ghost use Rattle.cap.specs.Bound.{unionBound, inSix};
-ghost use Rattle.cap.specs.Siblings.{fourBits, looksOf};
+ghost use Rattle.sight.specs.Sight.{sightsOf};
 ghost use Rattle.cellunion.specs.Memory.{laid};
-ghost use Rattle.picklist.specs.PickList.{picksMost, isPickList, listMeets, listHolds};
-ghost use Rattle.region.specs.Region.{areaOf, capInDomain, inDomain, intersectsCell, containsCell, boundOf};
+ghost use Rattle.picklist.specs.PickList.{picksMost};
+ghost use Rattle.region.specs.Region.{areaOf, capInDomain, inDomain, sightAt, boundOf};
 use cap::Bound;
-use cap::Looks;
 use cell::Cap;
+use sight::Sight;
+use sight::Sights;
 
 pub enum Region {
     Cap(Cap),
@@ -66,131 +67,28 @@ pub fn in_domain(g: Region, list: &[u64]) -> bool
     }
 }
 
-fn cell_intersects(own: u64, id: u64) -> bool
-    requires { ⌜ (validId own ≡ true) × Cell id ⌝ }
-    ensures { λ r. ⌜ r ≡ (holds own id || holds id own) ⌝ }
-{
-    cellid::intersects(own, id)
-}
-
-fn list_intersects(list: &[u64], id: u64) -> bool
-    requires { ⌜ (isPickList (now list) ≡ true) × Cell id ⌝ }
-    ensures { λ r. ⌜ r ≡ listMeets (now (list .entry)) id ⌝ }
-{
-    let seen = picklist::see(list, id);
-    seen.meets
-}
-
-// Whether the region and the cell of a valid id have a point in common. For a cap see crate cap; for a cell a few whole-number operations, for a list a binary
-// search.
-pub fn intersects_cell(g: Region, list: &[u64], id: u64) -> bool
+// What the cell of a valid id is to the region; where `whole` is false only outside or not. For a cap see crate cap; for a cell a few whole-number operations,
+// for a list a binary search.
+pub fn look_at(g: Region, list: &[u64], id: u64, whole: bool) -> Sight
     requires { ⌜ (inDomain (areaOf g (now list)) ≡ true) × Cell id ⌝ }
-    ensures { λ r. ⌜ r ≡ intersectsCell (areaOf g (now (list .entry))) id ⌝ }
+    ensures { λ r. ⌜ r ≡ sightAt (areaOf g (now (list .entry))) whole id ⌝ }
 {
     match g {
-        Region::Cap(c) => cap::intersects_cell(c, id),
-        Region::Cell(own) => cell_intersects(own, id),
-        Region::List => list_intersects(list, id),
+        Region::Cap(c) => cap::look_at(c, id, whole),
+        Region::Cell(own) => sight::look_at(own, id, whole),
+        Region::List => picklist::look_at(list, id, whole),
     }
 }
 
-fn cell_contains(own: u64, id: u64) -> bool
-    requires { ⌜ validId own ≡ true ⌝ }
-    ensures { λ r. ⌜ r ≡ holds own id ⌝ }
-{
-    cellid::contains(own, id)
-}
-
-fn list_contains(list: &[u64], id: u64) -> bool
-    requires { ⌜ (isPickList (now list) ≡ true) × Cell id ⌝ }
-    ensures { λ r. ⌜ r ≡ listHolds (now (list .entry)) id ⌝ }
-{
-    let seen = picklist::see(list, id);
-    seen.inside
-}
-
-// Whether the cell of a valid id lies in the region.
-pub fn contains_cell(g: Region, list: &[u64], id: u64) -> bool
-    requires { ⌜ (inDomain (areaOf g (now list)) ≡ true) × Cell id ⌝ }
-    ensures { λ r. ⌜ r ≡ containsCell (areaOf g (now (list .entry))) id ⌝ }
-{
-    match g {
-        Region::Cap(c) => cap::contains_cell(c, id),
-        Region::Cell(own) => cell_contains(own, id),
-        Region::List => list_contains(list, id),
-    }
-}
-
-// Both tests of a cell in one number: 1 where it meets the region, and 16 more where it lies inside.
-fn marked(meets: bool, inside: bool) -> u64
-    ensures { λ r. ⌜ r ≡ one meets + 16 * one inside ⌝ }
-{
-    cap::mark(meets) + 16 * cap::mark(inside)
-}
-
-// The sets of four such looks.
-fn looks(a: u64, b: u64, c: u64, d: u64) -> Looks
-    requires { ⌜ (a ≤ 17) × (b ≤ 17) × (c ≤ 17) × (d ≤ 17) ⌝ }
-    ensures { λ r. ⌜ r ≡ record { meets = fourBits a b c d % 16; inside = fourBits a b c d / 16 } ⌝ }
-{
-    let all = cap::joined(a, b, c, d);
-    Looks {
-        meets: all % 16,
-        inside: all / 16,
-    }
-}
-
-// The look at the k-th child of a valid id that is no leaf, for a cell.
-fn cell_look(own: u64, id: u64, k: u64) -> u64
-    requires { ⌜ (validId own ≡ true) × Cell id × (levelOf id < 30) × (k < 4) ⌝ }
-    ensures { λ r. ⌜ r ≡ one (holds own (childOf id k) || holds (childOf id k) own) + 16 * one (holds own (childOf id k)) ⌝ }
-{
-    let c = cellid::child(id, k);
-    marked(cell_intersects(own, c), cell_contains(own, c))
-}
-
-fn cell_looks(own: u64, id: u64) -> Looks
-    requires { ⌜ (validId own ≡ true) × Cell id × (levelOf id < 30) ⌝ }
-    ensures { λ r. ⌜ r ≡ looksOf (λ (x : ℕ). holds own x || holds x own) (holds own) id ⌝ }
-{
-    looks(
-        cell_look(own, id, 0),
-        cell_look(own, id, 1),
-        cell_look(own, id, 2),
-        cell_look(own, id, 3),
-    )
-}
-
-// The same for a list.
-fn list_look(list: &[u64], id: u64, k: u64) -> u64
-    requires { ⌜ (isPickList (now list) ≡ true) × Cell id × (levelOf id < 30) × (k < 4) ⌝ }
-    ensures { λ r. ⌜ r ≡ one (listMeets (now (list .entry)) (childOf id k)) + 16 * one (listHolds (now (list .entry)) (childOf id k)) ⌝ }
-{
-    let seen = picklist::see(list, cellid::child(id, k));
-    marked(seen.meets, seen.inside)
-}
-
-fn list_looks(list: &[u64], id: u64) -> Looks
-    requires { ⌜ (isPickList (now list) ≡ true) × Cell id × (levelOf id < 30) ⌝ }
-    ensures { λ r. ⌜ r ≡ looksOf (listMeets (now (list .entry))) (listHolds (now (list .entry))) id ⌝ }
-{
-    looks(
-        list_look(list, id, 0),
-        list_look(list, id, 1),
-        list_look(list, id, 2),
-        list_look(list, id, 3),
-    )
-}
-
-// Both tests of the four children of a valid id that is no leaf, as sets by place on the curve.
-pub fn look_children(g: Region, list: &[u64], id: u64) -> Looks
+// The four children of a valid id that is no leaf, as two sets by place on the curve: a cap looks at them together, a cell and a list at one after another.
+pub fn look_children(g: Region, list: &[u64], id: u64, whole: bool) -> Sights
     requires { ⌜ (inDomain (areaOf g (now list)) ≡ true) × Cell id × (levelOf id < 30) ⌝ }
-    ensures { λ r. ⌜ r ≡ looksOf (intersectsCell (areaOf g (now (list .entry)))) (containsCell (areaOf g (now (list .entry)))) id ⌝ }
+    ensures { λ r. ⌜ r ≡ sightsOf (sightAt (areaOf g (now (list .entry))) whole) id ⌝ }
 {
     match g {
-        Region::Cap(c) => cap::look_children(c, id),
-        Region::Cell(own) => cell_looks(own, id),
-        Region::List => list_looks(list, id),
+        Region::Cap(c) => cap::look_children(c, id, whole),
+        Region::Cell(own) => sight::look_children(own, id, whole),
+        Region::List => picklist::look_children(list, id, whole),
     }
 }
 

@@ -8,9 +8,9 @@ use Rattle.cellid.proofs.Laws.{level-cell, place-id}
 use borrow.Author.Tests.{lt-ltb, le-ltb}
 use Rattle.run.specs.Run.{depth, Look, divide, fails, look, none, terminal, Task, minLevel, maxLevel, levelMod}
 use Rattle.run.specs.declared.Request.{Request}
-use Rattle.run.proofs.Lists.{if-ok}
 
-lookBy : (h lo w bot i : Bool) → Look
+-- the look, by the five truths that it depends on: the cell intersects, is below min, is contained, is at the bottom; the run is inner
+unfoldable pub lookBy : (h lo w bot i : Bool) → Look
 lookBy h lo w bot i = elim h [
   | false ↦ fails
   | true ↦ elim lo [
@@ -41,46 +41,15 @@ means-by true false false true false = (refl, refl, λ e. e)
 means-by true false false false i = (refl, λ e. refl)
 
 module _ (T : Task) where
+  pub look-by : (id : ℕ) → look T id ≡ lookBy (T .hits id) (ltb (levelOf id) (minLevel (T .asked))) (T .within id) (ltb (maxLevel (T .asked)) (levelOf id + levelMod (T .asked))) (T .asked .inner)
+  unfolding look lookBy
+  look-by id = refl
+
   abbrev pub Means : ℕ → Look → Type 0
   Means id v = MeansBy (T .hits id) (ltb (levelOf id) (minLevel (T .asked))) (T .within id) (ltb (maxLevel (T .asked)) (levelOf id + levelMod (T .asked))) (T .asked .inner) v
 
   pub look-means : (id : ℕ) (v : Look) → look T id ≡ v → Means id v
-  unfolding look lookBy
-  look-means id v e = subst (Means id) e (means-by (T .hits id) (ltb (levelOf id) (minLevel (T .asked))) (T .within id) (ltb (maxLevel (T .asked)) (levelOf id + levelMod (T .asked))) (T .asked .inner))
-
--- ---- the look, one law for each way that the code goes
-
-module _ (T : Task) (id : ℕ) where
-  pub look-fails : T .hits id ≡ false → look T id ≡ fails
-  unfolding look
-  look-fails h = rw (h, look)
-
-  module _ (h : T .hits id ≡ true) where
-    pub look-below : levelOf id < minLevel (T .asked) → look T id ≡ divide
-    unfolding look
-    look-below l = rw (h, look, lt-ltb (levelOf id) (minLevel (T .asked)) l)
-
-    module _ (l : minLevel (T .asked) ≤ levelOf id) where
-      pub look-inside : T .within id ≡ true → look T id ≡ terminal
-      unfolding look
-      look-inside w = rw (h, look, le-ltb (levelOf id) (minLevel (T .asked)) l, w)
-
-      -- an outer cell at the bottom is terminal, contained or not
-      pub look-bottom : maxLevel (T .asked) < levelOf id + levelMod (T .asked) → T .asked .inner ≡ false → look T id ≡ terminal
-      unfolding look
-      look-bottom b o =
-          rw (h, look, le-ltb (levelOf id) (minLevel (T .asked)) l)
-          (if-ok (λ v. v ≡ terminal) (T .within id) terminal _ (λ t. refl) (λ t. rw (lt-ltb (maxLevel (T .asked)) (levelOf id + levelMod (T .asked)) b) (if-ok (λ v. v ≡ terminal) (T .asked .inner) none terminal (λ i. absurd (true≢false (sym i ∙ o))) (λ i. refl))))
-
-      pub look-none : maxLevel (T .asked) < levelOf id + levelMod (T .asked) → T .asked .inner ≡ true → T .within id ≡ false → look T id ≡ none
-      unfolding look
-      look-none b i w =
-          rw (h, look, le-ltb (levelOf id) (minLevel (T .asked)) l, w, lt-ltb (maxLevel (T .asked)) (levelOf id + levelMod (T .asked)) b)
-          (if-ok (λ v. v ≡ none) (T .asked .inner) none terminal (λ t. refl) (λ t. absurd (true≢false (sym i ∙ t))))
-
-      pub look-above : levelOf id + levelMod (T .asked) ≤ maxLevel (T .asked) → T .within id ≡ false → look T id ≡ divide
-      unfolding look
-      look-above b w = rw (h, look, le-ltb (levelOf id) (minLevel (T .asked)) l, w, le-ltb (maxLevel (T .asked)) (levelOf id + levelMod (T .asked)) b)
+  look-means id v e = subst (Means id) (sym (look-by id) ∙ e) (means-by (T .hits id) (ltb (levelOf id) (minLevel (T .asked))) (T .within id) (ltb (maxLevel (T .asked)) (levelOf id + levelMod (T .asked))) (T .asked .inner))
 
 -- ---- how deep an expansion goes
 

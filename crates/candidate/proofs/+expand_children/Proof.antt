@@ -1,5 +1,6 @@
 -- `expand_children` meets its contract. The loop's invariant: `acc` has the sets of the first k children. The measure is the number of levels left.
 use mathlib.Core.Path.{_≡_, refl, sym, ap, _∙_}
+use mathlib.Core.Bool.{false}
 use mathlib.Core.Logic.{⊎-elim}
 use native.Mathlib.Numerals.{add-one}
 use native.Mathlib.Omega.{arith}
@@ -52,10 +53,10 @@ abbrev part : Request → Area → ℕ → ℕ → Found
 part q a = foundPart (taskOf q a)
 
 abbrev expand-children-Inv-loop : expand-children-lts.InvT-loop
-expand-children-Inv-loop q g list id left less width meets acc₀ k₀ acc k = (k ≤ 4) × (acc ≡ upTo (part q (areaOf g list) less) (2 ^ (2 * less)) id k)
+expand-children-Inv-loop q g list id left less width passing acc₀ k₀ acc k = (k ≤ 4) × (acc ≡ upTo (part q (areaOf g list) less) (2 ^ (2 * less)) id k)
 
 abbrev expand-children-μ-loop : expand-children-lts.MeasureT-loop
-expand-children-μ-loop q g list id left less width meets acc₀ k₀ acc k = 4 - k
+expand-children-μ-loop q g list id left less width passing acc₀ k₀ acc k = 4 - k
 
 expand-children-children-requires : (t : ℕ) → expand-children-lts.Need-children-requires (expand-children-claims t) (expand-children-at t) expand-children.Post expand-children-Inv-loop expand-children-μ-loop
 expand-children-children-requires t c κs = (c .before .before .pre .1 .0, (c .before .before .pre .1 .1 .1 .0, omega (arith, c .before .before .pre .1 .1 .1 .1, c .before .before .pre .1 .1 .0 .0)))
@@ -110,7 +111,7 @@ part-is t c =
     let some : 0 < z .args .left - 1 = omega (arith, z .pre .1 .1 .0 .0, c .before .before .before .before .if1 .left) in
     let k = c .before .before .loop .k in
     let n = z .args .left - 1 in
-    let b = bit-test hits within (z .args .id) k (c .before .before .before .look-children .result) (c .before .loop-test .taken) (c .before .before .before .look-children .ensures) in
+    let b = bit-test hits within false (z .args .id) k (c .before .before .before .look-children .result) (c .before .loop-test .taken) (c .before .before .before .look-children .ensures) in
     ⊎-elim
     (λ w. w .3 ∙ rw (w .1 .ensures) at (w .2 .ensures) ∙ sym (part-more T n (childOf (z .args .id) k) some (bit-yes (hits (childOf (z .args .id) k)) (sym b ∙ w .0 .taken))))
     (λ w. w .1 ∙ sym (part-none T n (childOf (z .args .id) k) some (bit-no (hits (childOf (z .args .id) k)) (λ e. w .0 .left (b ∙ e)))))

@@ -1,5 +1,5 @@
 -- `cap::held_nine` meets its contract.
-use Rattle.cap.specs.Siblings.{heldNine}
+use Rattle.cap.specs.Looks.{heldNine}
 use borrow.Author.Needs.{needs}
 use Rattle.cap.proofs.held_nine.Statement.{statement}
 use Rattle.cap.proofs.held_nine.Tie as tie

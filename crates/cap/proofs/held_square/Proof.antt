@@ -2,7 +2,7 @@
 use mathlib.Core.Path.{refl}
 use Prim.Native.Nat.{_+_}
 use native.Mathlib.Omega.{arith}
-use Rattle.cap.specs.Siblings.{heldAt}
+use Rattle.cap.specs.Looks.{heldAt}
 use borrow.Author.Needs.{needs}
 use Rattle.cap.proofs.held_square.Statement.{statement}
 use Rattle.cap.proofs.held_square.Tie as tie

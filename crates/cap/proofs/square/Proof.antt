@@ -1,6 +1,6 @@
 -- `cap::square` meets its contract.
 use mathlib.Core.Path.{refl}
-use Rattle.cap.specs.Siblings.{squareAt}
+use Rattle.cap.specs.Looks.{squareAt}
 use borrow.Author.Needs.{needs}
 use Rattle.cap.proofs.square.Statement.{statement}
 use Rattle.cap.proofs.square.Tie as tie
