@@ -1,11 +1,11 @@
 -- One look at a cell: the corners decide as the two tests do. Assumes nothing.
 use mathlib.Core.Path.{_≡_, refl, sym, ap, _∙_}
-use mathlib.Core.Bool.{Bool, true, false, not, cond, _&&_, _||_, and-eq-true-iff, true≢false, Bool·beq}
+use mathlib.Core.Bool.{Bool, true, false, not, cond, _&&_, _||_, true≢false, Bool·beq}
 use Prim.Native.Nat.{ℕ, zero, suc, _+_, _-_, _<_}
 use native.Mathlib.Omega.{arith}
 use lib.Ieee.{le}
 use Rattle.cellid.specs.CellId.{one}
-use Rattle.cellid.proofs.Laws.{one-le, no-true}
+use Rattle.cellid.proofs.Laws.{one-le}
 use Rattle.point.specs.ChordAngle.{right}
 use Rattle.point.specs.declared.Point.{Point}
 use Rattle.cell.specs.Cell.{cellOf, vertexAt}
@@ -36,34 +36,6 @@ alike true false h = absurd (true≢false h)
 alike false true h = absurd (true≢false h)
 alike false false h = refl
 
--- a corner that isn't where the first one is
-second : (a b d e t u : Bool) → (b ≡ a → ⊥) → byCorners a b d e t u ≡ Sight.Crossing
-unfolding sightBy
-second true true d e t u h = absurd (h refl)
-second true false d e t u h = refl
-second false true d e t u h = refl
-second false false d e t u h = absurd (h refl)
-
-third : (a b d e t u : Bool) → (d ≡ a → ⊥) → byCorners a b d e t u ≡ Sight.Crossing
-unfolding sightBy
-third true b true e t u h = absurd (h refl)
-third true true false e t u h = refl
-third true false false e t u h = refl
-third false true true e t u h = refl
-third false false true e t u h = refl
-third false b false e t u h = absurd (h refl)
-
-fourth : (a b d e t u : Bool) → (e ≡ a → ⊥) → byCorners a b d e t u ≡ Sight.Crossing
-unfolding sightBy
-fourth true b d true t u h = absurd (h refl)
-fourth true true true false t u h = refl
-fourth true true false false t u h = refl
-fourth true false d false t u h = refl
-fourth false true d true t u h = refl
-fourth false false true true t u h = refl
-fourth false false false true t u h = refl
-fourth false b d false t u h = absurd (h refl)
-
 -- all four on one side
 all-same : (a t u : Bool) → byCorners a a a a t u ≡ sightPast a (cond a u t)
 unfolding sightBy
@@ -88,59 +60,17 @@ all-in true false d e h = absurd (omega (arith, one-le d, one-le e))
 all-in true true false e h = absurd (omega (arith, one-le e))
 all-in true true true false h = absurd (omega arith)
 
-some-in : (a b d e t u : Bool) → (one a + one b + one d + one e ≡ 0 → ⊥) → (one a + one b + one d + one e ≡ 4 → ⊥) → byCorners a b d e t u ≡ Sight.Crossing
-unfolding one sightBy
-some-in true true true true t u h g = absurd (g refl)
-some-in true true true false t u h g = refl
-some-in true true false e t u h g = refl
-some-in true false d e t u h g = refl
-some-in false true d e t u h g = refl
-some-in false false true e t u h g = refl
-some-in false false false true t u h g = refl
-some-in false false false false t u h g = absurd (h refl)
-
 or-yes : (b : Bool) → (b || true) ≡ true
 or-yes true = refl
 or-yes false = refl
 
+and-no : (b : Bool) → (b && false) ≡ false
+and-no true = refl
+and-no false = refl
+
 module _ (cap : Cap) (c : Cell) where
   abbrev heldAtCorner : ℕ → Bool
   heldAtCorner k = capHolds cap (vertexAt c k)
-
-  -- of the four corners one that isn't where the first one is, or all on one side
-  module _ (a : Bool) (e : heldAtCorner 0 ≡ a) where
-    pub second-decides : (b : Bool) → heldAtCorner 1 ≡ b → (b ≡ a → ⊥) → Sight.Crossing ≡ sightIn cap true c
-    unfolding sightIn meetsCell holdsCell
-    second-decides b f h = rw (e, f) (sym (second a b (heldAtCorner 2) (heldAtCorner 3) (touches cap c) (touches (complementOf cap) c) h))
-
-    pub third-decides : (b : Bool) → heldAtCorner 2 ≡ b → (b ≡ a → ⊥) → Sight.Crossing ≡ sightIn cap true c
-    unfolding sightIn meetsCell holdsCell
-    third-decides b f h = rw (e, f) (sym (third a (heldAtCorner 1) b (heldAtCorner 3) (touches cap c) (touches (complementOf cap) c) h))
-
-    pub fourth-decides : (b : Bool) → heldAtCorner 3 ≡ b → (b ≡ a → ⊥) → Sight.Crossing ≡ sightIn cap true c
-    unfolding sightIn meetsCell holdsCell
-    fourth-decides b f h = rw (e, f) (sym (fourth a (heldAtCorner 1) (heldAtCorner 2) b (touches cap c) (touches (complementOf cap) c) h))
-
-    pub edges-decide : heldAtCorner 1 ≡ a → heldAtCorner 2 ≡ a → heldAtCorner 3 ≡ a → sightIn cap true c ≡ sightPast a (touches (otherSide cap a) c)
-    unfolding sightIn meetsCell holdsCell
-    edges-decide f g h = rw (e, f, g, h) (all-same a (touches cap c) (touches (complementOf cap) c) ∙ ap (sightPast a) (side a))
-      where
-        side : (b : Bool) → cond b (touches (complementOf cap) c) (touches cap c) ≡ touches (otherSide cap b) c
-        side true = refl
-        side false = refl
-
-  -- of the corners so many lie in the cap
-  pub none-held : heldOf cap c ≡ 0 → sightIn cap true c ≡ sightPast false (touches cap c)
-  unfolding heldOf
-  none-held h = let n = none-in (heldAtCorner 0) (heldAtCorner 1) (heldAtCorner 2) (heldAtCorner 3) h in edges-decide false (n .0) (n .1) (n .2) (n .3)
-
-  pub all-held : heldOf cap c ≡ 4 → sightIn cap true c ≡ sightPast true (touches (complementOf cap) c)
-  unfolding heldOf
-  all-held h = let n = all-in (heldAtCorner 0) (heldAtCorner 1) (heldAtCorner 2) (heldAtCorner 3) h in edges-decide true (n .0) (n .1) (n .2) (n .3)
-
-  pub some-held : (heldOf cap c ≡ 0 → ⊥) → (heldOf cap c ≡ 4 → ⊥) → sightIn cap true c ≡ Sight.Crossing
-  unfolding heldOf sightIn meetsCell holdsCell
-  some-held h g = some-in (heldAtCorner 0) (heldAtCorner 1) (heldAtCorner 2) (heldAtCorner 3) (touches cap c) (touches (complementOf cap) c) h g
 
   -- a corner in the cap: the cell passes; one that isn't: it doesn't lie inside
   corner-in : (k : ℕ) → k < 4 → heldAtCorner k ≡ true → meetsCell cap c ≡ true
@@ -151,21 +81,58 @@ module _ (cap : Cap) (c : Cell) where
   corner-in (suc (suc (suc zero))) l h = rw (h, or-yes (heldAtCorner 2), or-yes (heldAtCorner 1), or-yes (heldAtCorner 0))
   corner-in (suc (suc (suc (suc k)))) l h = absurd (omega arith)
 
-  corners-in : holdsCell cap c ≡ true → (k : ℕ) → k < 4 → heldAtCorner k ≡ true
+  corner-out : (k : ℕ) → k < 4 → heldAtCorner k ≡ false → holdsCell cap c ≡ false
   unfolding holdsCell
-  corners-in t =
-      let a = and-eq-true-iff _ _ .0 t in
-      let b = and-eq-true-iff _ _ .0 (a .1) in
-      let d = and-eq-true-iff _ _ .0 (b .1) in
-      let e = and-eq-true-iff _ _ .0 (d .1) in
-      go (a .0) (b .0) (d .0) (e .0)
+  corner-out zero l h = rw h
+  corner-out (suc zero) l h = rw (h, and-no (heldAtCorner 0))
+  corner-out (suc (suc zero)) l h = rw (h, and-no (heldAtCorner 1), and-no (heldAtCorner 0))
+  corner-out (suc (suc (suc zero))) l h = rw (h, and-no (heldAtCorner 2), and-no (heldAtCorner 1), and-no (heldAtCorner 0))
+  corner-out (suc (suc (suc (suc k)))) l h = absurd (omega arith)
+
+  -- one in and one out
+  mixed : (i o : ℕ) → i < 4 → o < 4 → heldAtCorner i ≡ true → heldAtCorner o ≡ false → sightIn cap true c ≡ Sight.Crossing
+  unfolding sightIn sightBy
+  mixed i o l m h g = rw (corner-in i l h, corner-out o m g)
+
+  -- a corner that isn't where the first one is
+  pub differing : (k : ℕ) (a b : Bool) → k < 4 → heldAtCorner 0 ≡ a → heldAtCorner k ≡ b → (b ≡ a → ⊥) → Sight.Crossing ≡ sightIn cap true c
+  differing k true true l e f h = absurd (h refl)
+  differing k true false l e f h = sym (mixed 0 k (omega arith) l e f)
+  differing k false true l e f h = sym (mixed k 0 l (omega arith) f e)
+  differing k false false l e f h = absurd (h refl)
+
+  -- all four on one side
+  pub edges-decide : (a : Bool) → heldAtCorner 0 ≡ a → heldAtCorner 1 ≡ a → heldAtCorner 2 ≡ a → heldAtCorner 3 ≡ a → sightIn cap true c ≡ sightPast a (touches (otherSide cap a) c)
+  unfolding sightIn meetsCell holdsCell
+  edges-decide a e f g h = rw (e, f, g, h) (all-same a (touches cap c) (touches (complementOf cap) c) ∙ ap (sightPast a) (side a))
     where
-      go : heldAtCorner 0 ≡ true → heldAtCorner 1 ≡ true → heldAtCorner 2 ≡ true → heldAtCorner 3 ≡ true → (k : ℕ) → k < 4 → heldAtCorner k ≡ true
-      go a b d e zero l = a
-      go a b d e (suc zero) l = b
-      go a b d e (suc (suc zero)) l = d
-      go a b d e (suc (suc (suc zero))) l = e
-      go a b d e (suc (suc (suc (suc k)))) l = absurd (omega arith)
+      side : (b : Bool) → cond b (touches (complementOf cap) c) (touches cap c) ≡ touches (otherSide cap b) c
+      side true = refl
+      side false = refl
+
+  -- of the corners so many lie in the cap
+  pub none-held : heldOf cap c ≡ 0 → sightIn cap true c ≡ sightPast false (touches cap c)
+  unfolding heldOf
+  none-held h = let n = none-in (heldAtCorner 0) (heldAtCorner 1) (heldAtCorner 2) (heldAtCorner 3) h in edges-decide false (n .0) (n .1) (n .2) (n .3)
+
+  pub all-held : heldOf cap c ≡ 4 → sightIn cap true c ≡ sightPast true (touches (complementOf cap) c)
+  unfolding heldOf
+  all-held h = let n = all-in (heldAtCorner 0) (heldAtCorner 1) (heldAtCorner 2) (heldAtCorner 3) h in edges-decide true (n .0) (n .1) (n .2) (n .3)
+
+  some-in : (a b d e : Bool) → heldAtCorner 0 ≡ a → heldAtCorner 1 ≡ b → heldAtCorner 2 ≡ d → heldAtCorner 3 ≡ e → (one a + one b + one d + one e ≡ 0 → ⊥) → (one a + one b + one d + one e ≡ 4 → ⊥) → sightIn cap true c ≡ Sight.Crossing
+  unfolding one
+  some-in true true true true p q r s h g = absurd (g refl)
+  some-in true true true false p q r s h g = mixed 0 3 (omega arith) (omega arith) p s
+  some-in true true false e p q r s h g = mixed 0 2 (omega arith) (omega arith) p r
+  some-in true false d e p q r s h g = mixed 0 1 (omega arith) (omega arith) p q
+  some-in false true d e p q r s h g = mixed 1 0 (omega arith) (omega arith) q p
+  some-in false false true e p q r s h g = mixed 2 0 (omega arith) (omega arith) r p
+  some-in false false false true p q r s h g = mixed 3 0 (omega arith) (omega arith) s p
+  some-in false false false false p q r s h g = absurd (h refl)
+
+  pub some-held : (heldOf cap c ≡ 0 → ⊥) → (heldOf cap c ≡ 4 → ⊥) → sightIn cap true c ≡ Sight.Crossing
+  unfolding heldOf
+  some-held h g = some-in (heldAtCorner 0) (heldAtCorner 1) (heldAtCorner 2) (heldAtCorner 3) refl refl refl refl h g
 
   -- so where only outside or not is asked a corner in the cap is enough; where that isn't so, a cell that lies inside is told as such, or none does
   pub enough : (k : ℕ) → k < 4 → heldAtCorner k ≡ true → sightIn cap false c ≡ Sight.Crossing
@@ -176,14 +143,10 @@ module _ (cap : Cap) (c : Cell) where
   unfolding sightIn
   not-enough k whole l h = cases (heldAtCorner k) whole refl h
     where
-      same : (w : Bool) → sightBy (meetsCell cap c) false ≡ sightBy (meetsCell cap c) (w && false)
-      same true = refl
-      same false = refl
-
       cases : (b w : Bool) → heldAtCorner k ≡ b → (b && not w) ≡ false → sightIn cap true c ≡ sightIn cap w c
       cases true true e h = refl
       cases true false e h = absurd (true≢false h)
-      cases false w e h = rw (no-true (holdsCell cap c) (λ t. true≢false (sym (corners-in t k l) ∙ e))) (same w)
+      cases false w e h = rw (corner-out k l e, and-no w)
 
 -- what is asked beside a corner: all of the cell, or only outside or not
 pub whole-asked : (held whole : Bool) → whole ≡ true → false ≡ (held && not whole)

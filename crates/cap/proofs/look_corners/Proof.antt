@@ -1,8 +1,9 @@
 -- `cap::look_corners` meets its contract: a corner that isn't where the first one is decides, else the edges.
 use mathlib.Core.Path.{sym, _∙_}
+use native.Mathlib.Omega.{arith}
 use Rattle.cell.specs.Cell.{verticesOf}
 use Rattle.cap.proofs.Laws.{at-corner}
-use Rattle.cap.proofs.Looks.{differ, alike, second-decides, third-decides, fourth-decides, edges-decide}
+use Rattle.cap.proofs.Looks.{differ, alike, differing, edges-decide}
 use borrow.Author.Needs.{needs}
 use Rattle.cap.proofs.look_corners.Statement.{statement}
 use Rattle.cap.proofs.look_corners.Tie as tie
@@ -10,17 +11,17 @@ use Rattle.cap.proofs.look_corners.Tie as tie
 returns : tie.Need-returns
 returns c =
     let z = c .before .before .before .pre in
-    second-decides _ _ _ (at-corner _ _ 0 _ _ (z .1) (z .2)) _ (at-corner _ _ 1 _ _ (c .before .before .vertex .ensures) (c .before .contains-point .ensures)) (differ _ _ (c .if1 .taken))
+    differing _ _ 1 _ _ (omega arith) (at-corner _ _ 0 _ _ (z .1) (z .2)) (at-corner _ _ 1 _ _ (c .before .before .vertex .ensures) (c .before .contains-point .ensures)) (differ _ _ (c .if1 .taken))
 
 returns-2 : tie.Need-returns-2
 returns-2 c =
     let z = c .before .before .before .before .before .before .pre in
-    third-decides _ _ _ (at-corner _ _ 0 _ _ (z .1) (z .2)) _ (at-corner _ _ 2 _ _ (c .before .before .vertex2 .ensures) (c .before .contains-point2 .ensures)) (differ _ _ (c .if2 .taken))
+    differing _ _ 2 _ _ (omega arith) (at-corner _ _ 0 _ _ (z .1) (z .2)) (at-corner _ _ 2 _ _ (c .before .before .vertex2 .ensures) (c .before .contains-point2 .ensures)) (differ _ _ (c .if2 .taken))
 
 returns-3 : tie.Need-returns-3
 returns-3 c =
     let z = c .before .before .before .before .before .before .before .before .before .pre in
-    fourth-decides _ _ _ (at-corner _ _ 0 _ _ (z .1) (z .2)) _ (at-corner _ _ 3 _ _ (c .before .before .vertex3 .ensures) (c .before .contains-point3 .ensures)) (differ _ _ (c .if3 .taken))
+    differing _ _ 3 _ _ (omega arith) (at-corner _ _ 0 _ _ (z .1) (z .2)) (at-corner _ _ 3 _ _ (c .before .before .vertex3 .ensures) (c .before .contains-point3 .ensures)) (differ _ _ (c .if3 .taken))
 
 look-edges-requires : tie.Need-look-edges-requires
 unfolding verticesOf
