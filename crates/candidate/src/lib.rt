@@ -19,7 +19,7 @@ pub enum Candidate {
     None,
 }
 
-// What a cell of this level that crosses the rim is to a run.
+// What a crossing cell of this level is to a run.
 fn crossing(q: Request, level: u64) -> Candidate
     requires { ⌜ (level ≤ 30) × (levelMod q ≤ 3) ⌝ }
     ensures { λ r. ⌜ r ≡ candidateOf (crossingAs q level) ⌝ }
