@@ -1,13 +1,10 @@
 -- What one look makes of a cell in a run; and since the four children of a cell have one level, one rule makes their sets of the two that a look gives.
 use mathlib.Core.Path.{_≡_, refl, sym, ap, ap₂, _∙_}
-use mathlib.Core.Logic.{by-cases}
 use mathlib.Core.Bool.{Bool, true, false, not, cond, _&&_, _||_}
 use Prim.Native.Nat.{ℕ, _+_, _*_, _/_, _^_, _<_}
-use native.Mathlib.Decide.{decLt}
 use native.Mathlib.Omega.{arith}
 use lib.Bits.{bitAnd, and-mask}
-use lib.Dec.{leb, ltb}
-use borrow.Author.Tests.{lt-ltb, le-ltb, lt-leb, le-leb}
+use lib.Dec.{ltb}
 use Rattle.cellid.specs.CellId.{Cell, levelOf, childOf, one}
 use Rattle.cellid.proofs.Laws.{level-cell, one-le}
 use Rattle.cellid.proofs.Leaves.{child-cell}
@@ -66,12 +63,9 @@ asks-three false true false = refl
 asks-three false false true = refl
 asks-three false false false = refl
 
-leb-not : (a b : ℕ) → leb a b ≡ not (ltb b a)
-leb-not a b = by-cases (decLt b a) (λ h. rw (lt-leb a b h, lt-ltb b a h)) (λ h. rw (le-leb a b (omega arith), le-ltb b a (omega arith)))
-
-pub asks-by : (q : Request) (level : ℕ) (c : Candidate) → c ≡ candidateOf (crossingAs q level) → asksBy c (leb (minLevel q) level) ≡ asksWhole q level
+pub asks-by : (q : Request) (level : ℕ) (c : Candidate) → c ≡ candidateOf (crossingAs q level) → asksBy c (not (ltb level (minLevel q))) ≡ asksWhole q level
 unfolding crossingAs asksWhole
-asks-by q level c e = rw (e, leb-not (minLevel q) level) (asks-three (ltb level (minLevel q)) (ltb (maxLevel q) (level + levelMod q)) (q .inner))
+asks-by q level c e = rw e (asks-three (ltb level (minLevel q)) (ltb (maxLevel q) (level + levelMod q)) (q .inner))
 
 -- ---- four
 

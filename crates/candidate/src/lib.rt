@@ -43,7 +43,7 @@ fn asks_whole(q: Request, level: u64, crossing: Candidate) -> bool
 {
     match crossing {
         Candidate::Kept => false,
-        Candidate::Queued => q.coverer.min_level <= level,
+        Candidate::Queued => !(level < q.coverer.min_level),
         Candidate::None => true,
     }
 }

@@ -1,9 +1,10 @@
 -- One look at a cell: the corners decide as the two tests do. Assumes nothing.
 use mathlib.Core.Path.{_≡_, refl, sym, ap, _∙_}
-use mathlib.Core.Bool.{Bool, true, false, not, cond, _&&_, _||_, true≢false, Bool·beq}
+use mathlib.Core.Bool.{Bool, true, false, not, cond, _&&_, _||_, or-true, and-false, and-eq-true-iff, true≢false, Bool·beq}
 use Prim.Native.Nat.{ℕ, zero, suc, _+_, _-_, _<_}
 use native.Mathlib.Omega.{arith}
 use lib.Ieee.{le}
+use borrow.Author.Tests.{not-true, not-false}
 use Rattle.cellid.specs.CellId.{one}
 use Rattle.cellid.proofs.Laws.{one-le}
 use Rattle.point.specs.ChordAngle.{right}
@@ -22,19 +23,6 @@ use Rattle.cap.specs.Looks.{sightIn, otherSide, canReach, sightPast, hel
 -- the look by four corners, where t tells whether the cap reaches into a cell of which it has no corner, u whether its other side does
 abbrev byCorners : Bool → Bool → Bool → Bool → Bool → Bool → Sight
 byCorners a b d e t u = sightBy (a || (b || (d || (e || t)))) (a && (b && (d && (e && not u))))
-
--- two corners that are not on one side, and two that are
-pub differ : (x y : Bool) → not (Bool·beq x y) ≡ true → x ≡ y → ⊥
-differ true true h e = true≢false (sym h)
-differ true false h e = true≢false e
-differ false true h e = true≢false (sym e)
-differ false false h e = true≢false (sym h)
-
-pub alike : (x y : Bool) → not (Bool·beq x y) ≡ false → x ≡ y
-alike true true h = refl
-alike true false h = absurd (true≢false h)
-alike false true h = absurd (true≢false h)
-alike false false h = refl
 
 -- all four on one side
 all-same : (a t u : Bool) → byCorners a a a a t u ≡ sightPast a (cond a u t)
@@ -60,14 +48,6 @@ all-in true false d e h = absurd (omega (arith, one-le d, one-le e))
 all-in true true false e h = absurd (omega (arith, one-le e))
 all-in true true true false h = absurd (omega arith)
 
-or-yes : (b : Bool) → (b || true) ≡ true
-or-yes true = refl
-or-yes false = refl
-
-and-no : (b : Bool) → (b && false) ≡ false
-and-no true = refl
-and-no false = refl
-
 module _ (cap : Cap) (c : Cell) where
   abbrev heldAtCorner : ℕ → Bool
   heldAtCorner k = capHolds cap (vertexAt c k)
@@ -76,17 +56,17 @@ module _ (cap : Cap) (c : Cell) where
   corner-in : (k : ℕ) → k < 4 → heldAtCorner k ≡ true → meetsCell cap c ≡ true
   unfolding meetsCell
   corner-in zero l h = rw h
-  corner-in (suc zero) l h = rw (h, or-yes (heldAtCorner 0))
-  corner-in (suc (suc zero)) l h = rw (h, or-yes (heldAtCorner 1), or-yes (heldAtCorner 0))
-  corner-in (suc (suc (suc zero))) l h = rw (h, or-yes (heldAtCorner 2), or-yes (heldAtCorner 1), or-yes (heldAtCorner 0))
+  corner-in (suc zero) l h = rw (h, or-true (heldAtCorner 0))
+  corner-in (suc (suc zero)) l h = rw (h, or-true (heldAtCorner 1), or-true (heldAtCorner 0))
+  corner-in (suc (suc (suc zero))) l h = rw (h, or-true (heldAtCorner 2), or-true (heldAtCorner 1), or-true (heldAtCorner 0))
   corner-in (suc (suc (suc (suc k)))) l h = absurd (omega arith)
 
   corner-out : (k : ℕ) → k < 4 → heldAtCorner k ≡ false → holdsCell cap c ≡ false
   unfolding holdsCell
   corner-out zero l h = rw h
-  corner-out (suc zero) l h = rw (h, and-no (heldAtCorner 0))
-  corner-out (suc (suc zero)) l h = rw (h, and-no (heldAtCorner 1), and-no (heldAtCorner 0))
-  corner-out (suc (suc (suc zero))) l h = rw (h, and-no (heldAtCorner 2), and-no (heldAtCorner 1), and-no (heldAtCorner 0))
+  corner-out (suc zero) l h = rw (h, and-false (heldAtCorner 0))
+  corner-out (suc (suc zero)) l h = rw (h, and-false (heldAtCorner 1), and-false (heldAtCorner 0))
+  corner-out (suc (suc (suc zero))) l h = rw (h, and-false (heldAtCorner 2), and-false (heldAtCorner 1), and-false (heldAtCorner 0))
   corner-out (suc (suc (suc (suc k)))) l h = absurd (omega arith)
 
   -- one in and one out
@@ -95,11 +75,11 @@ module _ (cap : Cap) (c : Cell) where
   mixed i o l m h g = rw (corner-in i l h, corner-out o m g)
 
   -- a corner that isn't where the first one is
-  pub differing : (k : ℕ) (a b : Bool) → k < 4 → heldAtCorner 0 ≡ a → heldAtCorner k ≡ b → (b ≡ a → ⊥) → Sight.Crossing ≡ sightIn cap true c
-  differing k true true l e f h = absurd (h refl)
+  pub differing : (k : ℕ) (a b : Bool) → k < 4 → heldAtCorner 0 ≡ a → heldAtCorner k ≡ b → not (Bool·beq b a) ≡ true → Sight.Crossing ≡ sightIn cap true c
+  differing k true true l e f h = absurd (true≢false (sym h))
   differing k true false l e f h = sym (mixed 0 k (omega arith) l e f)
   differing k false true l e f h = sym (mixed k 0 l (omega arith) f e)
-  differing k false false l e f h = absurd (h refl)
+  differing k false false l e f h = absurd (true≢false (sym h))
 
   -- all four on one side
   pub edges-decide : (a : Bool) → heldAtCorner 0 ≡ a → heldAtCorner 1 ≡ a → heldAtCorner 2 ≡ a → heldAtCorner 3 ≡ a → sightIn cap true c ≡ sightPast a (touches (otherSide cap a) c)
@@ -139,48 +119,24 @@ module _ (cap : Cap) (c : Cell) where
   unfolding sightIn sightBy
   enough k l h = rw (corner-in k l h)
 
-  pub not-enough : (k : ℕ) (whole : Bool) → k < 4 → (heldAtCorner k && not whole) ≡ false → sightIn cap true c ≡ sightIn cap whole c
+  pub not-enough : (k : ℕ) (whole : Bool) → k < 4 → (not whole && heldAtCorner k) ≡ false → sightIn cap true c ≡ sightIn cap whole c
   unfolding sightIn
-  not-enough k whole l h = cases (heldAtCorner k) whole refl h
-    where
-      cases : (b w : Bool) → heldAtCorner k ≡ b → (b && not w) ≡ false → sightIn cap true c ≡ sightIn cap w c
-      cases true true e h = refl
-      cases true false e h = absurd (true≢false h)
-      cases false w e h = rw (corner-out k l e, and-no w)
+  not-enough k true l h = refl
+  not-enough k false l h = rw (corner-out k l h)
 
--- what is asked beside a corner: all of the cell, or only outside or not
-pub whole-asked : (held whole : Bool) → whole ≡ true → false ≡ (held && not whole)
-whole-asked true whole e = rw e
-whole-asked false whole e = refl
-
-pub less-asked : (held whole : Bool) → whole ≡ false → held ≡ (held && not whole)
-less-asked true whole e = rw e
-less-asked false whole e = refl
-
-pub asked-less : (held whole : Bool) → (held && not whole) ≡ true → (held ≡ true) × (whole ≡ false)
-asked-less true false h = (refl, refl)
-asked-less true true h = absurd (true≢false (sym h))
-asked-less false whole h = absurd (true≢false (sym h))
+pub asked-less : (held whole : Bool) → (not whole && held) ≡ true → (held ≡ true) × (whole ≡ false)
+asked-less held whole h = let r = and-eq-true-iff (not whole) held .0 h in (r .1, not-true whole (r .0))
 
 -- the first corner of an id's cell
 module _ (cap : Cap) (id : ℕ) (c : Cell) (a : Point) (all whole : Bool) (e : c ≡ cellOf id) (f : a ≡ vertexAt c 0) (g : all ≡ capHolds cap a) where
-  pub first-enough : (all && not whole) ≡ true → Sight.Crossing ≡ sightOf (capIntersects cap) (capContains cap) whole id
+  pub first-enough : (not whole && all) ≡ true → Sight.Crossing ≡ sightOf (capIntersects cap) (capContains cap) whole id
   unfolding sightOf capIntersects capContains sightIn
   first-enough h = let r = asked-less all whole h in rw (r .1, ← e) (sym (enough cap c 0 (omega arith) (at-corner cap c 0 a all f g ∙ r .0)))
 
-  pub first-not : (all && not whole) ≡ false → sightIn cap true c ≡ sightOf (capIntersects cap) (capContains cap) whole id
+  pub first-not : (not whole && all) ≡ false → sightIn cap true c ≡ sightOf (capIntersects cap) (capContains cap) whole id
   unfolding sightOf capIntersects capContains sightIn
   first-not h = rw (← e) (not-enough cap c 0 whole (omega arith) (rw (at-corner cap c 0 a all f g) h))
 
--- a cap that can reach into a cell has a radius below RIGHT
-pub below-right : (b : Bool) → not b ≡ true → b ≡ false
-below-right false h = refl
-below-right true h = absurd (true≢false (sym h))
-
 pub touches-not : (cap : Cap) (c : Cell) → canReach cap ≡ false → touches cap c ≡ false
 unfolding touches
-touches-not cap c h = rw (at-right (le right (cap .radius)) h)
-  where
-    at-right : (b : Bool) → not b ≡ false → b ≡ true
-    at-right true h = refl
-    at-right false h = absurd (true≢false h)
+touches-not cap c h = rw (not-false (le right (cap .radius)) h)

@@ -136,14 +136,14 @@ shared-at q (suc (suc (suc zero))) h = (0, omega arith, refl)
 shared-at q (suc (suc (suc (suc n)))) h = absurd (omega arith)
 
 module _ (cap : Cap) (q : Quarters) (whole : Bool) where
-  pub shared-enough : (capHolds cap (sharedCorner q) && not whole) ≡ true → record { passing = 15; inside = 0 } ≡ quarterSights cap whole q
+  pub shared-enough : (not whole && capHolds cap (sharedCorner q)) ≡ true → record { passing = 15; inside = 0 } ≡ quarterSights cap whole q
   unfolding fourSights one
   shared-enough h =
       let r = asked-less (capHolds cap (sharedCorner q)) whole h in
       let at : (n : ℕ) → n < 4 → sightIn cap false (quarterAt q n) ≡ Sight.Crossing = λ n l. (let m = shared-at q n l in enough cap (quarterAt q n) (m .0) (m .1) (ap (capHolds cap) (m .2) ∙ r .0)) in
       rw (r .1, at 0 (omega arith), at 1 (omega arith), at 2 (omega arith), at 3 (omega arith))
 
-  pub shared-not : (capHolds cap (sharedCorner q) && not whole) ≡ false → quarterSights cap true q ≡ quarterSights cap whole q
+  pub shared-not : (not whole && capHolds cap (sharedCorner q)) ≡ false → quarterSights cap true q ≡ quarterSights cap whole q
   shared-not h =
       let at : (n : ℕ) → n < 4 → sightIn cap true (quarterAt q n) ≡ sightIn cap whole (quarterAt q n) = λ n l. (let m = shared-at q n l in not-enough cap (quarterAt q n) (m .0) whole (m .1) (rw (m .2) h)) in
       rw (at 0 (omega arith), at 1 (omega arith), at 2 (omega arith), at 3 (omega arith))

@@ -228,7 +228,7 @@ fn look_corners(cap: Cap, c: Cell, a: Point, all: bool) -> Sight
 
 // Whether a corner says all that is asked: it lies in the cap, and only outside or not is asked.
 fn is_enough(held: bool, whole: bool) -> bool
-    ensures { λ r. ⌜ r ≡ (held && not whole) ⌝ }
+    ensures { λ r. ⌜ r ≡ (not whole && held) ⌝ }
 {
     if whole {
         return false;
@@ -431,7 +431,7 @@ fn look_parts(cap: Cap, q: Quarters, p: [Point; 9], a: u64, b: u64, c: u64, d: u
 // every look for all of a cell more than it saves here (docs/SPEED.md).
 fn shared_is_enough(cap: Cap, q: Quarters, whole: bool) -> bool
     requires { ⌜ q .face < 6 ⌝ }
-    ensures { λ r. ⌜ r ≡ (capHolds cap (sharedCorner q) && not whole) ⌝ }
+    ensures { λ r. ⌜ r ≡ (not whole && capHolds cap (sharedCorner q)) ⌝ }
 {
     if whole {
         return false;

@@ -1,13 +1,12 @@
 -- `cap::is_enough` meets its contract.
-use Rattle.cap.proofs.Looks.{less-asked, whole-asked}
 use Rattle.cap.proofs.is_enough.Statement.{statement}
 use Rattle.cap.proofs.is_enough.Tie as tie
 
 returns : tie.Need-returns
-returns c = whole-asked (c .before .args .held) _ (c .if1 .taken)
+returns c = rw (c .if1 .taken)
 
 returns-2 : tie.Need-returns-2
-returns-2 c = less-asked _ _ (c .if1 .left)
+returns-2 c = rw (c .if1 .left)
 
 pub is-enough-spec : {M : Type 1} → statement M
 is-enough-spec = tie.close (tie.spec returns returns-2)
