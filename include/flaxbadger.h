@@ -98,6 +98,43 @@ uint64_t flaxbadger_fast_covering_cap(FLAXBADGER_CAP, FLAXBADGER_LEVELS, FLAXBAD
 uint64_t flaxbadger_fast_covering_cell(FLAXBADGER_CELL, FLAXBADGER_LEVELS, FLAXBADGER_BUFFERS);
 uint64_t flaxbadger_fast_covering_list(FLAXBADGER_LIST, FLAXBADGER_LEVELS, FLAXBADGER_BUFFERS);
 
+/* EITHER ENGINE, OR BOTH. A run always goes on with the first of the candidates that wait, in a fixed order. Two engines are here that
+ * find it: the quick one keeps them in a heap; the plain one keeps them in a simple list, and looks through all of it at each step. They
+ * are proved to agree: on every request both give the same number, count, steps and aside, the same ids in the output and the same words
+ * in mem. So each function below does what the one of its name without _by does, whichever engine is asked. With both it is a self-test.
+ *
+ *   engines   FLAXBADGER_QUICK for the quick engine, FLAXBADGER_PLAIN for the plain one; FLAXBADGER_BOTH, or any other number, for both,
+ *             one after the other. No number is wrong
+ *   agree     where it is written whether all engines that were asked gave the same answer: 1 if they did, which is proved. 0 tells of a
+ *             fault of the machine, of its memory or its processor, and then the answer is not to be used
+ *
+ * The other arguments, the result and what is left in the buffers are as said above; agree may not overlap any of them. The quick, coarse
+ * covering has no candidates that wait, and so no engine. */
+#define FLAXBADGER_QUICK 0
+#define FLAXBADGER_PLAIN 1
+#define FLAXBADGER_BOTH 2
+
+#define FLAXBADGER_TESTED FLAXBADGER_BUFFERS, uint64_t *agree
+
+uint64_t flaxbadger_covering_cap_by(uint64_t engines, FLAXBADGER_CAP, FLAXBADGER_LEVELS, uint32_t allowance, FLAXBADGER_TESTED);
+uint64_t flaxbadger_covering_cell_by(uint64_t engines, FLAXBADGER_CELL, FLAXBADGER_LEVELS, uint32_t allowance, FLAXBADGER_TESTED);
+uint64_t flaxbadger_covering_list_by(uint64_t engines, FLAXBADGER_LIST, FLAXBADGER_LEVELS, uint32_t allowance, FLAXBADGER_TESTED);
+uint64_t flaxbadger_cellunion_cap_by(uint64_t engines, FLAXBADGER_CAP, FLAXBADGER_LEVELS, uint32_t allowance, FLAXBADGER_TESTED);
+uint64_t flaxbadger_cellunion_cell_by(uint64_t engines, FLAXBADGER_CELL, FLAXBADGER_LEVELS, uint32_t allowance, FLAXBADGER_TESTED);
+uint64_t flaxbadger_cellunion_list_by(uint64_t engines, FLAXBADGER_LIST, FLAXBADGER_LEVELS, uint32_t allowance, FLAXBADGER_TESTED);
+uint64_t flaxbadger_raw_cap_by(uint64_t engines, FLAXBADGER_CAP, FLAXBADGER_LEVELS, uint32_t allowance, FLAXBADGER_TESTED);
+uint64_t flaxbadger_raw_cell_by(uint64_t engines, FLAXBADGER_CELL, FLAXBADGER_LEVELS, uint32_t allowance, FLAXBADGER_TESTED);
+uint64_t flaxbadger_raw_list_by(uint64_t engines, FLAXBADGER_LIST, FLAXBADGER_LEVELS, uint32_t allowance, FLAXBADGER_TESTED);
+uint64_t flaxbadger_interior_covering_cap_by(uint64_t engines, FLAXBADGER_CAP, FLAXBADGER_LEVELS, uint32_t allowance, FLAXBADGER_TESTED);
+uint64_t flaxbadger_interior_covering_cell_by(uint64_t engines, FLAXBADGER_CELL, FLAXBADGER_LEVELS, uint32_t allowance, FLAXBADGER_TESTED);
+uint64_t flaxbadger_interior_covering_list_by(uint64_t engines, FLAXBADGER_LIST, FLAXBADGER_LEVELS, uint32_t allowance, FLAXBADGER_TESTED);
+uint64_t flaxbadger_interior_cellunion_cap_by(uint64_t engines, FLAXBADGER_CAP, FLAXBADGER_LEVELS, uint32_t allowance, FLAXBADGER_TESTED);
+uint64_t flaxbadger_interior_cellunion_cell_by(uint64_t engines, FLAXBADGER_CELL, FLAXBADGER_LEVELS, uint32_t allowance, FLAXBADGER_TESTED);
+uint64_t flaxbadger_interior_cellunion_list_by(uint64_t engines, FLAXBADGER_LIST, FLAXBADGER_LEVELS, uint32_t allowance, FLAXBADGER_TESTED);
+uint64_t flaxbadger_interior_raw_cap_by(uint64_t engines, FLAXBADGER_CAP, FLAXBADGER_LEVELS, uint32_t allowance, FLAXBADGER_TESTED);
+uint64_t flaxbadger_interior_raw_cell_by(uint64_t engines, FLAXBADGER_CELL, FLAXBADGER_LEVELS, uint32_t allowance, FLAXBADGER_TESTED);
+uint64_t flaxbadger_interior_raw_list_by(uint64_t engines, FLAXBADGER_LIST, FLAXBADGER_LEVELS, uint32_t allowance, FLAXBADGER_TESTED);
+
 /* LISTS AS LEAF RANGES. Leaf cells (of level 30) have odd ids, and those under a cell are a stretch of them, so any list is a few pairs
  * of a first and a last leaf id: in an index sorted by leaf id each pair is one scan from its first to its last, both included.
  *

@@ -9,8 +9,9 @@
 //!     KIND MIN MAX MOD MAX_CELLS REGION [OPTION...]
 //!                            KIND covering, cellunion, raw, interior, icellunion, iraw or fast; REGION cap X Y Z R, cell ID or
 //!                            list LIST, LIST COUNT NUMBER..., any numbers, at most 16,384, here and wherever a region stands;
-//!                            OPTION allow=N, out=N, mem=N or tokens=N, in any order, each at most once; with tokens=1 ids are
-//!                            written as tokens; answer ok STEPS ASIDE COUNT ID... or refused NUMBER
+//!                            OPTION allow=N, out=N, mem=N, tokens=N or engine=WORD, in any order, each at most once; with
+//!                            tokens=1 ids are written as tokens, WORD, which is quick, plain or both, says nothing; answer
+//!                            ok STEPS ASIDE COUNT ID... or refused NUMBER
 //!     ranges LIST [OPTION...], cells LIST [OPTION...]
 //!                            lists as in a region; answer ok COUNT NUMBER... or refused NUMBER
 //!     union LIST LIST [OPTION...], common LIST LIST [OPTION...], difference LIST LIST [OPTION...]
@@ -238,7 +239,7 @@ impl<'a> Fields<'a> {
 
     /// The options to the end of the line.
     fn options(&mut self) -> Result<Options, Word> {
-        let (mut allowance, mut out, mut memory, mut tokens) = (None, None, None, None);
+        let (mut allowance, mut out, mut memory, mut tokens, mut engine) = (None, None, None, None, None);
         while let Ok(word) = self.word() {
             let (name, value) = word.split_once('=').ok_or("option")?;
             let place = match name {
@@ -246,9 +247,15 @@ impl<'a> Fields<'a> {
                 "out" => &mut out,
                 "mem" => &mut memory,
                 "tokens" => &mut tokens,
+                "engine" => &mut engine,
                 _ => return Err("option"),
             };
-            if place.replace(decimal(value)?).is_some() {
+            let number = match name {
+                "engine" if ["quick", "plain", "both"].contains(&value) => 0,
+                "engine" => return Err("unknown-engine"),
+                _ => decimal(value)?,
+            };
+            if place.replace(number).is_some() {
                 return Err("twice");
             }
         }

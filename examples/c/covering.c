@@ -1,6 +1,6 @@
-/* Coverings from C: a cap that is covered, a cell and a list as regions, a list as leaf ranges and back, two lists as one, a list as tokens and
- * back, a night's orders in one call, and nine refusals. Writes what comes back; exits with 1 where it is not what papers 01 and 02 say. Doesn't
- * compile where the record of an order is not laid out as the header says. */
+/* Coverings from C: a cap that is covered, by both engines too, a cell and a list as regions, a list as leaf ranges and back, two lists as one, a
+ * list as tokens and back, a night's orders in one call, and nine refusals. Writes what comes back; exits with 1 where it is not what papers 01 and
+ * 02 say. Doesn't compile where the record of an order is not laid out as the header says. */
 #include <inttypes.h>
 #include <stdio.h>
 #include <string.h>
@@ -55,9 +55,14 @@ int main(void) {
     number = flaxbadger_covering_cell(UINT64_C(0x1000000000000000), 0, 30, 1, 8, 1000, mem, FLAXBADGER_MEMORY, out, 64, &count, &steps, &aside);
     ok &= show("face 0", number, count, steps, aside) && count == 1 && out[0] == UINT64_C(0x1000000000000000) && aside == UINT64_C(5764607523034234880);
 
-    /* A small cap, and the cells inside it. */
+    /* A small cap, and the self-test of the machine on it: both engines agree, and their answer is the one before. Then the cells inside it. */
     number = flaxbadger_covering_cap(0, 0, 1, 1e-6, 0, 30, 1, 8, 1000, mem, FLAXBADGER_MEMORY, out, 64, &count, &steps, &aside);
     ok &= show("a cap at the pole", number, count, steps, aside);
+    uint64_t tested[64], tested_count, tested_steps, tested_aside, agree;
+    number = flaxbadger_covering_cap_by(FLAXBADGER_BOTH, 0, 0, 1, 1e-6, 0, 30, 1, 8, 1000, mem, FLAXBADGER_MEMORY, tested, 64, &tested_count,
+                                        &tested_steps, &tested_aside, &agree);
+    printf("by both engines: number %" PRIu64 ", %" PRIu64 " cells, the engines %s\n", number, tested_count, agree == 1 ? "agree" : "DO NOT agree");
+    ok &= agree == 1 && number == 0 && tested_count == count && tested_steps == steps && tested_aside == aside && memcmp(tested, out, count * sizeof *out) == 0;
     number = flaxbadger_interior_covering_cap(0, 0, 1, 1e-6, 0, 30, 1, 8, 1000, mem, FLAXBADGER_MEMORY, out, 64, &count, &steps, &aside);
     ok &= show("inside it", number, count, steps, aside) && aside == 0;
     number = flaxbadger_fast_covering_cap(0, 0, 1, 1e-6, 0, 30, 1, 8, mem, FLAXBADGER_MEMORY, out, 64, &count, &steps, &aside);

@@ -1,6 +1,6 @@
-// Coverings from Rust: safe functions over the archive's, a covering of a cap, its leaf ranges, two coverings as one list, this list as a region, a
-// list as tokens and back, a night's orders in one call, and refusals. Exits with 1 where an answer is not what papers 01 and 02 say. Doesn't compile
-// where the record of an order is not laid out as in C.
+// Coverings from Rust: safe functions over the archive's, a covering of a cap, by both engines too, its leaf ranges, two coverings as one list, this
+// list as a region, a list as tokens and back, a night's orders in one call, and refusals. Exits with 1 where an answer is not what papers 01 and 02
+// say. Doesn't compile where the record of an order is not laid out as in C.
 
 use std::mem::{offset_of, size_of};
 
@@ -10,6 +10,12 @@ extern "C" {
         min_level: u64, max_level: u64, level_mod: u64, max_cells: u64, allowance: u32,
         mem: *mut u64, mem_len: usize, out: *mut u64, out_len: usize,
         count: &mut u64, steps: &mut u64, aside: &mut u64,
+    ) -> u64;
+    fn flaxbadger_covering_cap_by(
+        engines: u64, x: f64, y: f64, z: f64, radius: f64,
+        min_level: u64, max_level: u64, level_mod: u64, max_cells: u64, allowance: u32,
+        mem: *mut u64, mem_len: usize, out: *mut u64, out_len: usize,
+        count: &mut u64, steps: &mut u64, aside: &mut u64, agree: &mut u64,
     ) -> u64;
     fn flaxbadger_covering_list(
         list: *const u64, list_len: usize,
@@ -26,6 +32,9 @@ extern "C" {
     fn flaxbadger_read_tokens(text: *const u8, text_len: usize, ids: *mut u64, ids_len: usize, count: &mut u64, first: &mut u64) -> u64;
     fn flaxbadger_night(orders: *mut Order, orders_len: usize, mem: *mut u64, mem_len: usize, out: *mut u64, out_len: usize) -> u64;
 }
+
+/// Asks for both engines; 0 asks for the quick one alone, 1 for the plain one.
+const BOTH: u64 = 2;
 
 /// Levels and the number of cells that are aimed at.
 #[repr(C)]
@@ -66,7 +75,7 @@ const _: () = assert!(offset_of!(Order, steps) == 16 && offset_of!(Order, aside)
 const _: () = assert!(offset_of!(Order, id) == 40 && offset_of!(Order, cap) == 48 && offset_of!(Order, coverer) == 80 && offset_of!(Order, allowance) == 112);
 
 /// A success.
-#[derive(Debug)]
+#[derive(Debug, PartialEq)]
 struct Done {
     count: usize,
     steps: u64,
@@ -86,6 +95,21 @@ fn covering(c: Coverer, center: [f64; 3], radius: f64, allowance: u32, mem: &mut
         )
     };
     if number == 0 { Ok(Done { count: count as usize, steps, aside }) } else { Err(number) }
+}
+
+/// Covers the cap by both engines, one after the other, as a self-test of the machine: the answer, as above, and whether they agree. Where they don't,
+/// the machine is at fault, and the answer is not to be used.
+fn covering_tested(c: Coverer, center: [f64; 3], radius: f64, allowance: u32, mem: &mut [u64], out: &mut [u64]) -> (Result<Done, u64>, bool) {
+    let (mut count, mut steps, mut aside, mut agree) = (0, 0, 0, 0);
+    let number = unsafe {
+        flaxbadger_covering_cap_by(
+            BOTH, center[0], center[1], center[2], radius,
+            c.min_level, c.max_level, c.level_mod, c.max_cells, allowance,
+            mem.as_mut_ptr(), mem.len(), out.as_mut_ptr(), out.len(),
+            &mut count, &mut steps, &mut aside, &mut agree,
+        )
+    };
+    (if number == 0 { Ok(Done { count: count as usize, steps, aside }) } else { Err(number) }, agree == 1)
 }
 
 /// Covers the ground of a list of cells, as above.
@@ -164,6 +188,11 @@ fn main() {
     }
     println!("a cap at the pole: {pole:?}");
     ok &= pole.is_ok();
+
+    let mut again = vec![0u64; 64];
+    let (tested, agree) = covering_tested(Coverer { min_level: 0, ..c }, [0.0, 0.0, 1.0], 1e-6, 1000, &mut mem, &mut again);
+    println!("by both engines: {tested:?}, the engines {}", if agree { "agree" } else { "DO NOT agree" });
+    ok &= agree && tested == pole && tested.is_ok_and(|done| again[..done.count] == out[..done.count]);
 
     let list = &mut out[..pole.map_or(0, |done| done.count)];
     let pairs = ranges(list);

@@ -50,10 +50,10 @@ module _ (l : List ℕ) (p : Place) where
     unfolding aboutAfter
     about-cell h d = rw (aboutAfter, ← e, ne-eqb _ _ h, ← e) d
 
-  pub allow-read : (o : Options) (a b c end : Place) (n : ℕ) → o ≡ optionsAfter l p → a ≡ lacking (getD (o .values) 1 0) (o .after) → b ≡ lacking (getD (o .values) 2 0) a
-      → c ≡ lacking (getD (o .values) 3 0) b → end ≡ endAfter l c → n ≡ valueOr 4294967295 (getD (o .values) 0 0) → record { value = n; after = end } ≡ allowAfter l p
+  pub allow-read : (o : Options) (a b c d end : Place) (n : ℕ) → o ≡ optionsAfter l p → a ≡ lacking (getD (o .values) 1 0) (o .after) → b ≡ lacking (getD (o .values) 2 0) a
+      → c ≡ lacking (getD (o .values) 3 0) b → d ≡ lacking (getD (o .values) 4 0) c → end ≡ endAfter l d → n ≡ valueOr 4294967295 (getD (o .values) 0 0) → record { value = n; after = end } ≡ allowAfter l p
   unfolding allowAfter
-  allow-read o a b c end n eo ea eb ec ee en = rw (en, ee, ec, eb, ea, eo)
+  allow-read o a b c d end n eo ea eb ec ed ee en = rw (en, ee, ed, ec, eb, ea, eo)
 
 pub order-read : (l : List ℕ) (start : Place) (word : Read) (c : CovererRead) (g : About) (a : Read) (allowance : ℕ) → start ≡ startOf l → word ≡ kindAfter l start → c ≡ covererAfter l (word .after)
     → g ≡ aboutAfter l (c .after) → a ≡ allowAfter l (g .after) → allowance ≡ allowanceOf (a .value)
@@ -79,11 +79,11 @@ module _ (v : ℕ) (p : Place) where
 
 -- ---- the line before the orders
 
-pub head-read : (l : List ℕ) (start : Place) (word : Read) (o : Options) (only end : Place) (out mem : ℕ) (form : Form) → start ≡ startOf l → word ≡ wordAfter l start → o ≡ optionsAfter l (word .after)
-    → only ≡ lacking (getD (o .values) 0 0) (o .after) → end ≡ endAfter l only → out ≡ valueOr 65536 (getD (o .values) 1 0) → mem ≡ valueOr memoryWords (getD (o .values) 2 0) → form ≡ formOf (getD (o .values) 3 0)
+pub head-read : (l : List ℕ) (start : Place) (word : Read) (o : Options) (a b end : Place) (out mem : ℕ) (form : Form) → start ≡ startOf l → word ≡ wordAfter l start → o ≡ optionsAfter l (word .after)
+    → a ≡ lacking (getD (o .values) 0 0) (o .after) → b ≡ lacking (getD (o .values) 4 0) a → end ≡ endAfter l b → out ≡ valueOr 65536 (getD (o .values) 1 0) → mem ≡ valueOr memoryWords (getD (o .values) 2 0) → form ≡ formOf (getD (o .values) 3 0)
     → record { out = out; mem = mem; form = form; after = end } ≡ headOf l
 unfolding headOf
-head-read l start word o only end out mem form es ew eo el ee e1 e2 e3 = rw (e1, e2, e3, ee, el, eo, ew, es)
+head-read l start word o a b end out mem form es ew eo ea eb ee e1 e2 e3 = rw (e1, e2, e3, ee, eb, ea, eo, ew, es)
 
 -- ---- the lines that answer a night
 

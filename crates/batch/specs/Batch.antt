@@ -65,7 +65,7 @@ allowAfter l p =
     let o = optionsAfter l p in
     record {
       value = valueOr 4294967295 (getD (o .values) 0 0);
-      after = endAfter l (lacking (getD (o .values) 3 0) (lacking (getD (o .values) 2 0) (lacking (getD (o .values) 1 0) (o .after))));
+      after = endAfter l (lacking (getD (o .values) 4 0) (lacking (getD (o .values) 3 0) (lacking (getD (o .values) 2 0) (lacking (getD (o .values) 1 0) (o .after)))));
     }
 
 -- ---- an order: one part after another, as a record that was not served yet; the place after it is a fault's where the line is no order
@@ -104,7 +104,7 @@ wordAfter l p = choiceAfter (ascii "night") 1 Fault.UnknownKind l p
 unfoldable pub isHead : List ℕ → Bool
 isHead l = isAt (wordAfter l (Place.At 0) .after)
 
--- the places of output, the words of working memory, how ids are written; it has every option but allow=
+-- the places of output, the words of working memory, how ids are written; it has every option but allow= and engine=
 unfoldable pub headOf : List ℕ → Head
 headOf l =
     let word = wordAfter l (startOf l) in
@@ -113,7 +113,7 @@ headOf l =
       out = valueOr 65536 (getD (o .values) 1 0);
       mem = valueOr memoryWords (getD (o .values) 2 0);
       form = formOf (getD (o .values) 3 0);
-      after = endAfter l (lacking (getD (o .values) 0 0) (o .after));
+      after = endAfter l (lacking (getD (o .values) 4 0) (lacking (getD (o .values) 0 0) (o .after)));
     }
 
 -- ---- the lines that answer a night

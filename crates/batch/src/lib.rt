@@ -113,7 +113,8 @@ fn read_allow(line: &[u8], p: Place) -> Read
     let a = lacks(values[1], po);
     let b = lacks(values[2], a);
     let c = lacks(values[3], b);
-    let after = text::read_end(line, c);
+    let d = lacks(values[4], c);
+    let after = text::read_end(line, d);
     Read {
         value: requests::value_or(4294967295, values[0]),
         after,
@@ -189,8 +190,9 @@ pub fn read_head(line: &[u8]) -> Head
     let o = requests::read_options(line, pw);
     let po = o.after;
     let values = o.values;
-    let only = lacks(values[0], po);
-    let after = text::read_end(line, only);
+    let a = lacks(values[0], po);
+    let b = lacks(values[4], a);
+    let after = text::read_end(line, b);
     Head {
         out: requests::value_or(65536, values[1]),
         mem: requests::value_or(MEMORY_WORDS as u64, values[2]),

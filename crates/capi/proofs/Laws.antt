@@ -1,8 +1,10 @@
 -- From a public answer to a call from C, and back; and that a contract allows one result.
 use mathlib.Core.Path.{_≡_, sym, ap, _∙_, subst}
+use mathlib.Core.Bool.{Bool, true}
 use mathlib.Core.List.{List}
 use Prim.Native.Nat.{ℕ}
 use lib.ListN.{length}
+use mir.Val.{boolByte}
 use Rattle.region.specs.Region.{Area}
 use Rattle.run.specs.declared.RegionCoverer.{RegionCoverer}
 use Rattle.covering.specs.declared.Answer.{Answer}
@@ -12,7 +14,7 @@ use Rattle.ranges.specs.declared.Answer as ListAnswer
 use Rattle.ranges.specs.Ranges as Ranges
 use Rattle.tokens.specs.declared.Answer as Tokens
 use Rattle.tokens.specs.Tokens as Names
-use Rattle.capi.specs.Calls.{Told, Called, CalledOf, NamesTold, NamesCalled}
+use Rattle.capi.specs.Calls.{Told, Called, CalledBy, CalledOf, NamesTold, NamesCalled}
 
 module _ {R : Result} {number count steps aside : ℕ} {mem mem′ out out′ : List ℕ} where
   -- an answer that is told is all that a call leaves
@@ -40,6 +42,17 @@ determined R n n′ m m₁ m₂ o o₁ o₂ k k′ s s′ t t′ a b = (
   a .told .taken ∙ sym (b .told .taken),
   a .told .total ∙ sym (b .told .total),
 )
+
+-- ---- by either engine, or both
+
+-- an answer on which the engines agree, told
+pub tested-called : {R : Result} {a : Answer} {number count steps aside : ℕ} {mem mem′ out out′ : List ℕ} (agree : Bool) → Answered R a mem mem′ out out′ × (agree ≡ true) → Told a number count steps aside
+    → CalledBy R number mem mem′ out out′ count steps aside (boolByte agree)
+tested-called agree t told = record { called = answered-called (t .0) told; agreed = ap boolByte (t .1) }
+
+pub by-determined : (R : Result) (n n′ : ℕ) (m m₁ m₂ o o₁ o₂ : List ℕ) (k k′ s s′ t t′ g g′ : ℕ) → CalledBy R n m m₁ o o₁ k s t g → CalledBy R n′ m m₂ o o₂ k′ s′ t′ g′
+    → ((n ≡ n′) × (m₁ ≡ m₂) × (o₁ ≡ o₂) × (k ≡ k′) × (s ≡ s′) × (t ≡ t′)) × (g ≡ g′)
+by-determined R n n′ m m₁ m₂ o o₁ o₂ k k′ s s′ t t′ g g′ a b = (determined R n n′ m m₁ m₂ o o₁ o₂ k k′ s s′ t t′ (a .called) (b .called), a .agreed ∙ sym (b .agreed))
 
 -- ---- lists: as pairs and back, and two as one
 

@@ -31,6 +31,13 @@ pub record Called (R : Result) (number : ℕ) (mem mem′ out out′ : List ℕ)
   pub memory : mem′ ≡ memoryAfter R mem
   pub output : out′ ≡ outputAfter R out
 
+-- ---- by either engine, or both
+
+-- all that such a call leaves: what any call leaves, whichever engines were asked, and that they agree
+pub record CalledBy (R : Result) (number : ℕ) (mem mem′ out out′ : List ℕ) (count steps aside agree : ℕ) : Type 0 where
+  pub called : Called R number mem mem′ out out′ count steps aside
+  pub agreed : agree ≡ 1
+
 -- ---- lists: as pairs and back, and two as one
 
 -- all that such a call leaves: the answer's number, how many words were written, and the output

@@ -1,5 +1,6 @@
 // The public answers for programs in C or Rust: functions on numbers and slices, under plain names, with no requirement on the caller. Each returns the
-// papers' number, 0 for success, and writes the values of the answer through `count`, `steps` and `aside`.
+// papers' number, 0 for success, and writes the values of the answer through `count`, `steps` and `aside`. Those whose names end in `_by` do the same by
+// the quick engine, by the plain one, or by both, and write through `agree` whether they agree.
 ghost use mathlib.Core.Path.{_≡_};
 ghost use mathlib.Core.List.{[]};
 ghost use lib.ListN.{length};
@@ -13,13 +14,14 @@ ghost use Rattle.sets.specs.Sets.{setResult};
 ghost use Rattle.orders.specs.Orders.{NightOver};
 ghost use Rattle.tokens.specs.declared.Form.{Form};
 ghost use Rattle.tokens.specs.Tokens.{writeResult, readResult};
-ghost use Rattle.capi.specs.Calls.{regionCoverer, capGiven, Told, Called, CalledOf, NamesTold, NamesCalled};
+ghost use Rattle.capi.specs.Calls.{regionCoverer, capGiven, Told, Called, CalledBy, CalledOf, NamesTold, NamesCalled};
 use cell::Cap;
 use covering::Answer;
 use covering::Ending;
 use covering::Kind;
 use orders::Order;
 use point::Point;
+use queue::Engine;
 use region::Region;
 use run::RegionCoverer;
 use sets::Op;
@@ -74,7 +76,7 @@ fn call(
 ) -> u64
     ensures { λ r. ⌜ Called (resultOf kind c (areaOf g []) allowance (length (now (mem .entry))) (length (now (out .entry)))) r (now (mem .entry)) (now (mem .exit)) (now (out .entry)) (now (out .exit)) (now (count .exit)) (now (steps .exit)) (now (aside .exit)) ⌝ }
 {
-    let a = covering::respond(kind, c, g, &[], allowance, mem, out);
+    let a = covering::respond(Engine::Quick, kind, c, g, &[], allowance, mem, out);
     tell(a, count, steps, aside)
 }
 
@@ -92,7 +94,16 @@ fn call_list(
 ) -> u64
     ensures { λ r. ⌜ Called (resultOf kind c (listArea (now (list .entry))) allowance (length (now (mem .entry))) (length (now (out .entry)))) r (now (mem .entry)) (now (mem .exit)) (now (out .entry)) (now (out .exit)) (now (count .exit)) (now (steps .exit)) (now (aside .exit)) ⌝ }
 {
-    let a = covering::respond(kind, c, Region::List, list, allowance, mem, out);
+    let a = covering::respond(
+        Engine::Quick,
+        kind,
+        c,
+        Region::List,
+        list,
+        allowance,
+        mem,
+        out,
+    );
     tell(a, count, steps, aside)
 }
 
@@ -585,6 +596,907 @@ pub extern "C" fn flaxbadger_fast_covering_list(
 {
     let c = region_coverer(min_level, max_level, level_mod, max_cells);
     call_list(Kind::Fast, list, c, 0, mem, out, count, steps, aside)
+}
+
+// A request of any kind for any region, by the engines that a number stands for, 0 the quick one, 1 the plain one, any other both; whether they agree, 1 or 0, goes
+// through `agree`.
+fn call_by(
+    engines: u64,
+    kind: Kind,
+    g: Region,
+    list: &[u64],
+    c: RegionCoverer,
+    allowance: u32,
+    mem: &mut [u64],
+    out: &mut [u64],
+    count: &mut u64,
+    steps: &mut u64,
+    aside: &mut u64,
+    agree: &mut u64,
+) -> u64
+    ensures { λ r. ⌜ CalledBy (resultOf kind c (areaOf g (now (list .entry))) allowance (length (now (mem .entry))) (length (now (out .entry)))) r (now (mem .entry)) (now (mem .exit)) (now (out .entry)) (now (out .exit)) (now (count .exit)) (now (steps .exit)) (now (aside .exit)) (now (agree .exit)) ⌝ }
+{
+    let by = selftest::engines_of(engines);
+    let t = selftest::respond(by, kind, c, g, list, allowance, mem, out);
+    *agree = t.agree as u64;
+    tell(t.answer, count, steps, aside)
+}
+
+// The same for a cap: the functions below that take one are its cases.
+fn call_cap_by(
+    engines: u64,
+    kind: Kind,
+    x: f64,
+    y: f64,
+    z: f64,
+    radius: f64,
+    c: RegionCoverer,
+    allowance: u32,
+    mem: &mut [u64],
+    out: &mut [u64],
+    count: &mut u64,
+    steps: &mut u64,
+    aside: &mut u64,
+    agree: &mut u64,
+) -> u64
+    ensures { λ r. ⌜ CalledBy (resultOf kind c (capGiven x y z radius) allowance (length (now (mem .entry))) (length (now (out .entry)))) r (now (mem .entry)) (now (mem .exit)) (now (out .entry)) (now (out .exit)) (now (count .exit)) (now (steps .exit)) (now (aside .exit)) (now (agree .exit)) ⌝ }
+{
+    let center = Point { x, y, z };
+    let cap = Cap { center, radius };
+    let g = Region::Cap(cap);
+    call_by(
+        engines,
+        kind,
+        g,
+        &[],
+        c,
+        allowance,
+        mem,
+        out,
+        count,
+        steps,
+        aside,
+        agree,
+    )
+}
+
+// The same for a cell: the functions below that take one are its cases.
+fn call_cell_by(
+    engines: u64,
+    kind: Kind,
+    id: u64,
+    c: RegionCoverer,
+    allowance: u32,
+    mem: &mut [u64],
+    out: &mut [u64],
+    count: &mut u64,
+    steps: &mut u64,
+    aside: &mut u64,
+    agree: &mut u64,
+) -> u64
+    ensures { λ r. ⌜ CalledBy (resultOf kind c (cellArea id) allowance (length (now (mem .entry))) (length (now (out .entry)))) r (now (mem .entry)) (now (mem .exit)) (now (out .entry)) (now (out .exit)) (now (count .exit)) (now (steps .exit)) (now (aside .exit)) (now (agree .exit)) ⌝ }
+{
+    let g = Region::Cell(id);
+    call_by(
+        engines,
+        kind,
+        g,
+        &[],
+        c,
+        allowance,
+        mem,
+        out,
+        count,
+        steps,
+        aside,
+        agree,
+    )
+}
+
+// The same for a list: the functions below that take one are its cases.
+fn call_list_by(
+    engines: u64,
+    kind: Kind,
+    list: &[u64],
+    c: RegionCoverer,
+    allowance: u32,
+    mem: &mut [u64],
+    out: &mut [u64],
+    count: &mut u64,
+    steps: &mut u64,
+    aside: &mut u64,
+    agree: &mut u64,
+) -> u64
+    ensures { λ r. ⌜ CalledBy (resultOf kind c (listArea (now (list .entry))) allowance (length (now (mem .entry))) (length (now (out .entry)))) r (now (mem .entry)) (now (mem .exit)) (now (out .entry)) (now (out .exit)) (now (count .exit)) (now (steps .exit)) (now (aside .exit)) (now (agree .exit)) ⌝ }
+{
+    call_by(
+        engines,
+        kind,
+        Region::List,
+        list,
+        c,
+        allowance,
+        mem,
+        out,
+        count,
+        steps,
+        aside,
+        agree,
+    )
+}
+
+// The covering, by the engines asked for. Of a cap.
+#[no_mangle]
+pub extern "C" fn flaxbadger_covering_cap_by(
+    engines: u64,
+    x: f64,
+    y: f64,
+    z: f64,
+    radius: f64,
+    min_level: u64,
+    max_level: u64,
+    level_mod: u64,
+    max_cells: u64,
+    allowance: u32,
+    mem: &mut [u64],
+    out: &mut [u64],
+    count: &mut u64,
+    steps: &mut u64,
+    aside: &mut u64,
+    agree: &mut u64,
+) -> u64
+    ensures { λ r. ⌜ CalledBy (resultOf (Kind.Outer Ending.Covering) (regionCoverer «min_level» «max_level» «level_mod» «max_cells») (capGiven x y z radius) allowance (length (now (mem .entry))) (length (now (out .entry)))) r (now (mem .entry)) (now (mem .exit)) (now (out .entry)) (now (out .exit)) (now (count .exit)) (now (steps .exit)) (now (aside .exit)) (now (agree .exit)) ⌝ }
+{
+    let c = RegionCoverer {
+        min_level,
+        max_level,
+        level_mod,
+        max_cells,
+    };
+    let kind = Kind::Outer(Ending::Covering);
+    call_cap_by(
+        engines,
+        kind,
+        x,
+        y,
+        z,
+        radius,
+        c,
+        allowance,
+        mem,
+        out,
+        count,
+        steps,
+        aside,
+        agree,
+    )
+}
+
+// The covering, by the engines asked for. Of a cell.
+#[no_mangle]
+pub extern "C" fn flaxbadger_covering_cell_by(
+    engines: u64,
+    id: u64,
+    min_level: u64,
+    max_level: u64,
+    level_mod: u64,
+    max_cells: u64,
+    allowance: u32,
+    mem: &mut [u64],
+    out: &mut [u64],
+    count: &mut u64,
+    steps: &mut u64,
+    aside: &mut u64,
+    agree: &mut u64,
+) -> u64
+    ensures { λ r. ⌜ CalledBy (resultOf (Kind.Outer Ending.Covering) (regionCoverer «min_level» «max_level» «level_mod» «max_cells») (cellArea id) allowance (length (now (mem .entry))) (length (now (out .entry)))) r (now (mem .entry)) (now (mem .exit)) (now (out .entry)) (now (out .exit)) (now (count .exit)) (now (steps .exit)) (now (aside .exit)) (now (agree .exit)) ⌝ }
+{
+    let c = RegionCoverer {
+        min_level,
+        max_level,
+        level_mod,
+        max_cells,
+    };
+    let kind = Kind::Outer(Ending::Covering);
+    call_cell_by(
+        engines,
+        kind,
+        id,
+        c,
+        allowance,
+        mem,
+        out,
+        count,
+        steps,
+        aside,
+        agree,
+    )
+}
+
+// The covering, by the engines asked for. Of a list.
+#[no_mangle]
+pub extern "C" fn flaxbadger_covering_list_by(
+    engines: u64,
+    list: &[u64],
+    min_level: u64,
+    max_level: u64,
+    level_mod: u64,
+    max_cells: u64,
+    allowance: u32,
+    mem: &mut [u64],
+    out: &mut [u64],
+    count: &mut u64,
+    steps: &mut u64,
+    aside: &mut u64,
+    agree: &mut u64,
+) -> u64
+    ensures { λ r. ⌜ CalledBy (resultOf (Kind.Outer Ending.Covering) (regionCoverer «min_level» «max_level» «level_mod» «max_cells») (listArea (now (list .entry))) allowance (length (now (mem .entry))) (length (now (out .entry)))) r (now (mem .entry)) (now (mem .exit)) (now (out .entry)) (now (out .exit)) (now (count .exit)) (now (steps .exit)) (now (aside .exit)) (now (agree .exit)) ⌝ }
+{
+    let c = RegionCoverer {
+        min_level,
+        max_level,
+        level_mod,
+        max_cells,
+    };
+    let kind = Kind::Outer(Ending::Covering);
+    call_list_by(
+        engines,
+        kind,
+        list,
+        c,
+        allowance,
+        mem,
+        out,
+        count,
+        steps,
+        aside,
+        agree,
+    )
+}
+
+// The outer run's raw list, normalised, by the engines asked for. Of a cap.
+#[no_mangle]
+pub extern "C" fn flaxbadger_cellunion_cap_by(
+    engines: u64,
+    x: f64,
+    y: f64,
+    z: f64,
+    radius: f64,
+    min_level: u64,
+    max_level: u64,
+    level_mod: u64,
+    max_cells: u64,
+    allowance: u32,
+    mem: &mut [u64],
+    out: &mut [u64],
+    count: &mut u64,
+    steps: &mut u64,
+    aside: &mut u64,
+    agree: &mut u64,
+) -> u64
+    ensures { λ r. ⌜ CalledBy (resultOf (Kind.Outer Ending.CellUnion) (regionCoverer «min_level» «max_level» «level_mod» «max_cells») (capGiven x y z radius) allowance (length (now (mem .entry))) (length (now (out .entry)))) r (now (mem .entry)) (now (mem .exit)) (now (out .entry)) (now (out .exit)) (now (count .exit)) (now (steps .exit)) (now (aside .exit)) (now (agree .exit)) ⌝ }
+{
+    let c = RegionCoverer {
+        min_level,
+        max_level,
+        level_mod,
+        max_cells,
+    };
+    let kind = Kind::Outer(Ending::CellUnion);
+    call_cap_by(
+        engines,
+        kind,
+        x,
+        y,
+        z,
+        radius,
+        c,
+        allowance,
+        mem,
+        out,
+        count,
+        steps,
+        aside,
+        agree,
+    )
+}
+
+// The outer run's raw list, normalised, by the engines asked for. Of a cell.
+#[no_mangle]
+pub extern "C" fn flaxbadger_cellunion_cell_by(
+    engines: u64,
+    id: u64,
+    min_level: u64,
+    max_level: u64,
+    level_mod: u64,
+    max_cells: u64,
+    allowance: u32,
+    mem: &mut [u64],
+    out: &mut [u64],
+    count: &mut u64,
+    steps: &mut u64,
+    aside: &mut u64,
+    agree: &mut u64,
+) -> u64
+    ensures { λ r. ⌜ CalledBy (resultOf (Kind.Outer Ending.CellUnion) (regionCoverer «min_level» «max_level» «level_mod» «max_cells») (cellArea id) allowance (length (now (mem .entry))) (length (now (out .entry)))) r (now (mem .entry)) (now (mem .exit)) (now (out .entry)) (now (out .exit)) (now (count .exit)) (now (steps .exit)) (now (aside .exit)) (now (agree .exit)) ⌝ }
+{
+    let c = RegionCoverer {
+        min_level,
+        max_level,
+        level_mod,
+        max_cells,
+    };
+    let kind = Kind::Outer(Ending::CellUnion);
+    call_cell_by(
+        engines,
+        kind,
+        id,
+        c,
+        allowance,
+        mem,
+        out,
+        count,
+        steps,
+        aside,
+        agree,
+    )
+}
+
+// The outer run's raw list, normalised, by the engines asked for. Of a list.
+#[no_mangle]
+pub extern "C" fn flaxbadger_cellunion_list_by(
+    engines: u64,
+    list: &[u64],
+    min_level: u64,
+    max_level: u64,
+    level_mod: u64,
+    max_cells: u64,
+    allowance: u32,
+    mem: &mut [u64],
+    out: &mut [u64],
+    count: &mut u64,
+    steps: &mut u64,
+    aside: &mut u64,
+    agree: &mut u64,
+) -> u64
+    ensures { λ r. ⌜ CalledBy (resultOf (Kind.Outer Ending.CellUnion) (regionCoverer «min_level» «max_level» «level_mod» «max_cells») (listArea (now (list .entry))) allowance (length (now (mem .entry))) (length (now (out .entry)))) r (now (mem .entry)) (now (mem .exit)) (now (out .entry)) (now (out .exit)) (now (count .exit)) (now (steps .exit)) (now (aside .exit)) (now (agree .exit)) ⌝ }
+{
+    let c = RegionCoverer {
+        min_level,
+        max_level,
+        level_mod,
+        max_cells,
+    };
+    let kind = Kind::Outer(Ending::CellUnion);
+    call_list_by(
+        engines,
+        kind,
+        list,
+        c,
+        allowance,
+        mem,
+        out,
+        count,
+        steps,
+        aside,
+        agree,
+    )
+}
+
+// The outer run's raw list, in the order kept, by the engines asked for. Of a cap.
+#[no_mangle]
+pub extern "C" fn flaxbadger_raw_cap_by(
+    engines: u64,
+    x: f64,
+    y: f64,
+    z: f64,
+    radius: f64,
+    min_level: u64,
+    max_level: u64,
+    level_mod: u64,
+    max_cells: u64,
+    allowance: u32,
+    mem: &mut [u64],
+    out: &mut [u64],
+    count: &mut u64,
+    steps: &mut u64,
+    aside: &mut u64,
+    agree: &mut u64,
+) -> u64
+    ensures { λ r. ⌜ CalledBy (resultOf (Kind.Outer Ending.Raw) (regionCoverer «min_level» «max_level» «level_mod» «max_cells») (capGiven x y z radius) allowance (length (now (mem .entry))) (length (now (out .entry)))) r (now (mem .entry)) (now (mem .exit)) (now (out .entry)) (now (out .exit)) (now (count .exit)) (now (steps .exit)) (now (aside .exit)) (now (agree .exit)) ⌝ }
+{
+    let c = RegionCoverer {
+        min_level,
+        max_level,
+        level_mod,
+        max_cells,
+    };
+    let kind = Kind::Outer(Ending::Raw);
+    call_cap_by(
+        engines,
+        kind,
+        x,
+        y,
+        z,
+        radius,
+        c,
+        allowance,
+        mem,
+        out,
+        count,
+        steps,
+        aside,
+        agree,
+    )
+}
+
+// The outer run's raw list, in the order kept, by the engines asked for. Of a cell.
+#[no_mangle]
+pub extern "C" fn flaxbadger_raw_cell_by(
+    engines: u64,
+    id: u64,
+    min_level: u64,
+    max_level: u64,
+    level_mod: u64,
+    max_cells: u64,
+    allowance: u32,
+    mem: &mut [u64],
+    out: &mut [u64],
+    count: &mut u64,
+    steps: &mut u64,
+    aside: &mut u64,
+    agree: &mut u64,
+) -> u64
+    ensures { λ r. ⌜ CalledBy (resultOf (Kind.Outer Ending.Raw) (regionCoverer «min_level» «max_level» «level_mod» «max_cells») (cellArea id) allowance (length (now (mem .entry))) (length (now (out .entry)))) r (now (mem .entry)) (now (mem .exit)) (now (out .entry)) (now (out .exit)) (now (count .exit)) (now (steps .exit)) (now (aside .exit)) (now (agree .exit)) ⌝ }
+{
+    let c = RegionCoverer {
+        min_level,
+        max_level,
+        level_mod,
+        max_cells,
+    };
+    let kind = Kind::Outer(Ending::Raw);
+    call_cell_by(
+        engines,
+        kind,
+        id,
+        c,
+        allowance,
+        mem,
+        out,
+        count,
+        steps,
+        aside,
+        agree,
+    )
+}
+
+// The outer run's raw list, in the order kept, by the engines asked for. Of a list.
+#[no_mangle]
+pub extern "C" fn flaxbadger_raw_list_by(
+    engines: u64,
+    list: &[u64],
+    min_level: u64,
+    max_level: u64,
+    level_mod: u64,
+    max_cells: u64,
+    allowance: u32,
+    mem: &mut [u64],
+    out: &mut [u64],
+    count: &mut u64,
+    steps: &mut u64,
+    aside: &mut u64,
+    agree: &mut u64,
+) -> u64
+    ensures { λ r. ⌜ CalledBy (resultOf (Kind.Outer Ending.Raw) (regionCoverer «min_level» «max_level» «level_mod» «max_cells») (listArea (now (list .entry))) allowance (length (now (mem .entry))) (length (now (out .entry)))) r (now (mem .entry)) (now (mem .exit)) (now (out .entry)) (now (out .exit)) (now (count .exit)) (now (steps .exit)) (now (aside .exit)) (now (agree .exit)) ⌝ }
+{
+    let c = RegionCoverer {
+        min_level,
+        max_level,
+        level_mod,
+        max_cells,
+    };
+    let kind = Kind::Outer(Ending::Raw);
+    call_list_by(
+        engines,
+        kind,
+        list,
+        c,
+        allowance,
+        mem,
+        out,
+        count,
+        steps,
+        aside,
+        agree,
+    )
+}
+
+// Cells inside the region, by the engines asked for. Of a cap.
+#[no_mangle]
+pub extern "C" fn flaxbadger_interior_covering_cap_by(
+    engines: u64,
+    x: f64,
+    y: f64,
+    z: f64,
+    radius: f64,
+    min_level: u64,
+    max_level: u64,
+    level_mod: u64,
+    max_cells: u64,
+    allowance: u32,
+    mem: &mut [u64],
+    out: &mut [u64],
+    count: &mut u64,
+    steps: &mut u64,
+    aside: &mut u64,
+    agree: &mut u64,
+) -> u64
+    ensures { λ r. ⌜ CalledBy (resultOf (Kind.Inner Ending.Covering) (regionCoverer «min_level» «max_level» «level_mod» «max_cells») (capGiven x y z radius) allowance (length (now (mem .entry))) (length (now (out .entry)))) r (now (mem .entry)) (now (mem .exit)) (now (out .entry)) (now (out .exit)) (now (count .exit)) (now (steps .exit)) (now (aside .exit)) (now (agree .exit)) ⌝ }
+{
+    let c = RegionCoverer {
+        min_level,
+        max_level,
+        level_mod,
+        max_cells,
+    };
+    let kind = Kind::Inner(Ending::Covering);
+    call_cap_by(
+        engines,
+        kind,
+        x,
+        y,
+        z,
+        radius,
+        c,
+        allowance,
+        mem,
+        out,
+        count,
+        steps,
+        aside,
+        agree,
+    )
+}
+
+// Cells inside the region, by the engines asked for. Of a cell.
+#[no_mangle]
+pub extern "C" fn flaxbadger_interior_covering_cell_by(
+    engines: u64,
+    id: u64,
+    min_level: u64,
+    max_level: u64,
+    level_mod: u64,
+    max_cells: u64,
+    allowance: u32,
+    mem: &mut [u64],
+    out: &mut [u64],
+    count: &mut u64,
+    steps: &mut u64,
+    aside: &mut u64,
+    agree: &mut u64,
+) -> u64
+    ensures { λ r. ⌜ CalledBy (resultOf (Kind.Inner Ending.Covering) (regionCoverer «min_level» «max_level» «level_mod» «max_cells») (cellArea id) allowance (length (now (mem .entry))) (length (now (out .entry)))) r (now (mem .entry)) (now (mem .exit)) (now (out .entry)) (now (out .exit)) (now (count .exit)) (now (steps .exit)) (now (aside .exit)) (now (agree .exit)) ⌝ }
+{
+    let c = RegionCoverer {
+        min_level,
+        max_level,
+        level_mod,
+        max_cells,
+    };
+    let kind = Kind::Inner(Ending::Covering);
+    call_cell_by(
+        engines,
+        kind,
+        id,
+        c,
+        allowance,
+        mem,
+        out,
+        count,
+        steps,
+        aside,
+        agree,
+    )
+}
+
+// Cells inside the region, by the engines asked for. Of a list.
+#[no_mangle]
+pub extern "C" fn flaxbadger_interior_covering_list_by(
+    engines: u64,
+    list: &[u64],
+    min_level: u64,
+    max_level: u64,
+    level_mod: u64,
+    max_cells: u64,
+    allowance: u32,
+    mem: &mut [u64],
+    out: &mut [u64],
+    count: &mut u64,
+    steps: &mut u64,
+    aside: &mut u64,
+    agree: &mut u64,
+) -> u64
+    ensures { λ r. ⌜ CalledBy (resultOf (Kind.Inner Ending.Covering) (regionCoverer «min_level» «max_level» «level_mod» «max_cells») (listArea (now (list .entry))) allowance (length (now (mem .entry))) (length (now (out .entry)))) r (now (mem .entry)) (now (mem .exit)) (now (out .entry)) (now (out .exit)) (now (count .exit)) (now (steps .exit)) (now (aside .exit)) (now (agree .exit)) ⌝ }
+{
+    let c = RegionCoverer {
+        min_level,
+        max_level,
+        level_mod,
+        max_cells,
+    };
+    let kind = Kind::Inner(Ending::Covering);
+    call_list_by(
+        engines,
+        kind,
+        list,
+        c,
+        allowance,
+        mem,
+        out,
+        count,
+        steps,
+        aside,
+        agree,
+    )
+}
+
+// The inner run's raw list, normalised, by the engines asked for. Of a cap.
+#[no_mangle]
+pub extern "C" fn flaxbadger_interior_cellunion_cap_by(
+    engines: u64,
+    x: f64,
+    y: f64,
+    z: f64,
+    radius: f64,
+    min_level: u64,
+    max_level: u64,
+    level_mod: u64,
+    max_cells: u64,
+    allowance: u32,
+    mem: &mut [u64],
+    out: &mut [u64],
+    count: &mut u64,
+    steps: &mut u64,
+    aside: &mut u64,
+    agree: &mut u64,
+) -> u64
+    ensures { λ r. ⌜ CalledBy (resultOf (Kind.Inner Ending.CellUnion) (regionCoverer «min_level» «max_level» «level_mod» «max_cells») (capGiven x y z radius) allowance (length (now (mem .entry))) (length (now (out .entry)))) r (now (mem .entry)) (now (mem .exit)) (now (out .entry)) (now (out .exit)) (now (count .exit)) (now (steps .exit)) (now (aside .exit)) (now (agree .exit)) ⌝ }
+{
+    let c = RegionCoverer {
+        min_level,
+        max_level,
+        level_mod,
+        max_cells,
+    };
+    let kind = Kind::Inner(Ending::CellUnion);
+    call_cap_by(
+        engines,
+        kind,
+        x,
+        y,
+        z,
+        radius,
+        c,
+        allowance,
+        mem,
+        out,
+        count,
+        steps,
+        aside,
+        agree,
+    )
+}
+
+// The inner run's raw list, normalised, by the engines asked for. Of a cell.
+#[no_mangle]
+pub extern "C" fn flaxbadger_interior_cellunion_cell_by(
+    engines: u64,
+    id: u64,
+    min_level: u64,
+    max_level: u64,
+    level_mod: u64,
+    max_cells: u64,
+    allowance: u32,
+    mem: &mut [u64],
+    out: &mut [u64],
+    count: &mut u64,
+    steps: &mut u64,
+    aside: &mut u64,
+    agree: &mut u64,
+) -> u64
+    ensures { λ r. ⌜ CalledBy (resultOf (Kind.Inner Ending.CellUnion) (regionCoverer «min_level» «max_level» «level_mod» «max_cells») (cellArea id) allowance (length (now (mem .entry))) (length (now (out .entry)))) r (now (mem .entry)) (now (mem .exit)) (now (out .entry)) (now (out .exit)) (now (count .exit)) (now (steps .exit)) (now (aside .exit)) (now (agree .exit)) ⌝ }
+{
+    let c = RegionCoverer {
+        min_level,
+        max_level,
+        level_mod,
+        max_cells,
+    };
+    let kind = Kind::Inner(Ending::CellUnion);
+    call_cell_by(
+        engines,
+        kind,
+        id,
+        c,
+        allowance,
+        mem,
+        out,
+        count,
+        steps,
+        aside,
+        agree,
+    )
+}
+
+// The inner run's raw list, normalised, by the engines asked for. Of a list.
+#[no_mangle]
+pub extern "C" fn flaxbadger_interior_cellunion_list_by(
+    engines: u64,
+    list: &[u64],
+    min_level: u64,
+    max_level: u64,
+    level_mod: u64,
+    max_cells: u64,
+    allowance: u32,
+    mem: &mut [u64],
+    out: &mut [u64],
+    count: &mut u64,
+    steps: &mut u64,
+    aside: &mut u64,
+    agree: &mut u64,
+) -> u64
+    ensures { λ r. ⌜ CalledBy (resultOf (Kind.Inner Ending.CellUnion) (regionCoverer «min_level» «max_level» «level_mod» «max_cells») (listArea (now (list .entry))) allowance (length (now (mem .entry))) (length (now (out .entry)))) r (now (mem .entry)) (now (mem .exit)) (now (out .entry)) (now (out .exit)) (now (count .exit)) (now (steps .exit)) (now (aside .exit)) (now (agree .exit)) ⌝ }
+{
+    let c = RegionCoverer {
+        min_level,
+        max_level,
+        level_mod,
+        max_cells,
+    };
+    let kind = Kind::Inner(Ending::CellUnion);
+    call_list_by(
+        engines,
+        kind,
+        list,
+        c,
+        allowance,
+        mem,
+        out,
+        count,
+        steps,
+        aside,
+        agree,
+    )
+}
+
+// The inner run's raw list, in the order kept, by the engines asked for. Of a cap.
+#[no_mangle]
+pub extern "C" fn flaxbadger_interior_raw_cap_by(
+    engines: u64,
+    x: f64,
+    y: f64,
+    z: f64,
+    radius: f64,
+    min_level: u64,
+    max_level: u64,
+    level_mod: u64,
+    max_cells: u64,
+    allowance: u32,
+    mem: &mut [u64],
+    out: &mut [u64],
+    count: &mut u64,
+    steps: &mut u64,
+    aside: &mut u64,
+    agree: &mut u64,
+) -> u64
+    ensures { λ r. ⌜ CalledBy (resultOf (Kind.Inner Ending.Raw) (regionCoverer «min_level» «max_level» «level_mod» «max_cells») (capGiven x y z radius) allowance (length (now (mem .entry))) (length (now (out .entry)))) r (now (mem .entry)) (now (mem .exit)) (now (out .entry)) (now (out .exit)) (now (count .exit)) (now (steps .exit)) (now (aside .exit)) (now (agree .exit)) ⌝ }
+{
+    let c = RegionCoverer {
+        min_level,
+        max_level,
+        level_mod,
+        max_cells,
+    };
+    let kind = Kind::Inner(Ending::Raw);
+    call_cap_by(
+        engines,
+        kind,
+        x,
+        y,
+        z,
+        radius,
+        c,
+        allowance,
+        mem,
+        out,
+        count,
+        steps,
+        aside,
+        agree,
+    )
+}
+
+// The inner run's raw list, in the order kept, by the engines asked for. Of a cell.
+#[no_mangle]
+pub extern "C" fn flaxbadger_interior_raw_cell_by(
+    engines: u64,
+    id: u64,
+    min_level: u64,
+    max_level: u64,
+    level_mod: u64,
+    max_cells: u64,
+    allowance: u32,
+    mem: &mut [u64],
+    out: &mut [u64],
+    count: &mut u64,
+    steps: &mut u64,
+    aside: &mut u64,
+    agree: &mut u64,
+) -> u64
+    ensures { λ r. ⌜ CalledBy (resultOf (Kind.Inner Ending.Raw) (regionCoverer «min_level» «max_level» «level_mod» «max_cells») (cellArea id) allowance (length (now (mem .entry))) (length (now (out .entry)))) r (now (mem .entry)) (now (mem .exit)) (now (out .entry)) (now (out .exit)) (now (count .exit)) (now (steps .exit)) (now (aside .exit)) (now (agree .exit)) ⌝ }
+{
+    let c = RegionCoverer {
+        min_level,
+        max_level,
+        level_mod,
+        max_cells,
+    };
+    let kind = Kind::Inner(Ending::Raw);
+    call_cell_by(
+        engines,
+        kind,
+        id,
+        c,
+        allowance,
+        mem,
+        out,
+        count,
+        steps,
+        aside,
+        agree,
+    )
+}
+
+// The inner run's raw list, in the order kept, by the engines asked for. Of a list.
+#[no_mangle]
+pub extern "C" fn flaxbadger_interior_raw_list_by(
+    engines: u64,
+    list: &[u64],
+    min_level: u64,
+    max_level: u64,
+    level_mod: u64,
+    max_cells: u64,
+    allowance: u32,
+    mem: &mut [u64],
+    out: &mut [u64],
+    count: &mut u64,
+    steps: &mut u64,
+    aside: &mut u64,
+    agree: &mut u64,
+) -> u64
+    ensures { λ r. ⌜ CalledBy (resultOf (Kind.Inner Ending.Raw) (regionCoverer «min_level» «max_level» «level_mod» «max_cells») (listArea (now (list .entry))) allowance (length (now (mem .entry))) (length (now (out .entry)))) r (now (mem .entry)) (now (mem .exit)) (now (out .entry)) (now (out .exit)) (now (count .exit)) (now (steps .exit)) (now (aside .exit)) (now (agree .exit)) ⌝ }
+{
+    let c = RegionCoverer {
+        min_level,
+        max_level,
+        level_mod,
+        max_cells,
+    };
+    let kind = Kind::Inner(Ending::Raw);
+    call_list_by(
+        engines,
+        kind,
+        list,
+        c,
+        allowance,
+        mem,
+        out,
+        count,
+        steps,
+        aside,
+        agree,
+    )
 }
 
 // The number of a list's answer; how many words were written goes through the reference.

@@ -1,7 +1,7 @@
 // Lists of cells in lent memory: what a list may be, normalising in place, one cell widened, and lists laid over an output.
 ghost use mathlib.Core.Path.{_≡_};
 ghost use mathlib.Core.Bool.{true};
-ghost use Prim.Native.Nat.{_+_, _-_, _*_, _^_, _≤_, _<_};
+ghost use Prim.Native.Nat.{_+_, _-_, _*_, _^_, _≤_, _<_, min};
 ghost use lib.ListN.{length, getD, take, drop, set};
 ghost use Rattle.cellid.specs.CellId.{Cell, lowBit, holds};
 ghost use Rattle.order.specs.Order.{All};
@@ -134,6 +134,13 @@ fn pass(mem: &mut [u64], n: usize) -> usize
         i += 1;
     }
     kept
+}
+
+// The lesser of two lengths.
+pub fn lesser(a: usize, b: usize) -> usize
+    ensures { λ r. ⌜ r ≡ min a b ⌝ }
+{
+    if a < b { a } else { b }
 }
 
 // Zeros the words from `from` to before `to`.

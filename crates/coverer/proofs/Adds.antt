@@ -26,27 +26,26 @@ use Rattle.run.proofs.Leaves.{leaves-add}
 use Rattle.run.proofs.Ground.{expansion-ok, low-on, high-on}
 use Rattle.run.proofs.Masks.{list-turn}
 use Rattle.run.proofs.Counts.{found-counted, empty-set}
-use Rattle.run.proofs.Turns.{then-then, add-none, add-lift, add-queue}
+use Rattle.run.proofs.Turns.{then-then, then-cong, then-going, add-none, add-lift, add-queue}
 use Rattle.run.specs.declared.Found.{Found}
-use Rattle.queue.specs.declared.Rec.{Rec}
-use Rattle.queue.specs.declared.Rule.{Rule}
+use Rattle.records.specs.declared.Rec.{Rec}
+use Rattle.queue.specs.declared.Setup.{Setup}
 use Rattle.candidate.specs.Candidate.{Asks}
 use Rattle.coverer.specs.declared.Counts.{Counts}
 use Rattle.coverer.specs.declared.Turn.{Turn}
 use Rattle.coverer.specs.declared.Brood.{Brood}
-use Rattle.coverer.specs.Engine.{isIn, childAt, childIf, childrenFrom, leavesIn, asideOf, AsideUpTo, grown, ruleOf, recOf, Ready, Stands, Gives, Does}
+use Rattle.coverer.specs.Engine.{isIn, childAt, childIf, childrenFrom, leavesIn, asideOf, AsideUpTo, grown, RuledBy, recOf, Ready, Stands, Gives, Does}
 use Rattle.coverer.proofs.Stands.{raw-length, sets-aside, does-as, does-nothing, aside-le, up-to}
 
 pub domain : (q : Request) (a : Area) → Asks q a → Domain q
 domain q a A = record { order = A .order; deep = A .deep }
 
 -- 4 ^ level_mod is at most 64
-pub narrow : (q : Request) (a : Area) (w : Rule) → Ready q a w → w .full ≤ 64
+pub narrow : (q : Request) (a : Area) (w : Setup) → Ready q a w → w .rule .full ≤ 64
 unfolding full
 narrow q a w R =
-    let e : w .full ≡ 2 ^ (2 * levelMod q) = ap (λ (x : Rule). x .full) (R .rule) in
     let few : levelMod q ≤ 3 = R .asks .few in
-    omega (arith, e, pow-mono {i = 2 * levelMod q} {j = 6} (omega arith))
+    omega (arith, R .rule, pow-mono {i = 2 * levelMod q} {j = 6} (omega arith))
 
 -- a cell's leaves are its lowest bit's weight
 pub low-leaves : (id : ℕ) → IsCell id (levelOf id) (placeOf id) → lowBit id ≡ leavesOf id
@@ -159,50 +158,11 @@ module _ (T : Task) (D : Domain (T .asked)) where
   unfolding expansionOf
   is-empty id = empty-set T (depth (T .asked) id) id
 
-  pub adds-none : (m : List ℕ) (t : Counts) (id n : ℕ) → Queued T id → found T (depth (T .asked) id) id .present ≡ 0 → n ≡ leavesOf id
-      → Does T (λ i. add (byCost T) (grown i id) false) m t m (Turn.Going (asideOf (T .asked .inner) t n))
-  unfolding Gives
-  adds-none m t id n Q z e =
-      let b : isEmpty (expansionOf T id .children) ≡ true = is-empty id ∙ eq-eqb _ 0 z in
-      record {
-        gives = λ i s S. (
-          setAside (T .asked) i (expansionOf T id .failed) s,
-          add-none T (byId T) (grown i id) s b,
-          sets-aside T m t n i (expansionOf T id .failed) s (λ o. e ∙ none-failed id Q b o) S,
-        );
-        frame = refl;
-      }
-
   lifts-is : (id : ℕ) → lifts T id ≡ (not (T .asked .inner) && (leb (minLevel (T .asked)) (levelOf id) && eqb (ones (found T (depth (T .asked) id) id .terminal)) (full (T .asked))))
   unfolding lifts expansionOf
   lifts-is id = rw (found-counted T (depth (T .asked) id) id .terminal)
 
-  module _ (m : List ℕ) (t : Counts) (m′ : List ℕ) (r : Turn) (id : ℕ) (some : found T (depth (T .asked) id) id .present ≡ 0 → ⊥) (lift : Bool)
-      (is : lift ≡ (not (T .asked .inner) && (leb (minLevel (T .asked)) (levelOf id) && eqb (ones (found T (depth (T .asked) id) id .terminal)) (full (T .asked))))) where
-    pub adds-lifted : lift ≡ true → Does T (λ i. keep (grown i id)) m t m′ r → Does T (λ i. add (byCost T) (grown i id) false) m t m′ r
-    adds-lifted e = does-as T (λ i. keep (grown i id)) (λ i. add (byCost T) (grown i id) false) m t m′ r
-        (λ i s S. add-lift T (byId T) (grown i id) s (is-empty id ∙ ne-eqb _ 0 some) (lifts-is id ∙ sym is ∙ e))
-
-    pub adds-queued : lift ≡ false → Does T (λ i. enqueue (byId T) (grown i id)) m t m′ r
-        → Does T (λ i. add (byCost T) (grown i id) false) m t m′ r
-    adds-queued e = does-as T (λ i. enqueue (byId T) (grown i id)) (λ i. add (byCost T) (grown i id) false) m t m′ r
-        (λ i s S. add-queue T (byId T) (grown i id) s (is-empty id ∙ ne-eqb _ 0 some) (lifts-is id ∙ sym is ∙ e))
-
-  pub adds-kept : (m : List ℕ) (t : Counts) (m′ : List ℕ) (r : Turn) (id : ℕ) (b : Bool) → b ≡ true → Does T (λ i. keep (grown i id)) m t m′ r
-      → Does T (λ i. add (byCost T) (grown i id) b) m t m′ r
-  unfolding add
-  adds-kept m t m′ r id b e = does-as T (λ i. keep (grown i id)) (λ i. add (byCost T) (grown i id) b) m t m′ r (λ i s S. rw (e, add))
-
-  pub adds-open : (m : List ℕ) (t : Counts) (m′ : List ℕ) (r : Turn) (id : ℕ) (b : Bool) → b ≡ false
-      → Does T (λ i. add (byCost T) (grown i id) false) m t m′ r → Does T (λ i. add (byCost T) (grown i id) b) m t m′ r
-  adds-open m t m′ r id b e d = rw e d
-
   -- ---- children, one after another
-
-  then-cong : (o : Outcome) (f g : State → Outcome) → ((s : State) → f s ≡ g s) → then o f ≡ then o g
-  unfolding then
-  then-cong (refused n) f g e = refl
-  then-cong (going s) f g e = e s
 
   pub addAll-append : (i : ℕ) (l r : List Child) (s : State) → addAll (byCost T) i (l ++ r) s ≡ then (addAll (byCost T) i l s) (addAll (byCost T) i r)
   unfolding addAll then
@@ -222,68 +182,102 @@ module _ (T : Task) (D : Domain (T .asked)) where
   unfolding addAll
   children-over b j h i s = rw (children-end b j h)
 
+module _ (w : Setup) (T : Task) (D : Domain (T .asked)) where
+  -- ---- a candidate that is to be expanded: each way that it goes
+
+  pub adds-none : (m : List ℕ) (t : Counts) (id n : ℕ) → Queued T id → found T (depth (T .asked) id) id .present ≡ 0 → n ≡ leavesOf id
+      → Does w T (λ i. add (byCost T) (grown i id) false) m t m (Turn.Going (asideOf (T .asked .inner) t n))
+  unfolding Gives
+  adds-none m t id n Q z e =
+      let b : isEmpty (expansionOf T id .children) ≡ true = is-empty T D id ∙ eq-eqb _ 0 z in
+      record {
+        gives = λ i s S. (
+          setAside (T .asked) i (expansionOf T id .failed) s,
+          add-none T (byId T) (grown i id) s b,
+          sets-aside w T m t n i (expansionOf T id .failed) s (λ o. e ∙ none-failed T D id Q b o) S,
+        );
+        frame = refl;
+      }
+
+  module _ (m : List ℕ) (t : Counts) (m′ : List ℕ) (r : Turn) (id : ℕ) (some : found T (depth (T .asked) id) id .present ≡ 0 → ⊥) (lift : Bool)
+      (is : lift ≡ (not (T .asked .inner) && (leb (minLevel (T .asked)) (levelOf id) && eqb (ones (found T (depth (T .asked) id) id .terminal)) (full (T .asked))))) where
+    pub adds-lifted : lift ≡ true → Does w T (λ i. keep (grown i id)) m t m′ r → Does w T (λ i. add (byCost T) (grown i id) false) m t m′ r
+    adds-lifted e = does-as w T (λ i. keep (grown i id)) (λ i. add (byCost T) (grown i id) false) m t m′ r
+        (λ i s S. add-lift T (byId T) (grown i id) s (is-empty T D id ∙ ne-eqb _ 0 some) (lifts-is T D id ∙ sym is ∙ e))
+
+    pub adds-queued : lift ≡ false → Does w T (λ i. enqueue (byId T) (grown i id)) m t m′ r
+        → Does w T (λ i. add (byCost T) (grown i id) false) m t m′ r
+    adds-queued e = does-as w T (λ i. enqueue (byId T) (grown i id)) (λ i. add (byCost T) (grown i id) false) m t m′ r
+        (λ i s S. add-queue T (byId T) (grown i id) s (is-empty T D id ∙ ne-eqb _ 0 some) (lifts-is T D id ∙ sym is ∙ e))
+
+  pub adds-kept : (m : List ℕ) (t : Counts) (m′ : List ℕ) (r : Turn) (id : ℕ) (b : Bool) → b ≡ true → Does w T (λ i. keep (grown i id)) m t m′ r
+      → Does w T (λ i. add (byCost T) (grown i id) b) m t m′ r
+  unfolding add
+  adds-kept m t m′ r id b e = does-as w T (λ i. keep (grown i id)) (λ i. add (byCost T) (grown i id) b) m t m′ r (λ i s S. rw (e, add))
+
+  pub adds-open : (m : List ℕ) (t : Counts) (m′ : List ℕ) (r : Turn) (id : ℕ) (b : Bool) → b ≡ false
+      → Does w T (λ i. add (byCost T) (grown i id) false) m t m′ r → Does w T (λ i. add (byCost T) (grown i id) b) m t m′ r
+  adds-open m t m′ r id b e d = rw e d
+
+  -- ---- a child, if there is one
+
   -- full: the state's results are as many as the counts say
-  pub full-is : (m : List ℕ) (t : Counts) (s : State) (f : Bool) → memoryWords ≤ length m → Stands T m t s → f ≡ (T .asked .inner && leb (maxCells (T .asked)) (t .kept)) → isFull (T .asked) s ≡ f
+  pub full-is : (m : List ℕ) (t : Counts) (s : State) (f : Bool) → memoryWords ≤ length m → Stands w T m t s → f ≡ (T .asked .inner && leb (maxCells (T .asked)) (t .kept)) → isFull (T .asked) s ≡ f
   unfolding isFull
-  full-is m t s f h S e = rw (raw-length T h S) (sym e)
+  full-is m t s f h S e = rw (raw-length w T h S) (sym e)
 
   pub child-none : (m : List ℕ) (t : Counts) (b : Brood) (j : ℕ) → isIn (b .present) j ≡ false
-      → Does T (λ i. addAll (byCost T) i (childIf b j)) m t m (Turn.Going t)
+      → Does w T (λ i. addAll (byCost T) i (childIf b j)) m t m (Turn.Going t)
   unfolding addAll
-  child-none m t b j e = does-nothing T (λ i. addAll (byCost T) i (childIf b j)) m t (λ i s S. rw (child-away b j e))
+  child-none m t b j e = does-nothing w T (λ i. addAll (byCost T) i (childIf b j)) m t (λ i s S. rw (child-away b j e))
 
   pub child-full : (m : List ℕ) (t : Counts) (b : Brood) (j : ℕ) (f : Bool) → memoryWords ≤ length m → isIn (b .present) j ≡ true → f ≡ (T .asked .inner && leb (maxCells (T .asked)) (t .kept)) → f ≡ true
-      → Does T (λ i. addAll (byCost T) i (childIf b j)) m t m (Turn.Going t)
+      → Does w T (λ i. addAll (byCost T) i (childIf b j)) m t m (Turn.Going t)
   unfolding addAll
-  child-full m t b j f h e ef t′ = does-nothing T (λ i. addAll (byCost T) i (childIf b j)) m t
+  child-full m t b j f h e ef t′ = does-nothing w T (λ i. addAll (byCost T) i (childIf b j)) m t
       (λ i s S. rw (child-there b j e, addAll, full-is m t s f h S ef ∙ t′))
 
-  then-going : (o : Outcome) → then o (λ s. going s) ≡ o
-  unfolding then
-  then-going (refused n) = refl
-  then-going (going s) = refl
-
   pub child-added : (m : List ℕ) (t : Counts) (m′ : List ℕ) (r : Turn) (b : Brood) (j : ℕ) (f ends : Bool) → memoryWords ≤ length m → isIn (b .present) j ≡ true → f ≡ (T .asked .inner && leb (maxCells (T .asked)) (t .kept)) → f ≡ false
-      → ends ≡ isIn (b .terminal) j → Does T (λ i. add (byCost T) (grown i (childAt b j)) ends) m t m′ r
-      → Does T (λ i. addAll (byCost T) i (childIf b j)) m t m′ r
+      → ends ≡ isIn (b .terminal) j → Does w T (λ i. add (byCost T) (grown i (childAt b j)) ends) m t m′ r
+      → Does w T (λ i. addAll (byCost T) i (childIf b j)) m t m′ r
   unfolding addAll
-  child-added m t m′ r b j f ends h e ef t′ d = does-as T (λ i. add (byCost T) (grown i (childAt b j)) ends)
+  child-added m t m′ r b j f ends h e ef t′ d = does-as w T (λ i. add (byCost T) (grown i (childAt b j)) ends)
       (λ i. addAll (byCost T) i (childIf b j)) m t m′ r
       (λ i s S. rw (child-there b j e, addAll, full-is m t s f h S ef ∙ t′, ← d) (then-going (add (byCost T) (grown i (childAt b j)) ends s)))
 
   -- ---- adding a candidate, each way that the code goes
 
   module _ (m : List ℕ) (t : Counts) (id : ℕ) (b : Bool) (C : ChildOk T (record { id = id; ends = b })) where
-    pub add-kept : (m′ : List ℕ) (r : Turn) → b ≡ true → Does T (λ i. keep (grown i id)) m t m′ r → AsideUpTo (t .aside) r
-        → Does T (λ i. add (byCost T) (grown i id) b) m t m′ r × AsideUpTo (t .aside + leavesOf id) r
+    pub add-kept : (m′ : List ℕ) (r : Turn) → b ≡ true → Does w T (λ i. keep (grown i id)) m t m′ r → AsideUpTo (t .aside) r
+        → Does w T (λ i. add (byCost T) (grown i id) b) m t m′ r × AsideUpTo (t .aside + leavesOf id) r
     add-kept m′ r e d a = (adds-kept m t m′ r id b e d, up-to (t .aside) _ r (omega arith) a)
 
     pub add-empty : (f : Found) (n : ℕ) (u : Counts) → b ≡ false → f ≡ found T (depth (T .asked) id) id → f .present ≡ 0 → n ≡ lowBit id → u ≡ asideOf (T .asked .inner) t n
-        → Does T (λ i. add (byCost T) (grown i id) b) m t m (Turn.Going u) × AsideUpTo (t .aside + leavesOf id) (Turn.Going u)
+        → Does w T (λ i. add (byCost T) (grown i id) b) m t m (Turn.Going u) × AsideUpTo (t .aside + leavesOf id) (Turn.Going u)
     unfolding AsideUpTo
     add-empty f n u e ef z en eu =
-        let Q = queued id b e C in
+        let Q = queued T D id b e C in
         let l : n ≡ leavesOf id = en ∙ low-leaves id (C .fit .cell) in (
           adds-open m t m (Turn.Going u) id b e (rw eu (adds-none m t id n Q (ap (λ (x : Found). x .present) (sym ef) ∙ z) l)),
           omega (arith, ap (λ (x : Counts). x .aside) eu, aside-le (T .asked .inner) t n),
         )
 
-    module _ (f : Found) (v : Rule) (lift : Bool) (m′ : List ℕ) (r : Turn) (e : b ≡ false) (ef : f ≡ found T (depth (T .asked) id) id) (some : f .present ≡ 0 → ⊥) (ev : v ≡ ruleOf T)
-        (is : lift ≡ (not (T .asked .inner) && (leb (minLevel (T .asked)) (levelOf id) && eqb (ones (f .terminal)) (v .full)))) where
+    module _ (f : Found) (lift : Bool) (m′ : List ℕ) (r : Turn) (e : b ≡ false) (ef : f ≡ found T (depth (T .asked) id) id) (some : f .present ≡ 0 → ⊥) (ruled : RuledBy (T .asked) w)
+        (is : lift ≡ (not (T .asked .inner) && (leb (minLevel (T .asked)) (levelOf id) && eqb (ones (f .terminal)) (w .rule .full)))) where
       some-is : found T (depth (T .asked) id) id .present ≡ 0 → ⊥
       some-is z = some (ap (λ (x : Found). x .present) ef ∙ z)
 
       lift-is : lift ≡ (not (T .asked .inner) && (leb (minLevel (T .asked)) (levelOf id) && eqb (ones (found T (depth (T .asked) id) id .terminal)) (full (T .asked))))
-      lift-is = is ∙ ap₂ (λ (x : Found) (y : Rule). not (T .asked .inner) && (leb (minLevel (T .asked)) (levelOf id) && eqb (ones (x .terminal)) (y .full))) ef ev
+      lift-is = is ∙ ap₂ (λ (x : Found) (y : ℕ). not (T .asked .inner) && (leb (minLevel (T .asked)) (levelOf id) && eqb (ones (x .terminal)) y)) ef ruled
 
-      pub add-lifted : lift ≡ true → Does T (λ i. keep (grown i id)) m t m′ r → AsideUpTo (t .aside) r
-          → Does T (λ i. add (byCost T) (grown i id) b) m t m′ r × AsideUpTo (t .aside + leavesOf id) r
+      pub add-lifted : lift ≡ true → Does w T (λ i. keep (grown i id)) m t m′ r → AsideUpTo (t .aside) r
+          → Does w T (λ i. add (byCost T) (grown i id) b) m t m′ r × AsideUpTo (t .aside + leavesOf id) r
       add-lifted l d a = (adds-open m t m′ r id b e (adds-lifted m t m′ r id some-is lift lift-is l d), up-to (t .aside) _ r (omega arith) a)
 
       pub add-queued : lift ≡ false
-          → (v ≡ ruleOf T → record { id = id; present = f .present; terminal = f .terminal } ≡ recOf T (grown 0 id)
-          → Does T (λ i. enqueue (byId T) (grown i id)) m t m′ r) → AsideUpTo (t .aside) r
-          → Does T (λ i. add (byCost T) (grown i id) b) m t m′ r × AsideUpTo (t .aside + leavesOf id) r
+          → (RuledBy (T .asked) w → record { id = id; present = f .present; terminal = f .terminal } ≡ recOf T (grown 0 id)
+          → Does w T (λ i. enqueue (byId T) (grown i id)) m t m′ r) → AsideUpTo (t .aside) r
+          → Does w T (λ i. add (byCost T) (grown i id) b) m t m′ r × AsideUpTo (t .aside + leavesOf id) r
       add-queued l d a =
           let rec : Found → Rec = λ x. record { id = id; present = x .present; terminal = x .terminal } in
-          (adds-open m t m′ r id b e (adds-queued m t m′ r id some-is lift lift-is l (d ev (ap rec ef))), up-to (t .aside) _ r (omega arith) a)
+          (adds-open m t m′ r id b e (adds-queued m t m′ r id some-is lift lift-is l (d ruled (ap rec ef))), up-to (t .aside) _ r (omega arith) a)

@@ -1,10 +1,11 @@
 -- From what the engine's memory and counts stand for to its answer and the memory that it leaves; and that an answer is all that its contract allows.
 use mathlib.Core.Path.{_≡_, sym, ap, _∙_, subst}
 use mathlib.Core.List.{List}
-use Prim.Native.Nat.{ℕ, _+_, _≤_}
+use Prim.Native.Nat.{ℕ, _+_, _≤_, _<_}
 use native.Mathlib.Omega.{arith}
 use lib.ListN.{length}
-use Rattle.run.specs.Run.{State, Outcome, refused, going, rawIds, Task, rawMost, queueWords, memoryWords}
+use Rattle.run.specs.Run.{State, Outcome, refused, going, then, after, run, rawIds, Task, byCost, rawMost, queueWords, memoryWords}
+use Rattle.queue.specs.declared.Setup.{Setup}
 use Rattle.coverer.specs.declared.Counts.{Counts}
 use Rattle.coverer.specs.declared.Turn.{Turn}
 use Rattle.coverer.specs.declared.Ran.{Ran}
@@ -12,29 +13,44 @@ use Rattle.coverer.specs.Coverer.{cleared, engineAnswer, engineMemory}
 use Rattle.coverer.specs.Engine.{Stands, Gives, Comes}
 use Rattle.coverer.proofs.Memory.{cleared-front, cleared-only}
 use Rattle.coverer.proofs.Stands.{raw-length}
+use Rattle.coverer.proofs.Runs.{waiting, idle, unlessQueued, run-after}
 
-module _ (T : Task) (o : Outcome) (m m₁ : List ℕ) (r : Turn) (C : Comes T o m m₁ r) where
-  pub answer-refused : (n : ℕ) (m₂ : List ℕ) → r ≡ Turn.Refused n → m₂ ≡ cleared 0 memoryWords m₁ → (Ran.Refused n ≡ engineAnswer o) × (m₂ ≡ engineMemory o m)
-  unfolding Gives engineAnswer engineMemory
-  answer-refused n m₂ e d =
-      let g : o ≡ refused n = subst (λ (y : Turn). Gives T m₁ y o) e (C .gives) in
-      (rw g, rw g (d ∙ cleared-front memoryWords m m₁ (C .frame)))
+module _ (w : Setup) (T : Task) (l : List ℕ) (k : ℕ) (m m₁ : List ℕ) (r : Turn) (C : Comes w T (after (byCost T) l k) m m₁ r) where
+  abbrev o : Outcome
+  o = run (byCost T) l k
+
+  -- a refusal's number, and the words of a run cleared
+  refuses : (n : ℕ) (v : Ran) (m₂ : List ℕ) → o ≡ refused n → (v ≡ Ran.Refused n) × (m₂ ≡ cleared 0 memoryWords m₁) → (v ≡ engineAnswer o) × (m₂ ≡ engineMemory o m)
+  unfolding engineAnswer engineMemory
+  refuses n v m₂ e d = (rw e (d .0), rw e (d .1 ∙ cleared-front memoryWords m m₁ (C .frame)))
+
+  pub answer-refused : (n : ℕ) (v : Ran) (m₂ : List ℕ) → r ≡ Turn.Refused n → (v ≡ Ran.Refused n) × (m₂ ≡ cleared 0 memoryWords m₁) → (v ≡ engineAnswer o) × (m₂ ≡ engineMemory o m)
+  unfolding Gives then
+  answer-refused n v m₂ e = refuses n v m₂ (run-after (byCost T) l k ∙ ap (λ (x : Outcome). then x unlessQueued) (subst (λ (y : Turn). Gives w T m₁ y (after (byCost T) l k)) e (C .gives)))
 
   module _ (t : Counts) (e : r ≡ Turn.Going t) where
-    ended : (s : State) × (o ≡ going s) × Stands T m₁ t s
+    ended : (s : State) × (after (byCost T) l k ≡ going s) × Stands w T m₁ t s
     unfolding Gives
-    ended = subst (λ (y : Turn). Gives T m₁ y o) e (C .gives)
+    ended = subst (λ (y : Turn). Gives w T m₁ y (after (byCost T) l k)) e (C .gives)
+
+    comes-to : o ≡ unlessQueued (ended .0)
+    unfolding then
+    comes-to = run-after (byCost T) l k ∙ ap (λ (x : Outcome). then x unlessQueued) (ended .1)
+
+    pub answer-spent : (v : Ran) (m₂ : List ℕ) → 0 < t .queued → (v ≡ Ran.Refused 9) × (m₂ ≡ cleared 0 memoryWords m₁) → (v ≡ engineAnswer o) × (m₂ ≡ engineMemory o m)
+    unfolding unlessQueued
+    answer-spent v m₂ some = refuses 9 v m₂ (comes-to ∙ rw (waiting w T some (ended .2), unlessQueued))
 
     pub answer-room : t .kept ≤ rawMost
     answer-room = ended .2 .room
 
-    pub answer-done : (m₂ m₃ : List ℕ) → memoryWords ≤ length m₁ → m₂ ≡ cleared 0 queueWords m₁ → m₃ ≡ cleared (queueWords + t .kept) memoryWords m₂ → (Ran.Done (t .kept) (t .steps) (t .aside) ≡ engineAnswer o) × (m₃ ≡ engineMemory o m)
-    unfolding engineAnswer engineMemory
-    answer-done m₂ m₃ long d₂ d₃ =
+    pub answer-done : (v : Ran) (m₂ : List ℕ) → memoryWords ≤ length m₁ → t .queued ≤ 0 → (v ≡ Ran.Done (t .kept) (t .steps) (t .aside)) × (m₂ ≡ cleared (queueWords + t .kept) memoryWords (cleared 0 queueWords m₁)) → (v ≡ engineAnswer o) × (m₂ ≡ engineMemory o m)
+    unfolding engineAnswer engineMemory unlessQueued
+    answer-done v m₂ long none d =
         let S = ended .2 in
-        let g : o ≡ going (ended .0) = ended .1 in (
-          rw (g, raw-length T long S, ← S .steps, ← S .aside),
-          rw g (d₃ ∙ ap (cleared (queueWords + t .kept) memoryWords) d₂ ∙ cleared-only queueWords memoryWords (t .kept) (rawIds (ended .0)) m m₁ (omega (arith, answer-room)) long (S .raw) (C .frame)),
+        let g : o ≡ going (ended .0) = comes-to ∙ rw (idle w T none S, unlessQueued) in (
+          rw (g, raw-length w T long S, ← S .steps, ← S .aside) (d .0),
+          rw g (d .1 ∙ cleared-only queueWords memoryWords (t .kept) (rawIds (ended .0)) m m₁ (omega (arith, answer-room)) long (S .raw) (C .frame)),
         )
 
 -- any two results that the engine's contract allows are one: the answer, and the whole memory

@@ -4,3 +4,4 @@ pub mod Adds
 pub mod Steps
 pub mod Runs
 pub mod Answers
+pub mod Watching

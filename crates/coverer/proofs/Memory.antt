@@ -60,6 +60,13 @@ take-over xs ys a k e = ap (λ (n : ℕ). take (n + k) (xs ++ ys)) (sym e) ∙ t
 drop-over : (xs ys : List ℕ) (a k : ℕ) → length xs ≡ a → drop (a + k) (xs ++ ys) ≡ drop k ys
 drop-over xs ys a k e = ap (λ (n : ℕ). drop (n + k) (xs ++ ys)) (sym e) ∙ drop-append-add xs ys k
 
+-- clearing once more changes nothing
+pub cleared-twice : (b : ℕ) (m : List ℕ) → cleared 0 b (cleared 0 b m) ≡ cleared 0 b m
+unfolding past
+cleared-twice b m =
+    let z : b + 0 ≡ b = omega arith in
+    cleared-front b m (cleared 0 b m) (ap (drop b) (front b m) ∙ ap (λ (j : ℕ). drop j (zeros b ++ drop b m)) (sym z) ∙ drop-over (zeros b) (drop b m) b 0 (length-zeros b))
+
 -- the words before a and from a + k to b cleared, the k words between being l
 pub cleared-only : (a b k : ℕ) (l m m′ : List ℕ) → a + k ≤ b → b ≤ length m′ → wordsAt a k m′ ≡ l → past b m′ ≡ past b m
     → cleared (a + k) b (cleared 0 a m′) ≡ onlyWords a b l m

@@ -16,24 +16,25 @@ use Rattle.run.proofs.Lists.{if-ok}
 use Rattle.run.proofs.Records.{keyOf, queue-more}
 use Rattle.run.proofs.Turns.{keep-go, keep-stop, enqueue-go, enqueue-stop}
 use Rattle.run.proofs.Totals.{aside-more}
-use Rattle.queue.specs.declared.Rec.{Rec}
-use Rattle.queue.specs.declared.Rule.{Rule}
-use Rattle.queue.specs.Queue.{before, key, pushR, popR}
-use Rattle.queue.proofs.Laws.{in-queue, push-out, pop-out, getR-out}
+use Rattle.records.specs.declared.Rec.{Rec}
+use Rattle.records.specs.Records.{before, key}
+use Rattle.queue.specs.declared.Setup.{Setup}
+use Rattle.queue.specs.Queue.{addR, restR}
+use Rattle.queue.proofs.Laws.{in-queue, add-out, rest-out, getR-out}
 use Rattle.coverer.specs.declared.Counts.{Counts}
 use Rattle.coverer.specs.declared.Turn.{Turn}
-use Rattle.coverer.specs.Engine.{wordsAt, past, grown, ruleOf, recOf, Stands, Gives, Does, asideOf, AsideUpTo}
+use Rattle.coverer.specs.Engine.{wordsAt, past, grown, RuledBy, recOf, Stands, Gives, Does, asideOf, AsideUpTo}
 use Rattle.coverer.proofs.Memory.{words-length, words-none, words-more, words-past, past-set, past-later}
 
 -- ---- the queue's moves leave the words past the records as they are
 
-push-past : (w : Rule) (bound a : ℕ) (m : List ℕ) (n : ℕ) (r : Rec) → n < bound → 3 * bound ≡ a → past a (pushR w m n r) ≡ past a m
+add-past : (w : Setup) (bound a : ℕ) (m : List ℕ) (n : ℕ) (r : Rec) → n < bound → 3 * bound ≡ a → past a (addR w m n r) ≡ past a m
 unfolding past
-push-past w bound a m n r h e = rw (sym e) (push-out w bound m n r h)
+add-past w bound a m n r h e = rw (sym e) (add-out w bound m n r h)
 
-pub pop-past : (w : Rule) (bound a : ℕ) (m : List ℕ) (n : ℕ) → n < bound → 3 * bound ≡ a → past a (popR w m n) ≡ past a m
+pub rest-past : (w : Setup) (bound a : ℕ) (m : List ℕ) (n : ℕ) → n < bound → 3 * bound ≡ a → past a (restR w m n) ≡ past a m
 unfolding past
-pop-past w bound a m n h e = rw (sym e) (pop-out w bound m n h)
+rest-past w bound a m n h e = rw (sym e) (rest-out w bound m n h)
 
 -- ---- counts
 
@@ -57,22 +58,20 @@ unfolding AsideUpTo
 up-to n k (Turn.Refused x) h a = tt
 up-to n k (Turn.Going t) h a = omega (arith, a)
 
-module _ (T : Task) where
-  abbrev w : Rule
-  w = ruleOf T
+module _ (w : Setup) (T : Task) where
+  module _ (ruled : RuledBy (T .asked) w) where
+    -- the records' order is by the key of their words
+    keyed : (i p t j r u : ℕ) → before (w .rule) (record { id = i; present = p; terminal = t }) (record { id = j; present = r; terminal = u }) ≡ lexb (keyOf (full (T .asked)) i p t) (keyOf (full (T .asked)) j r u)
+    unfolding before key costOf
+    keyed i p t j r u = rw ruled
 
-  -- the records' order is by the key of their words
-  keyed : (i p t j r u : ℕ) → before w (record { id = i; present = p; terminal = t }) (record { id = j; present = r; terminal = u }) ≡ lexb (keyOf (full (T .asked)) i p t) (keyOf (full (T .asked)) j r u)
-  unfolding before key costOf
-  keyed i p t j r u = refl
+    more : (x : Grown) (l : List Grown) → map (recOf T) (insert (byId T) x l) ≡ insert (before (w .rule)) (recOf T x) (map (recOf T) l)
+    more = queue-more T (λ i p t. record { id = i; present = p; terminal = t }) (before (w .rule)) keyed
 
-  more : (x : Grown) (l : List Grown) → map (recOf T) (insert (byId T) x l) ≡ insert (before w) (recOf T x) (map (recOf T) l)
-  more = queue-more T (λ i p t. record { id = i; present = p; terminal = t }) (before w) keyed
-
-  pub queue-length : {m : List ℕ} {t : Counts} {s : State} → Stands T m t s → length (s .queue) ≡ t .queued
+  pub queue-length : {m : List ℕ} {t : Counts} {s : State} → Stands w T m t s → length (s .queue) ≡ t .queued
   queue-length {m} {t} {s} S = sym (length-map (s .queue) (recOf T)) ∙ in-queue w .size m (t .queued) (map (recOf T) (s .queue)) (S .queue)
 
-  pub raw-length : {m : List ℕ} {t : Counts} {s : State} → memoryWords ≤ length m → Stands T m t s → length (s .raw) ≡ t .kept
+  pub raw-length : {m : List ℕ} {t : Counts} {s : State} → memoryWords ≤ length m → Stands w T m t s → length (s .raw) ≡ t .kept
   unfolding rawIds
   raw-length {m} {t} {s} h S =
       let room : t .kept ≤ rawMost = S .room in
@@ -80,7 +79,7 @@ module _ (T : Task) where
 
   -- ---- nothing yet
 
-  pub stands-nothing : (m : List ℕ) → Stands T m (record { kept = 0; queued = 0; aside = 0; steps = 0 }) nothing
+  pub stands-nothing : (m : List ℕ) → Stands w T m (record { kept = 0; queued = 0; aside = 0; steps = 0 }) nothing
   unfolding rawIds asideTotal sumOf
   stands-nothing m = record { queue = in-queue w .none m; raw = words-none queueWords m; few = omega arith; room = omega arith; aside = refl; steps = refl }
 
@@ -92,7 +91,7 @@ module _ (T : Task) where
   raw-more s c m m′ k e d = d ∙ ap (λ (l : List ℕ). l ++ (c .id ∷ [])) e ∙ sym (map-append (λ (x : Grown). x .id) (s .raw) (c ∷ []))
 
   pub keeps : (m : List ℕ) (t : Counts) (id : ℕ) → memoryWords ≤ length m → t .kept < rawMost
-      → Does T (λ i. keep (grown i id)) m t (set m (queueWords + t .kept) id) (Turn.Going (record { kept = t .kept + 1; queued = t .queued; aside = t .aside; steps = t .steps }))
+      → Does w T (λ i. keep (grown i id)) m t (set m (queueWords + t .kept) id) (Turn.Going (record { kept = t .kept + 1; queued = t .queued; aside = t .aside; steps = t .steps }))
   unfolding Gives asideTotal
   keeps m t id h g = record {
     gives = λ i s S.
@@ -111,38 +110,36 @@ module _ (T : Task) where
     frame = past-set memoryWords (queueWords + t .kept) id m (omega arith);
   }
 
-  pub keeps-not : (m : List ℕ) (t : Counts) (id : ℕ) → memoryWords ≤ length m → rawMost ≤ t .kept → Does T (λ i. keep (grown i id)) m t m (Turn.Refused 8)
+  pub keeps-not : (m : List ℕ) (t : Counts) (id : ℕ) → memoryWords ≤ length m → rawMost ≤ t .kept → Does w T (λ i. keep (grown i id)) m t m (Turn.Refused 8)
   unfolding Gives
   keeps-not m t id h g = record { gives = λ i s S. keep-stop T (byId T) (grown i id) s (omega (arith, raw-length h S)); frame = refl }
 
   -- ---- one more queued
 
-  queues : (m : List ℕ) (t : Counts) (r : Rec) → memoryWords ≤ length m → t .queued < queueMost → r ≡ recOf T (grown 0 (r .id))
-      → Does T (λ i. enqueue (byId T) (grown i (r .id))) m t (pushR w m (t .queued) r) (Turn.Going (record { kept = t .kept; queued = t .queued + 1; aside = t .aside; steps = t .steps }))
+  pub queues : RuledBy (T .asked) w → (m : List ℕ) (t : Counts) (r : Rec) (m′ : List ℕ) → memoryWords ≤ length m → t .queued < queueMost → r ≡ recOf T (grown 0 (r .id)) → m′ ≡ addR w m (t .queued) r
+      → Does w T (λ i. enqueue (byId T) (grown i (r .id))) m t m′ (Turn.Going (record { kept = t .kept; queued = t .queued + 1; aside = t .aside; steps = t .steps }))
   unfolding Gives asideTotal rawIds
-  queues m t r h g e = record {
-    gives = λ i s S. (
-      record { raw = s .raw; queue = insert (byId T) (grown i (r .id)) (s .queue); aside = s .aside; steps = s .steps },
-      enqueue-go T (byId T) (grown i (r .id)) s (omega (arith, queue-length S)),
+  queues ruled m t r m′ h g e em =
+      let beyond : past queueWords m′ ≡ past queueWords m = ap (past queueWords) em ∙ add-past w queueMost queueWords m (t .queued) r g refl in
       record {
-        queue =
-            rw (add-one (t .queued), more (grown i (r .id)) (s .queue), ← e)
-            (in-queue w .more m (t .queued) r (map (recOf T) (s .queue)) (omega arith) (S .queue));
-        raw = words-past queueWords (t .kept) m _ (push-past w queueMost queueWords m (t .queued) r g refl) ∙ S .raw;
-        few = omega arith;
-        room = S .room;
-        aside = S .aside;
-        steps = S .steps;
-      },
-    );
-    frame = past-later queueWords memoryWords m _ (omega arith) (push-past w queueMost queueWords m (t .queued) r g refl);
-  }
+        gives = λ i s S. (
+          record { raw = s .raw; queue = insert (byId T) (grown i (r .id)) (s .queue); aside = s .aside; steps = s .steps },
+          enqueue-go T (byId T) (grown i (r .id)) s (omega (arith, queue-length S)),
+          record {
+            queue =
+                rw (em, add-one (t .queued), more ruled (grown i (r .id)) (s .queue), ← e)
+                (in-queue w .more m (t .queued) r (map (recOf T) (s .queue)) (omega arith) (S .queue));
+            raw = words-past queueWords (t .kept) m _ beyond ∙ S .raw;
+            few = omega arith;
+            room = S .room;
+            aside = S .aside;
+            steps = S .steps;
+          },
+        );
+        frame = past-later queueWords memoryWords m _ (omega arith) beyond;
+      }
 
-  pub queues-by : (m : List ℕ) (t : Counts) (v : Rule) (r : Rec) (m′ : List ℕ) → memoryWords ≤ length m → t .queued < queueMost → v ≡ w → r ≡ recOf T (grown 0 (r .id)) → m′ ≡ pushR v m (t .queued) r
-      → Does T (λ i. enqueue (byId T) (grown i (r .id))) m t m′ (Turn.Going (record { kept = t .kept; queued = t .queued + 1; aside = t .aside; steps = t .steps }))
-  queues-by m t v r m′ h g ev er e = rw (e, ev) (queues m t r h g er)
-
-  pub queues-not : (m : List ℕ) (t : Counts) (id : ℕ) → queueMost ≤ t .queued → Does T (λ i. enqueue (byId T) (grown i id)) m t m (Turn.Refused 7)
+  pub queues-not : (m : List ℕ) (t : Counts) (id : ℕ) → queueMost ≤ t .queued → Does w T (λ i. enqueue (byId T) (grown i id)) m t m (Turn.Refused 7)
   unfolding Gives
   queues-not m t id g = record { gives = λ i s S. enqueue-stop T (byId T) (grown i id) s (omega (arith, queue-length S)); frame = refl }
 
@@ -162,8 +159,8 @@ module _ (T : Task) where
   unfolding setAside
   beside i l s = if-ok (Beside s) (T .asked .inner) _ _ (λ t. record { raw = refl; queue = refl; steps = refl }) (λ t. record { raw = refl; queue = refl; steps = refl })
 
-  aside-stands : (m : List ℕ) (t : Counts) (n i : ℕ) (l : List ℕ) (s : State) → T .asked .inner ≡ false → n ≡ sumOf leavesOf l → Stands T m t s
-      → Stands T m (record { kept = t .kept; queued = t .queued; aside = t .aside + n; steps = t .steps }) (setAside (T .asked) i l s)
+  aside-stands : (m : List ℕ) (t : Counts) (n i : ℕ) (l : List ℕ) (s : State) → T .asked .inner ≡ false → n ≡ sumOf leavesOf l → Stands w T m t s
+      → Stands w T m (record { kept = t .kept; queued = t .queued; aside = t .aside + n; steps = t .steps }) (setAside (T .asked) i l s)
   unfolding rawIds
   aside-stands m t n i l s o e S =
       let B = beside i l s in
@@ -176,8 +173,8 @@ module _ (T : Task) where
         steps = S .steps ∙ sym (B .steps);
       }
 
-  pub sets-aside : (m : List ℕ) (t : Counts) (n i : ℕ) (l : List ℕ) (s : State) → (T .asked .inner ≡ false → n ≡ sumOf leavesOf l) → Stands T m t s
-      → Stands T m (asideOf (T .asked .inner) t n) (setAside (T .asked) i l s)
+  pub sets-aside : (m : List ℕ) (t : Counts) (n i : ℕ) (l : List ℕ) (s : State) → (T .asked .inner ≡ false → n ≡ sumOf leavesOf l) → Stands w T m t s
+      → Stands w T m (asideOf (T .asked .inner) t n) (setAside (T .asked) i l s)
   sets-aside m t n i l s e S = ⊎-elim
       (λ (b : T .asked .inner ≡ true). rw (aside-in (T .asked .inner) t n b, inside i l s b) S)
       (λ (b : T .asked .inner ≡ false). rw (aside-out (T .asked .inner) t n b) (aside-stands m t n i l s b (e b) S))
@@ -185,15 +182,15 @@ module _ (T : Task) where
 
   -- ---- one outcome in the place of another
 
-  pub gives-as : (m : List ℕ) (r : Turn) (o p : Outcome) → p ≡ o → Gives T m r o → Gives T m r p
+  pub gives-as : (m : List ℕ) (r : Turn) (o p : Outcome) → p ≡ o → Gives w T m r o → Gives w T m r p
   gives-as m r o p e G = rw e G
 
-  pub does-as : (f g : ℕ → State → Outcome) (m : List ℕ) (t : Counts) (m′ : List ℕ) (r : Turn) → ((i : ℕ) (s : State) → Stands T m t s → g i s ≡ f i s)
-      → Does T f m t m′ r → Does T g m t m′ r
+  pub does-as : (f g : ℕ → State → Outcome) (m : List ℕ) (t : Counts) (m′ : List ℕ) (r : Turn) → ((i : ℕ) (s : State) → Stands w T m t s → g i s ≡ f i s)
+      → Does w T f m t m′ r → Does w T g m t m′ r
   does-as f g m t m′ r e D = record { gives = λ i s S. gives-as m′ r (f i s) (g i s) (e i s S) (D .gives i s S); frame = D .frame }
 
   -- nothing is done
-  pub does-nothing : (f : ℕ → State → Outcome) (m : List ℕ) (t : Counts) → ((i : ℕ) (s : State) → Stands T m t s → f i s ≡ going s) → Does T f m t m (Turn.Going t)
+  pub does-nothing : (f : ℕ → State → Outcome) (m : List ℕ) (t : Counts) → ((i : ℕ) (s : State) → Stands w T m t s → f i s ≡ going s) → Does w T f m t m (Turn.Going t)
   unfolding Gives
   does-nothing f m t e = record { gives = λ i s S. (s, e i s S, S); frame = refl }
 
@@ -201,14 +198,14 @@ module _ (T : Task) where
 
   -- from m₀ and t₀ to m and t a beginning of `goal` is done, and `rest` is what is left of it
   pub record Goes (goal rest : ℕ → State → Outcome) (m₀ : List ℕ) (t₀ : Counts) (m : List ℕ) (t : Counts) : Type 0 where
-    pub from : (i : ℕ) (s₀ : State) → Stands T m₀ t₀ s₀ → (s : State) × Stands T m t s × (rest i s ≡ goal i s₀)
+    pub from : (i : ℕ) (s₀ : State) → Stands w T m₀ t₀ s₀ → (s : State) × Stands w T m t s × (rest i s ≡ goal i s₀)
     pub frame : past memoryWords m ≡ past memoryWords m₀
 
   pub goes-start : (f : ℕ → State → Outcome) (m : List ℕ) (t : Counts) → Goes f f m t m t
   goes-start f m t = record { from = λ i s S. (s, S, refl); frame = refl }
 
   pub goes-turn : (goal rest one next : ℕ → State → Outcome) (m₀ : List ℕ) (t₀ : Counts) (m : List ℕ) (t : Counts) (m′ : List ℕ) (u : Counts)
-      → ((i : ℕ) (s : State) → Stands T m t s → rest i s ≡ then (one i s) (next i)) → Does T one m t m′ (Turn.Going u) → Goes goal rest m₀ t₀ m t → Goes goal next m₀ t₀ m′ u
+      → ((i : ℕ) (s : State) → Stands w T m t s → rest i s ≡ then (one i s) (next i)) → Does w T one m t m′ (Turn.Going u) → Goes goal rest m₀ t₀ m t → Goes goal next m₀ t₀ m′ u
   unfolding Gives then
   goes-turn goal rest one next m₀ t₀ m t m′ u e D G = record {
     from = λ i s₀ S₀.
@@ -219,7 +216,7 @@ module _ (T : Task) where
   }
 
   pub goes-stop : (goal rest one next : ℕ → State → Outcome) (m₀ : List ℕ) (t₀ : Counts) (m : List ℕ) (t : Counts) (m′ : List ℕ) (n : ℕ)
-      → ((i : ℕ) (s : State) → Stands T m t s → rest i s ≡ then (one i s) (next i)) → Does T one m t m′ (Turn.Refused n) → Goes goal rest m₀ t₀ m t → Does T goal m₀ t₀ m′ (Turn.Refused n)
+      → ((i : ℕ) (s : State) → Stands w T m t s → rest i s ≡ then (one i s) (next i)) → Does w T one m t m′ (Turn.Refused n) → Goes goal rest m₀ t₀ m t → Does w T goal m₀ t₀ m′ (Turn.Refused n)
   unfolding Gives then
   goes-stop goal rest one next m₀ t₀ m t m′ n e D G = record {
     gives = λ i s₀ S₀.
@@ -229,12 +226,12 @@ module _ (T : Task) where
   }
 
   pub goes-on : (goal rest : ℕ → State → Outcome) (m₀ : List ℕ) (t₀ : Counts) (m : List ℕ) (t : Counts) (m′ : List ℕ) (r : Turn)
-      → Does T rest m t m′ r → Goes goal rest m₀ t₀ m t → Does T goal m₀ t₀ m′ r
+      → Does w T rest m t m′ r → Goes goal rest m₀ t₀ m t → Does w T goal m₀ t₀ m′ r
   goes-on goal rest m₀ t₀ m t m′ r D G = record {
     gives = λ i s₀ S₀. let a = G .from i s₀ S₀ in gives-as m′ r (rest i (a .0)) (goal i s₀) (sym (a .2)) (D .gives i (a .0) (a .1));
     frame = D .frame ∙ G .frame;
   }
 
-  pub goes-end : (goal rest : ℕ → State → Outcome) (m₀ : List ℕ) (t₀ : Counts) (m : List ℕ) (t : Counts) → ((i : ℕ) (s : State) → Stands T m t s → rest i s ≡ going s)
-      → Goes goal rest m₀ t₀ m t → Does T goal m₀ t₀ m (Turn.Going t)
+  pub goes-end : (goal rest : ℕ → State → Outcome) (m₀ : List ℕ) (t₀ : Counts) (m : List ℕ) (t : Counts) → ((i : ℕ) (s : State) → Stands w T m t s → rest i s ≡ going s)
+      → Goes goal rest m₀ t₀ m t → Does w T goal m₀ t₀ m (Turn.Going t)
   goes-end goal rest m₀ t₀ m t e G = goes-on goal rest m₀ t₀ m t m (Turn.Going t) (does-nothing rest m t e) G

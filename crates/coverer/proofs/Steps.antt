@@ -26,16 +26,16 @@ use Rattle.run.proofs.Demand3.{sums}
 use Rattle.run.proofs.Masks.{found-small, found-list}
 use Rattle.run.proofs.Counts.{found-counted}
 use Rattle.run.proofs.Totals.{failed-total, leaves-most}
-use Rattle.queue.specs.declared.Rec.{Rec}
-use Rattle.queue.specs.declared.Rule.{Rule}
-use Rattle.queue.specs.Queue.{popR, nextR}
+use Rattle.records.specs.declared.Rec.{Rec}
+use Rattle.queue.specs.declared.Setup.{Setup}
+use Rattle.queue.specs.Queue.{nextR, restR}
 use Rattle.queue.proofs.Laws.{in-queue}
 use Rattle.coverer.specs.declared.Counts.{Counts}
 use Rattle.coverer.specs.declared.Turn.{Turn}
 use Rattle.coverer.specs.declared.Brood.{Brood}
-use Rattle.coverer.specs.Engine.{past, childrenFrom, leavesIn, broodOf, asideOf, grown, ruleOf, recOf, Stands, Gives, Does, Reached, handOn}
+use Rattle.coverer.specs.Engine.{past, childrenFrom, leavesIn, broodOf, asideOf, grown, recOf, Stands, Gives, Does, Reached, handOn}
 use Rattle.coverer.proofs.Memory.{words-past, past-later}
-use Rattle.coverer.proofs.Stands.{pop-past, queue-length, raw-length, sets-aside, aside-in, aside-le, does-as}
+use Rattle.coverer.proofs.Stands.{rest-past, queue-length, raw-length, sets-aside, aside-in, aside-le, does-as}
 use Rattle.coverer.proofs.Adds.{below, full-is, low-leaves}
 
 brood-list : (r : Rec) (n : ℕ) → childrenFrom (broodOf n r) 0 ≡ childrenIn (descend (r .id) n) (2 ^ (2 * n)) (r .present) (r .terminal) 0
@@ -151,28 +151,29 @@ module _ (T : Task) (D : Domain (T .asked)) where
     pub brood-leaves : (t u : Counts) → u ≡ asideOf (T .asked .inner) t ((b .places - k) * b .unit) → u .aside + leavesIn (childrenFrom b 0) ≤ t .aside + leavesOf (r .id)
     brood-leaves t u e = rw (e, brood-children) (under-leaves (r .id) (B .queued) t ((b .places - k) * b .unit) brood-failed)
 
-    pub hands : (m₁ : List ℕ) (t u : Counts) (m₂ : List ℕ) (a : Turn) → u ≡ asideOf (T .asked .inner) t ((b .places - k) * b .unit)
-        → Does T (λ i. addAll (byCost T) i (childrenFrom b 0)) m₁ u m₂ a → Does T (λ i. handOn T (grown i (r .id))) m₁ t m₂ a
+    pub hands : (w : Setup) (m₁ : List ℕ) (t u : Counts) (m₂ : List ℕ) (a : Turn) → u ≡ asideOf (T .asked .inner) t ((b .places - k) * b .unit)
+        → Does w T (λ i. addAll (byCost T) i (childrenFrom b 0)) m₁ u m₂ a → Does w T (λ i. handOn T (grown i (r .id))) m₁ t m₂ a
     unfolding handOn
-    hands m₁ t u m₂ a e d = record {
+    hands w m₁ t u m₂ a e d = record {
       gives = λ i s S.
           let s₁ : State = setAside (T .asked) i (expansionOf T (r .id) .failed) s in
-          let S₁ : Stands T m₁ u s₁ = rw e (sets-aside T m₁ t ((b .places - k) * b .unit) i (expansionOf T (r .id) .failed) s brood-failed S) in
-          subst (λ (l : List Child). Gives T m₂ a (addAll (byCost T) i l s₁)) brood-children (d .gives i s₁ S₁);
+          let S₁ : Stands w T m₁ u s₁ = rw e (sets-aside w T m₁ t ((b .places - k) * b .unit) i (expansionOf T (r .id) .failed) s brood-failed S) in
+          subst (λ (l : List Child). Gives w T m₂ a (addAll (byCost T) i l s₁)) brood-children (d .gives i s₁ S₁);
       frame = d .frame;
     }
 
+module _ (w : Setup) (T : Task) (D : Domain (T .asked)) where
   -- ---- what is done with a taken record
 
   module _ (m : List ℕ) (t : Counts) (long : memoryWords ≤ length m) (f : Bool) (ef : f ≡ (T .asked .inner && leb (maxCells (T .asked)) (t .kept))) where
     pub taken-full : (id : ℕ) → f ≡ true
-        → Does T (λ i. stepWith (byCost T) (grown i id)) m t m (Turn.Going (record { kept = t .kept; queued = 0; aside = t .aside; steps = t .steps }))
+        → Does w T (λ i. stepWith (byCost T) (grown i id)) m t m (Turn.Going (record { kept = t .kept; queued = 0; aside = t .aside; steps = t .steps }))
     unfolding Gives stepWith rawIds asideTotal
     taken-full id e = record {
       gives = λ i s S. (
         record { raw = s .raw; queue = []; aside = s .aside; steps = s .steps },
-        rw (full-is T D m t s f long S ef ∙ e, stepWith),
-        record { queue = in-queue (ruleOf T) .none m; raw = S .raw; few = omega arith; room = S .room; aside = S .aside; steps = S .steps },
+        rw (full-is w T D m t s f long S ef ∙ e, stepWith),
+        record { queue = in-queue w .none m; raw = S .raw; few = omega arith; room = S .room; aside = S .aside; steps = S .steps },
       );
       frame = refl;
     }
@@ -183,26 +184,23 @@ module _ (T : Task) (D : Domain (T .asked)) where
       unfolding expansionOf
       count-children = sym (ek ∙ ap (λ (x : Rec). ones (x .present)) sets ∙ found-counted T (depth (T .asked) (r .id)) (r .id) .present)
 
-      hands-is : (i : ℕ) (s : State) → Stands T m t s → isHandedOn T (grown i (r .id)) s ≡ h
+      hands-is : (i : ℕ) (s : State) → Stands w T m t s → isHandedOn T (grown i (r .id)) s ≡ h
       unfolding isHandedOn
-      hands-is i s S = rw (count-children, raw-length T long S, queue-length T S) (sym eh)
+      hands-is i s S = rw (count-children, raw-length w T long S, queue-length w T S) (sym eh)
 
-      pub taken-handed : (m′ : List ℕ) (a : Turn) → h ≡ true → Does T (λ i. handOn T (grown i (r .id))) m t m′ a
-          → Does T (λ i. stepWith (byCost T) (grown i (r .id))) m t m′ a
+      pub taken-handed : (m′ : List ℕ) (a : Turn) → h ≡ true → Does w T (λ i. handOn T (grown i (r .id))) m t m′ a
+          → Does w T (λ i. stepWith (byCost T) (grown i (r .id))) m t m′ a
       unfolding stepWith handOn
-      taken-handed m′ a e = does-as T (λ i. handOn T (grown i (r .id))) (λ i. stepWith (byCost T) (grown i (r .id))) m t m′ a
-          (λ i s S. rw (full-is T D m t s f long S ef ∙ still, stepWith, hands-is i s S ∙ e))
+      taken-handed m′ a e = does-as w T (λ i. handOn T (grown i (r .id))) (λ i. stepWith (byCost T) (grown i (r .id))) m t m′ a
+          (λ i s S. rw (full-is w T D m t s f long S ef ∙ still, stepWith, hands-is i s S ∙ e))
 
-      pub taken-kept : (m′ : List ℕ) (a : Turn) → h ≡ false → Does T (λ i. keep (grown i (r .id))) m t m′ a
-          → Does T (λ i. stepWith (byCost T) (grown i (r .id))) m t m′ a
+      pub taken-kept : (m′ : List ℕ) (a : Turn) → h ≡ false → Does w T (λ i. keep (grown i (r .id))) m t m′ a
+          → Does w T (λ i. stepWith (byCost T) (grown i (r .id))) m t m′ a
       unfolding stepWith
-      taken-kept m′ a e = does-as T (λ i. keep (grown i (r .id))) (λ i. stepWith (byCost T) (grown i (r .id))) m t m′ a
-          (λ i s S. rw (full-is T D m t s f long S ef ∙ still, stepWith, hands-is i s S ∙ e))
+      taken-kept m′ a e = does-as w T (λ i. keep (grown i (r .id))) (λ i. stepWith (byCost T) (grown i (r .id))) m t m′ a
+          (λ i s S. rw (full-is w T D m t s f long S ef ∙ still, stepWith, hands-is i s S ∙ e))
 
   -- ---- the least is taken
-
-  abbrev w : Rule
-  w = ruleOf T
 
   -- the counts without the taken record, one step on
   abbrev pub stepped : Counts → Counts
@@ -212,10 +210,10 @@ module _ (T : Task) (D : Domain (T .asked)) where
     first : Grown
     rest : List Grown
     queue : s .queue ≡ first ∷ rest
-    least : nextR m (t .queued - 1) ≡ recOf T first
-    stands : Stands T (popR w m (t .queued - 1)) (stepped t) (record { raw = s .raw; queue = rest; aside = s .aside; steps = suc (s .steps) })
+    least : nextR w m (t .queued - 1) ≡ recOf T first
+    stands : Stands w T (restR w m (t .queued - 1)) (stepped t) (record { raw = s .raw; queue = rest; aside = s .aside; steps = suc (s .steps) })
 
-  popped : (m : List ℕ) (t : Counts) (s : State) → memoryWords ≤ length m → 0 < t .queued → Stands T m t s → Popped m t s
+  popped : (m : List ℕ) (t : Counts) (s : State) → memoryWords ≤ length m → 0 < t .queued → Stands w T m t s → Popped m t s
   unfolding rawIds asideTotal
   popped m t s long some S = go (s .queue) refl
     where
@@ -223,7 +221,7 @@ module _ (T : Task) (D : Domain (T .asked)) where
       few = S .few
 
       go : (x : List Grown) → s .queue ≡ x → Popped m t s
-      go [] e = absurd (omega (arith, queue-length T S, ap length e))
+      go [] e = absurd (omega (arith, queue-length w T S, ap length e))
       go (c ∷ l) e =
           let z : t .queued ≡ suc (t .queued - 1) = omega arith in
           let P = in-queue w .less m (t .queued - 1) (recOf T c) (map (recOf T) l) (omega arith) (rw (z, e) at (S .queue)) in
@@ -234,7 +232,7 @@ module _ (T : Task) (D : Domain (T .asked)) where
             least = P .0;
             stands = record {
               queue = P .1;
-              raw = words-past queueWords (t .kept) m _ (pop-past w queueMost queueWords m (t .queued - 1) (omega arith) refl) ∙ S .raw;
+              raw = words-past queueWords (t .kept) m _ (rest-past w queueMost queueWords m (t .queued - 1) (omega arith) refl) ∙ S .raw;
               few = omega arith;
               room = S .room;
               aside = S .aside;
@@ -259,7 +257,7 @@ module _ (T : Task) (D : Domain (T .asked)) where
     pub sets : r ≡ recOf T (grown 0 (r .id))
     pub room : t .aside + leavesOf (r .id) < 2 ^ 64
 
-  pub takes : (m : List ℕ) (t : Counts) (r : Rec) (s : State) → memoryWords ≤ length m → 0 < t .queued → r ≡ nextR m (t .queued - 1) → Reached T s → Stands T m t s → Takes m t r
+  pub takes : (m : List ℕ) (t : Counts) (r : Rec) (s : State) → memoryWords ≤ length m → 0 < t .queued → r ≡ nextR w m (t .queued - 1) → Reached T s → Stands w T m t s → Takes m t r
   takes m t r s long some er R S =
       let P = popped m t s long some S in
       let c = P .first in
@@ -275,20 +273,18 @@ module _ (T : Task) (D : Domain (T .asked)) where
         room = omega (arith, S .aside, F .1, ap leavesOf i);
       }
 
-  pub steps : (m : List ℕ) (t : Counts) (v : Rule) (r : Rec) (m₁ m₂ : List ℕ) (a : Turn) → memoryWords ≤ length m → 0 < t .queued → t .queued ≤ queueMost → v ≡ w → r ≡ nextR m (t .queued - 1) → m₁ ≡ popR v m (t .queued - 1)
-      → Does T (λ i. stepWith (byCost T) (grown i (r .id))) m₁ (stepped t) m₂ a → Does T (λ i. step (byCost T)) m t m₂ a
+  pub steps : (m : List ℕ) (t : Counts) (r : Rec) (m₁ m₂ : List ℕ) (a : Turn) → memoryWords ≤ length m → 0 < t .queued → t .queued ≤ queueMost → r ≡ nextR w m (t .queued - 1) → m₁ ≡ restR w m (t .queued - 1)
+      → Does w T (λ i. stepWith (byCost T) (grown i (r .id))) m₁ (stepped t) m₂ a → Does w T (λ i. step (byCost T)) m t m₂ a
   unfolding step stepOn
-  steps m t v r m₁ m₂ a long some few ev er em d =
-      let p : m₁ ≡ popR w m (t .queued - 1) = em ∙ ap (λ (x : Rule). popR x m (t .queued - 1)) ev in
-      record {
-        gives = λ i s S.
-            let P = popped m t s long some S in
-            let c = P .first in
-            let s₁ : State = record { raw = s .raw; queue = P .rest; aside = s .aside; steps = suc (s .steps) } in
-            let e : r .id ≡ c .id = ap (λ (x : Rec). x .id) (er ∙ P .least) in
-            let g : Gives T m₂ a (stepWith (byCost T) (grown (c .from) (r .id)) s₁) = d .gives (c .from) s₁ (rw p (P .stands)) in
-            let o : stepOn (byCost T) (s .queue) s ≡ stepWith (byCost T) (grown (c .from) (r .id)) s₁ =
-            ap (λ (x : List Grown). stepOn (byCost T) x s) (P .queue) ∙ ap (λ (x : ℕ). stepWith (byCost T) (grown (c .from) x) s₁) (sym e) in
-            subst (Gives T m₂ a) (sym o) g;
-        frame = d .frame ∙ ap (past memoryWords) p ∙ past-later queueWords memoryWords m _ (omega arith) (pop-past w queueMost queueWords m (t .queued - 1) (omega arith) refl);
-      }
+  steps m t r m₁ m₂ a long some few er p d = record {
+    gives = λ i s S.
+        let P = popped m t s long some S in
+        let c = P .first in
+        let s₁ : State = record { raw = s .raw; queue = P .rest; aside = s .aside; steps = suc (s .steps) } in
+        let e : r .id ≡ c .id = ap (λ (x : Rec). x .id) (er ∙ P .least) in
+        let g : Gives w T m₂ a (stepWith (byCost T) (grown (c .from) (r .id)) s₁) = d .gives (c .from) s₁ (rw p (P .stands)) in
+        let o : stepOn (byCost T) (s .queue) s ≡ stepWith (byCost T) (grown (c .from) (r .id)) s₁ =
+        ap (λ (x : List Grown). stepOn (byCost T) x s) (P .queue) ∙ ap (λ (x : ℕ). stepWith (byCost T) (grown (c .from) x) s₁) (sym e) in
+        subst (Gives w T m₂ a) (sym o) g;
+    frame = d .frame ∙ ap (past memoryWords) p ∙ past-later queueWords memoryWords m _ (omega arith) (rest-past w queueMost queueWords m (t .queued - 1) (omega arith) refl);
+  }

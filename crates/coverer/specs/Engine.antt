@@ -1,22 +1,23 @@
 -- Private contracts only; nothing here need be believed: what the engine promises is in specs/Coverer.
 -- How the working memory and the engine's counts stand for a state of the defined run, and what each part of the engine does in these words: whatever state
 -- the memory stands for before, it stands for the defined next one afterwards. The start cells' places, `from`, are in no word of the memory: each statement
--- holds for every place i. Of the queue no more is said than that it is `InQueue`.
+-- holds for every place i. Of the queue no more is said than that it is `InQueue`, for the setup w that it has.
 use mathlib.Core.Path.{_≡_}
 use mathlib.Core.Bool.{Bool, true, false}
-use mathlib.Core.List.{List, [], map}
-use Prim.Native.Nat.{ℕ, _+_, _-_, _*_, _/_, _%_, _^_, _≤_}
+use mathlib.Core.List.{List, [], _∷_, map}
+use Prim.Native.Nat.{ℕ, zero, suc, _+_, _-_, _*_, _/_, _%_, _^_, _≤_}
 use lib.Dec.{eqb}
 use lib.ListN.{length, take, drop}
 use Rattle.cellid.specs.CellId.{lowBit, leavesOf}
 use Rattle.order.specs.Order.{All}
 use Rattle.region.specs.Region.{Area}
 use Rattle.run.specs.declared.Request.{Request}
-use Rattle.run.specs.Run.{queueMost, rawMost, Task, Grown, Child, State, Outcome, refused, going, full, depth, sumOf, look, expansionOf, setAside, addAll, startAs, after, rawIds, asideTotal, queueWords, memoryWords, byCost}
+use Rattle.run.specs.Run.{queueMost, rawMost, Task, Course, Grown, Child, State, Outcome, refused, going, then, full, depth, sumOf, look, expansionOf, setAside, addAll, step, startAs, after, rawIds, asideTotal, queueWords, memoryWords, byCost}
 use Rattle.run.specs.Masks.{found, consIf, childrenIn}
 use Rattle.run.specs.Ground.{Fit}
-use Rattle.queue.specs.declared.Rec.{Rec}
-use Rattle.queue.specs.declared.Rule.{Rule}
+use Rattle.records.specs.declared.Rec.{Rec}
+use Rattle.records.specs.Records.{costR}
+use Rattle.queue.specs.declared.Setup.{Setup}
 use Rattle.queue.specs.Queue.{InQueue}
 use Rattle.candidate.specs.Candidate.{taskOf, Asks}
 use Rattle.coverer.specs.declared.Counts.{Counts}
@@ -68,22 +69,50 @@ asideOf false t n = record { kept = t .kept; queued = t .queued; aside = t .asid
 abbrev pub grown : ℕ → ℕ → Grown
 grown i id = record { from = i; id = id }
 
+-- records as they are listed: each one's id followed by its cost
+unfoldable pub listed : ℕ → List Rec → List ℕ
+listed full [] = []
+listed full (r ∷ l) = r .id ∷ costR full r ∷ listed full l
+
 -- a set-aside total of at most n
 unfoldable pub AsideUpTo : ℕ → Turn → Type 0
 AsideUpTo n (Turn.Refused k) = Unit
 AsideUpTo n (Turn.Going t) = t .aside ≤ n
 
 module _ (T : Task) where
-  abbrev pub ruleOf : Rule
-  ruleOf = record { full = full (T .asked) }
-
   -- a queued cell's record: the cell and the two sets of its expansion
   abbrev pub recOf : Grown → Rec
   recOf c = record { id = c .id; present = found T (depth (T .asked) (c .id)) (c .id) .present; terminal = found T (depth (T .asked) (c .id)) (c .id) .terminal }
 
+  -- a state that the defined run reaches
+  pub record Reached (s : State) : Type 0 where
+    pub starts : List ℕ
+    pub fit : All (Fit (T .asked)) starts
+    pub six : length starts ≤ 6
+    pub steps : ℕ
+    pub is : after (byCost T) starts steps ≡ going s
+
+  -- the taken cell handed on to its children: what failed is set aside, then the children are added
+  unfoldable pub handOn : Grown → State → Outcome
+  handOn c s = addAll (byCost T) (c .from) (expansionOf T (c .id) .children) (setAside (T .asked) (c .from) (expansionOf T (c .id) .failed) s)
+
+  -- a start cell, by what the look at it says
+  abbrev pub startOne : Grown → State → Outcome
+  startOne c = startAs (byCost T) (look T (c .id)) c
+
+-- n steps on from a state; with an empty queue there is no step
+unfoldable pub onward : Course → ℕ → State → Outcome
+onward C zero s = going s
+onward C (suc n) s = then (step C s) (onward C n)
+
+-- the queue goes by the rule for what is asked
+abbrev pub RuledBy : Request → Setup → Type 0
+RuledBy q w = w .rule .full ≡ full q
+
+module _ (w : Setup) (T : Task) where
   -- the memory m and the counts t stand for the state s
   pub record Stands (m : List ℕ) (t : Counts) (s : State) : Type 0 where
-    pub queue : InQueue ruleOf m (t .queued) (map recOf (s .queue))
+    pub queue : InQueue w m (t .queued) (map (recOf T) (s .queue))
     pub raw : wordsAt queueWords (t .kept) m ≡ rawIds s
     pub few : t .queued ≤ queueMost
     pub room : t .kept ≤ rawMost
@@ -105,27 +134,11 @@ module _ (T : Task) where
     pub gives : Gives m′ r o
     pub frame : past memoryWords m′ ≡ past memoryWords m
 
-  -- a state that the defined run reaches
-  pub record Reached (s : State) : Type 0 where
-    pub starts : List ℕ
-    pub fit : All (Fit (T .asked)) starts
-    pub six : length starts ≤ 6
-    pub steps : ℕ
-    pub is : after (byCost T) starts steps ≡ going s
-
-  -- the taken cell handed on to its children: what failed is set aside, then the children are added
-  unfoldable pub handOn : Grown → State → Outcome
-  handOn c s = addAll (byCost T) (c .from) (expansionOf T (c .id) .children) (setAside (T .asked) (c .from) (expansionOf T (c .id) .failed) s)
-
-  -- a start cell, by what the look at it says
-  abbrev pub startOne : Grown → State → Outcome
-  startOne c = startAs (byCost T) (look T (c .id)) c
-
--- what is asked, and the order's rule for it
-pub record Ready (q : Request) (a : Area) (w : Rule) : Type 0 where
+-- what is asked, and what the queue goes by for it
+pub record Ready (q : Request) (a : Area) (w : Setup) : Type 0 where
   pub asks : Asks q a
-  pub rule : w ≡ ruleOf (taskOf q a)
+  pub rule : RuledBy q w
 
 -- m and t stand for a state that the defined run reaches
-abbrev pub Live : Request → Area → List ℕ → Counts → Type 0
-Live q a m t = (s : State) × Reached (taskOf q a) s × Stands (taskOf q a) m t s
+abbrev pub Live : Setup → Request → Area → List ℕ → Counts → Type 0
+Live w q a m t = (s : State) × Reached (taskOf q a) s × Stands w (taskOf q a) m t s

@@ -1,2 +1,3 @@
 pub mod Coverer
 pub mod Engine
+pub mod Watch

@@ -1,20 +1,29 @@
 // The engine: region.rs's add_candidate, initial_candidates and covering_internal over lent memory. It follows the defined run of the crate run: each function's
 // contract says which part of the definition it does (specs/Engine).
 ghost use mathlib.Core.Path.{_≡_};
-ghost use Prim.Native.Nat.{_+_, _-_, _^_, _<_, _≤_};
+ghost use Prim.Native.Nat.{_+_, _-_, _*_, _^_, _<_, _≤_};
+ghost use mathlib.Core.List.{List};
 ghost use lib.Count.{ones};
 ghost use lib.ListN.{length, take};
 ghost use Rattle.cellid.specs.CellId.{leavesOf};
 ghost use Rattle.order.specs.Order.{All};
+ghost use Rattle.cellunion.specs.Memory.{laid};
+ghost use Rattle.records.specs.declared.Rec.{Rec};
 ghost use Rattle.region.specs.Region.{areaOf};
-ghost use Rattle.run.specs.Run.{queueMost, rawMost, Task, keep, enqueue, byId, add, addAll, stepWith, step, loop, after, memoryWords};
+ghost use Rattle.run.specs.Run.{queueMost, rawMost, Task, State, going, keep, enqueue, byId, add, addAll, stepWith, step, after, levelMod, full, queueWords, memoryWords};
 ghost use Rattle.run.specs.Ground.{Fit, ChildOk, Queued};
 ghost use Rattle.candidate.specs.Candidate.{taskOf, Asks};
-ghost use Rattle.coverer.specs.Coverer.{courseOf, outcomeOf, engineAnswer, engineMemory};
-ghost use Rattle.coverer.specs.Engine.{isIn, childIf, childrenFrom, leavesIn, broodOf, asideOf, grown, recOf, ruleOf, AsideUpTo, Does, Comes, Ready, handOn, startOne, Live};
+ghost use Rattle.queue.specs.declared.Setup.{Setup};
+ghost use Rattle.queue.specs.Queue.{InQueue};
+ghost use Rattle.coverer.specs.declared.Ran.{Ran};
+ghost use Rattle.coverer.specs.Coverer.{cleared, courseOf, outcomeOf, engineAnswer, engineMemory};
+ghost use Rattle.coverer.specs.Watch.{seenOf, seenOver};
+ghost use Rattle.coverer.specs.Engine.{wordsAt, past, listed, isIn, childIf, childrenFrom, leavesIn, broodOf, asideOf, grown, recOf, RuledBy, AsideUpTo, Does, Stands, Comes, Ready, handOn, startOne, onward, Live};
 use candidate::Candidate;
-use queue::Rec;
-use queue::Rule;
+use queue::Engine;
+use queue::Setup;
+use records::Rec;
+use records::Rule;
 use region::Region;
 use run::MEMORY_WORDS;
 use run::QUEUE_MOST;
@@ -55,10 +64,21 @@ pub enum Ran {
     },
 }
 
+// What was seen of a run: refused with its number; or how many cells are kept and queued, the steps taken and the leaves set aside.
+pub enum Seen {
+    Refused(u64),
+    Standing {
+        kept: usize,
+        queued: usize,
+        steps: u32,
+        aside: u64,
+    },
+}
+
 // Keeps a cell: refused with 8 where the raw list is full.
 fn keep(m: &mut [u64], t: Counts, id: u64) -> Turn
     requires { ⌜ memoryWords ≤ length (now m) ⌝ }
-    ensures { λ r. ⌜ ((T : Task) → Does T (λ i. keep (grown i id)) (now (m .entry)) t (now (m .exit)) r) ⌝ }
+    ensures { λ r. ⌜ ((w : Setup) (T : Task) → Does w T (λ i. keep (grown i id)) (now (m .entry)) t (now (m .exit)) r) ⌝ }
     ensures { λ r. ⌜ AsideUpTo (t .aside) r ⌝ }
 {
     if t.kept < RAW_MOST {
@@ -76,15 +96,15 @@ fn keep(m: &mut [u64], t: Counts, id: u64) -> Turn
 }
 
 // Queues a record: refused with 7 where the queue is full.
-fn enqueue(m: &mut [u64], t: Counts, w: Rule, r: Rec) -> Turn
+fn enqueue(m: &mut [u64], t: Counts, w: Setup, r: Rec) -> Turn
     requires { ⌜ memoryWords ≤ length (now m) ⌝ }
-    requires { ⌜ w .full ≤ 64 ⌝ }
-    ensures { λ a. ⌜ ((T : Task) → w ≡ ruleOf T → r ≡ recOf T (grown 0 (r .id)) → Does T (λ i. enqueue (byId T) (grown i (r .id))) (now (m .entry)) t (now (m .exit)) a) ⌝ }
+    requires { ⌜ w .rule .full ≤ 64 ⌝ }
+    ensures { λ a. ⌜ ((T : Task) → RuledBy (T .asked) w → r ≡ recOf T (grown 0 (r .id)) → Does w T (λ i. enqueue (byId T) (grown i (r .id))) (now (m .entry)) t (now (m .exit)) a) ⌝ }
     ensures { λ a. ⌜ AsideUpTo (t .aside) a ⌝ }
 {
     if t.queued < QUEUE_MOST {
         let n = t.queued;
-        queue::push(m, n, r, w);
+        queue::add(m, n, r, w);
         Turn::Going(Counts {
             kept: t.kept,
             queued: n + 1,
@@ -119,7 +139,7 @@ fn add_candidate(
     q: Request,
     g: Region,
     list: &[u64],
-    w: Rule,
+    w: Setup,
     id: u64,
     terminal: bool,
 ) -> Turn
@@ -127,7 +147,7 @@ fn add_candidate(
     requires { ⌜ Ready q (areaOf g (now list)) w ⌝ }
     requires { ⌜ ChildOk (taskOf q (areaOf g (now list))) (record { id = id; ends = terminal }) ⌝ }
     requires { ⌜ t .aside + leavesOf id < 2 ^ 64 ⌝ }
-    ensures { λ r. ⌜ Does (taskOf q (areaOf g (now (list .entry)))) (λ i. add (courseOf q (areaOf g (now (list .entry)))) (grown i id) terminal) (now (m .entry)) t (now (m .exit)) r ⌝ }
+    ensures { λ r. ⌜ Does w (taskOf q (areaOf g (now (list .entry)))) (λ i. add (courseOf q (areaOf g (now (list .entry)))) (grown i id) terminal) (now (m .entry)) t (now (m .exit)) r ⌝ }
     ensures { λ r. ⌜ AsideUpTo (t .aside + leavesOf id) r ⌝ }
 {
     if terminal {
@@ -137,7 +157,7 @@ fn add_candidate(
     if f.present == 0 {
         return Turn::Going(set_aside(q, t, cellid::lsb(id)));
     }
-    if decide::lifts(q, w, id, f.terminal) {
+    if decide::lifts(q, w.rule.full, id, f.terminal) {
         return keep(m, t, id);
     }
     enqueue(
@@ -167,7 +187,7 @@ fn add_child(
     q: Request,
     g: Region,
     list: &[u64],
-    w: Rule,
+    w: Setup,
     b: Brood,
     j: u64,
 ) -> Turn
@@ -176,7 +196,7 @@ fn add_child(
     requires { ⌜ j < 64 ⌝ }
     requires { ⌜ All (ChildOk (taskOf q (areaOf g (now list)))) (childIf b j) ⌝ }
     requires { ⌜ t .aside + leavesIn (childIf b j) < 2 ^ 64 ⌝ }
-    ensures { λ r. ⌜ Does (taskOf q (areaOf g (now (list .entry)))) (λ i. addAll (courseOf q (areaOf g (now (list .entry)))) i (childIf b j)) (now (m .entry)) t (now (m .exit)) r ⌝ }
+    ensures { λ r. ⌜ Does w (taskOf q (areaOf g (now (list .entry)))) (λ i. addAll (courseOf q (areaOf g (now (list .entry)))) i (childIf b j)) (now (m .entry)) t (now (m .exit)) r ⌝ }
     ensures { λ r. ⌜ AsideUpTo (t .aside + leavesIn (childIf b j)) r ⌝ }
 {
     if is_in(b.present, j) {
@@ -198,7 +218,7 @@ fn add_children(
     q: Request,
     g: Region,
     list: &[u64],
-    w: Rule,
+    w: Setup,
     b: Brood,
 ) -> Turn
     requires { ⌜ memoryWords ≤ length (now m) ⌝ }
@@ -206,7 +226,7 @@ fn add_children(
     requires { ⌜ b .places ≤ 64 ⌝ }
     requires { ⌜ All (ChildOk (taskOf q (areaOf g (now list)))) (childrenFrom b 0) ⌝ }
     requires { ⌜ s .aside + leavesIn (childrenFrom b 0) < 2 ^ 64 ⌝ }
-    ensures { λ r. ⌜ Does (taskOf q (areaOf g (now (list .entry)))) (λ i. addAll (courseOf q (areaOf g (now (list .entry)))) i (childrenFrom b 0)) (now (m .entry)) s (now (m .exit)) r ⌝ }
+    ensures { λ r. ⌜ Does w (taskOf q (areaOf g (now (list .entry)))) (λ i. addAll (courseOf q (areaOf g (now (list .entry)))) i (childrenFrom b 0)) (now (m .entry)) s (now (m .exit)) r ⌝ }
 {
     let places = b.places;
     let mut t = s;
@@ -250,7 +270,7 @@ fn hand_on(
     q: Request,
     g: Region,
     list: &[u64],
-    w: Rule,
+    w: Setup,
     r: Rec,
     children: u64,
 ) -> Turn
@@ -259,7 +279,7 @@ fn hand_on(
     requires { ⌜ Queued (taskOf q (areaOf g (now list))) (r .id) × (r ≡ recOf (taskOf q (areaOf g (now list))) (grown 0 (r .id))) ⌝ }
     requires { ⌜ children ≡ ones (r .present) ⌝ }
     requires { ⌜ t .aside + leavesOf (r .id) < 2 ^ 64 ⌝ }
-    ensures { λ a. ⌜ Does (taskOf q (areaOf g (now (list .entry)))) (λ i. handOn (taskOf q (areaOf g (now (list .entry)))) (grown i (r .id))) (now (m .entry)) t (now (m .exit)) a ⌝ }
+    ensures { λ a. ⌜ Does w (taskOf q (areaOf g (now (list .entry)))) (λ i. handOn (taskOf q (areaOf g (now (list .entry)))) (grown i (r .id))) (now (m .entry)) t (now (m .exit)) a ⌝ }
 {
     let b = cells_under(r, decide::levels_under(q, r.id));
     let failed = (b.places - children) * b.unit;
@@ -267,13 +287,21 @@ fn hand_on(
 }
 
 // What is done with a taken record.
-fn use_taken(m: &mut [u64], t: Counts, q: Request, g: Region, list: &[u64], w: Rule, r: Rec) -> Turn
+fn use_taken(
+    m: &mut [u64],
+    t: Counts,
+    q: Request,
+    g: Region,
+    list: &[u64],
+    w: Setup,
+    r: Rec,
+) -> Turn
     requires { ⌜ memoryWords ≤ length (now m) ⌝ }
     requires { ⌜ Ready q (areaOf g (now list)) w ⌝ }
     requires { ⌜ (t .kept ≤ rawMost) × (t .queued ≤ queueMost) ⌝ }
     requires { ⌜ Queued (taskOf q (areaOf g (now list))) (r .id) × (r ≡ recOf (taskOf q (areaOf g (now list))) (grown 0 (r .id))) ⌝ }
     requires { ⌜ t .aside + leavesOf (r .id) < 2 ^ 64 ⌝ }
-    ensures { λ a. ⌜ Does (taskOf q (areaOf g (now (list .entry)))) (λ i. stepWith (courseOf q (areaOf g (now (list .entry)))) (grown i (r .id))) (now (m .entry)) t (now (m .exit)) a ⌝ }
+    ensures { λ a. ⌜ Does w (taskOf q (areaOf g (now (list .entry)))) (λ i. stepWith (courseOf q (areaOf g (now (list .entry)))) (grown i (r .id))) (now (m .entry)) t (now (m .exit)) a ⌝ }
 {
     if decide::is_full(q, t.kept) {
         return Turn::Going(Counts {
@@ -283,7 +311,7 @@ fn use_taken(m: &mut [u64], t: Counts, q: Request, g: Region, list: &[u64], w: R
             steps: t.steps,
         });
     }
-    let children = queue::count(r.present);
+    let children = records::count(r.present);
     if decide::is_handed_on(q, t.kept, t.queued, r.id, children) {
         hand_on(m, t, q, g, list, w, r, children)
     } else {
@@ -292,15 +320,15 @@ fn use_taken(m: &mut [u64], t: Counts, q: Request, g: Region, list: &[u64], w: R
 }
 
 // One step: takes the least of the queue.
-fn step(m: &mut [u64], t: Counts, q: Request, g: Region, list: &[u64], w: Rule) -> Turn
+fn step(m: &mut [u64], t: Counts, q: Request, g: Region, list: &[u64], w: Setup) -> Turn
     requires { ⌜ memoryWords ≤ length (now m) ⌝ }
     requires { ⌜ Ready q (areaOf g (now list)) w ⌝ }
-    requires { ⌜ Live q (areaOf g (now list)) (now m) t ⌝ }
+    requires { ⌜ Live w q (areaOf g (now list)) (now m) t ⌝ }
     requires { ⌜ (0 < t .queued) × (t .steps + 1 < 2 ^ 32) ⌝ }
-    ensures { λ a. ⌜ Does (taskOf q (areaOf g (now (list .entry)))) (λ i. step (courseOf q (areaOf g (now (list .entry))))) (now (m .entry)) t (now (m .exit)) a ⌝ }
+    ensures { λ a. ⌜ Does w (taskOf q (areaOf g (now (list .entry)))) (λ i. step (courseOf q (areaOf g (now (list .entry))))) (now (m .entry)) t (now (m .exit)) a ⌝ }
 {
     let n = t.queued - 1;
-    let r = queue::pop(m, n, w);
+    let r = queue::take(m, n, w);
     use_taken(
         m,
         Counts {
@@ -318,12 +346,12 @@ fn step(m: &mut [u64], t: Counts, q: Request, g: Region, list: &[u64], w: Rule) 
 }
 
 // A start cell: added if it is a candidate. One that fails is set aside.
-fn start(m: &mut [u64], t: Counts, q: Request, g: Region, list: &[u64], w: Rule, id: u64) -> Turn
+fn start(m: &mut [u64], t: Counts, q: Request, g: Region, list: &[u64], w: Setup, id: u64) -> Turn
     requires { ⌜ memoryWords ≤ length (now m) ⌝ }
     requires { ⌜ Ready q (areaOf g (now list)) w ⌝ }
     requires { ⌜ Fit q id ⌝ }
     requires { ⌜ t .aside + leavesOf id < 2 ^ 64 ⌝ }
-    ensures { λ r. ⌜ Does (taskOf q (areaOf g (now (list .entry)))) (λ i. startOne (taskOf q (areaOf g (now (list .entry)))) (grown i id)) (now (m .entry)) t (now (m .exit)) r ⌝ }
+    ensures { λ r. ⌜ Does w (taskOf q (areaOf g (now (list .entry)))) (λ i. startOne (taskOf q (areaOf g (now (list .entry)))) (grown i id)) (now (m .entry)) t (now (m .exit)) r ⌝ }
     ensures { λ r. ⌜ AsideUpTo (t .aside + leavesOf id) r ⌝ }
 {
     let c = candidate::new_candidate(q, g, list, id);
@@ -340,7 +368,7 @@ fn initial_candidates(
     q: Request,
     g: Region,
     list: &[u64],
-    w: Rule,
+    w: Setup,
     ids: [u64; 6],
     count: usize,
 ) -> Turn
@@ -348,7 +376,7 @@ fn initial_candidates(
     requires { ⌜ Ready q (areaOf g (now list)) w ⌝ }
     requires { ⌜ count ≤ 6 ⌝ }
     requires { ⌜ All (Fit q) (take count ids) ⌝ }
-    ensures { λ r. ⌜ Comes (taskOf q (areaOf g (now (list .entry)))) (after (courseOf q (areaOf g (now (list .entry)))) (take count ids) 0) (now (m .entry)) (now (m .exit)) r ⌝ }
+    ensures { λ r. ⌜ Comes w (taskOf q (areaOf g (now (list .entry)))) (after (courseOf q (areaOf g (now (list .entry)))) (take count ids) 0) (now (m .entry)) (now (m .exit)) r ⌝ }
 {
     let mut t = Counts {
         kept: 0,
@@ -372,26 +400,26 @@ fn initial_candidates(
     Turn::Going(t)
 }
 
-// Step after step until the queue is empty: refused with 9 where the allowance is used up before.
+// Step after step until the queue is empty or the allowance is used up.
 fn proceed(
     m: &mut [u64],
     s: Counts,
     q: Request,
     g: Region,
     list: &[u64],
-    w: Rule,
+    w: Setup,
     allowance: u32,
 ) -> Turn
     requires { ⌜ memoryWords ≤ length (now m) ⌝ }
     requires { ⌜ Ready q (areaOf g (now list)) w ⌝ }
-    requires { ⌜ Live q (areaOf g (now list)) (now m) s ⌝ }
+    requires { ⌜ Live w q (areaOf g (now list)) (now m) s ⌝ }
     requires { ⌜ s .steps ≤ allowance ⌝ }
-    ensures { λ r. ⌜ Does (taskOf q (areaOf g (now (list .entry)))) (λ i. loop (courseOf q (areaOf g (now (list .entry)))) (allowance - s .steps)) (now (m .entry)) s (now (m .exit)) r ⌝ }
+    ensures { λ r. ⌜ Does w (taskOf q (areaOf g (now (list .entry)))) (λ i. onward (courseOf q (areaOf g (now (list .entry)))) (allowance - s .steps)) (now (m .entry)) s (now (m .exit)) r ⌝ }
 {
     let mut t = s;
     while 0 < t.queued {
         if t.steps == allowance {
-            return Turn::Refused(9);
+            return Turn::Going(t);
         }
         let r = step(m, t, q, g, list, w);
         match r {
@@ -406,13 +434,13 @@ fn proceed(
     Turn::Going(t)
 }
 
-// The start cells, then the steps.
+// The start cells, then the steps that are allowed.
 fn covering_internal(
     m: &mut [u64],
     q: Request,
     g: Region,
     list: &[u64],
-    w: Rule,
+    w: Setup,
     ids: [u64; 6],
     count: usize,
     allowance: u32,
@@ -421,7 +449,7 @@ fn covering_internal(
     requires { ⌜ Ready q (areaOf g (now list)) w ⌝ }
     requires { ⌜ count ≤ 6 ⌝ }
     requires { ⌜ All (Fit q) (take count ids) ⌝ }
-    ensures { λ r. ⌜ Comes (taskOf q (areaOf g (now (list .entry)))) (outcomeOf q (areaOf g (now (list .entry))) (take count ids) allowance) (now (m .entry)) (now (m .exit)) r ⌝ }
+    ensures { λ r. ⌜ Comes w (taskOf q (areaOf g (now (list .entry)))) (after (courseOf q (areaOf g (now (list .entry)))) (take count ids) allowance) (now (m .entry)) (now (m .exit)) r ⌝ }
 {
     let r = initial_candidates(m, q, g, list, w, ids, count);
     match r {
@@ -430,9 +458,45 @@ fn covering_internal(
     }
 }
 
-// The whole run, region.rs's covering_internal. Refused with 7, 8 or 9 as the run meets them; else the count, the steps and the set-aside total, and the kept
-// ids in the memory behind the queue's words, in the order kept. A step costs what its children's expansions cost, and a queue move for each.
+// What the queue goes by for a request.
+fn setup_of(engine: Engine, q: Request) -> Setup
+    requires { ⌜ levelMod q ≤ 3 ⌝ }
+    ensures { λ w. ⌜ w ≡ record { rule = record { full = full q }; engine = engine } ⌝ }
+{
+    let rule = Rule {
+        full: 1 << (2 * q.coverer.level_mod),
+    };
+    Setup { rule, engine }
+}
+
+// The words of a run become zero, and the refusal is passed on.
+fn refuse(mem: &mut [u64], number: u64) -> Ran
+    requires { ⌜ memoryWords ≤ length (now mem) ⌝ }
+    ensures { λ r. ⌜ (r ≡ Ran.Refused number) × (now (mem .exit) ≡ cleared 0 memoryWords (now (mem .entry))) ⌝ }
+{
+    cellunion::clear(mem, 0, MEMORY_WORDS);
+    Ran::Refused(number)
+}
+
+// Of the words of a run only the kept ids are left; the others become zero.
+fn finish(mem: &mut [u64], t: Counts) -> Ran
+    requires { ⌜ (memoryWords ≤ length (now mem)) × (t .kept ≤ rawMost) ⌝ }
+    ensures { λ r. ⌜ (r ≡ Ran.Done (t .kept) (t .steps) (t .aside)) × (now (mem .exit) ≡ cleared (queueWords + t .kept) memoryWords (cleared 0 queueWords (now (mem .entry)))) ⌝ }
+{
+    let end = QUEUE_WORDS + t.kept;
+    cellunion::clear(mem, 0, QUEUE_WORDS);
+    cellunion::clear(mem, end, MEMORY_WORDS);
+    Ran::Done {
+        count: t.kept,
+        steps: t.steps,
+        aside: t.aside,
+    }
+}
+
+// The whole run, region.rs's covering_internal, by either engine. Refused with 7, 8 or 9 as the run meets them; else the count, the steps and the set-aside total,
+// and the kept ids in the memory behind the queue's words, in the order kept. A step costs what its children's expansions cost, and a queue move for each.
 pub fn run(
+    engine: Engine,
     mem: &mut [u64],
     q: Request,
     g: Region,
@@ -448,24 +512,100 @@ pub fn run(
     ensures { λ r. ⌜ r ≡ engineAnswer (outcomeOf q (areaOf g (now (list .entry))) (take count ids) allowance) ⌝ }
     ensures { λ _. ⌜ now (mem .exit) ≡ engineMemory (outcomeOf q (areaOf g (now (list .entry))) (take count ids) allowance) (now (mem .entry)) ⌝ }
 {
-    let w = Rule {
-        full: 1 << (2 * q.coverer.level_mod),
-    };
-    let r = covering_internal(mem, q, g, list, w, ids, count, allowance);
+    let r = covering_internal(mem, q, g, list, setup_of(engine, q), ids, count, allowance);
+    match r {
+        Turn::Refused(n) => refuse(mem, n),
+        Turn::Going(t) => {
+            if 0 < t.queued {
+                return refuse(mem, 9);
+            }
+            finish(mem, t)
+        }
+    }
+}
+
+// Lays the kept ids over the output's first places.
+fn lay_raw(m: &[u64], count: usize, out: &mut [u64])
+    requires { ⌜ (memoryWords ≤ length (now m)) × (count ≤ rawMost) × (count ≤ length (now out)) ⌝ }
+    ensures { λ _. ⌜ now (out .exit) ≡ laid 0 (wordsAt queueWords count (now (m .entry))) (now (out .entry)) ⌝ }
+{
+    cellunion::copy(&m[QUEUE_WORDS..], count, out);
+}
+
+// Empties a queue of n records: the id and the cost of each go to the output, from the place `at` on, the next one first.
+fn list_queue(m: &mut [u64], n: usize, w: Setup, out: &mut [u64], at: usize)
+    requires { ⌜ (memoryWords ≤ length (now m)) × (n ≤ queueMost) × (w .rule .full ≤ 64) × (at + 2 * n ≤ length (now out)) ⌝ }
+    ensures { λ _. ⌜ ((q : List Rec) → InQueue w (now (m .entry)) n q → now (out .exit) ≡ laid at (listed (w .rule .full) q) (now (out .entry))) ⌝ }
+    ensures { λ _. ⌜ past memoryWords (now (m .exit)) ≡ past memoryWords (now (m .entry)) ⌝ }
+{
+    let rule = w.rule;
+    let full = rule.full;
+    let mut left = n;
+    let mut i = at;
+    while 0 < left {
+        left -= 1;
+        let r = queue::take(m, left, w);
+        out[i] = r.id;
+        out[i + 1] = records::cost(r, full);
+        i += 2;
+    }
+}
+
+// Tells how a run stands: its kept ids and its queue over the output's first places, if these have room for all.
+fn tell(m: &mut [u64], t: Counts, w: Setup, out: &mut [u64]) -> Seen
+    requires { ⌜ (memoryWords ≤ length (now m)) × (t .kept ≤ rawMost) × (t .queued ≤ queueMost) × (w .rule .full ≤ 64) ⌝ }
+    ensures { λ r. ⌜ ((T : Task) (s : State) → RuledBy (T .asked) w → Stands w T (now (m .entry)) t s → (r ≡ seenOf T (length (now (out .entry))) (going s)) × (now (out .exit) ≡ seenOver T (going s) (now (out .entry)))) ⌝ }
+    ensures { λ _. ⌜ past memoryWords (now (m .exit)) ≡ past memoryWords (now (m .entry)) ⌝ }
+{
+    let kept = t.kept;
+    let queued = t.queued;
+    if kept + 2 * queued <= out.len() {
+        lay_raw(m, kept, out);
+        list_queue(m, queued, w, out, kept);
+        Seen::Standing {
+            kept,
+            queued,
+            steps: t.steps,
+            aside: t.aside,
+        }
+    } else {
+        Seen::Refused(10)
+    }
+}
+
+// The run as it stands after so many steps, or where its queue is empty before: in the output's first places the kept ids, in the order kept, then the queued
+// cells, the next one first, each id followed by its cost. Refused with 7 or 8 as the run meets them up to there, with 10 where the output has no room for all
+// that. The words of a run are zero afterwards.
+pub fn watch(
+    engine: Engine,
+    mem: &mut [u64],
+    q: Request,
+    g: Region,
+    list: &[u64],
+    ids: [u64; 6],
+    count: usize,
+    steps: u32,
+    out: &mut [u64],
+) -> Seen
+    requires { ⌜ memoryWords ≤ length (now mem) ⌝ }
+    requires { ⌜ Asks q (areaOf g (now list)) ⌝ }
+    requires { ⌜ count ≤ 6 ⌝ }
+    requires { ⌜ All (Fit q) (take count ids) ⌝ }
+    ensures { λ r. ⌜ r ≡ seenOf (taskOf q (areaOf g (now (list .entry)))) (length (now (out .entry))) (after (courseOf q (areaOf g (now (list .entry)))) (take count ids) steps) ⌝ }
+    ensures { λ _. ⌜ now (out .exit) ≡ seenOver (taskOf q (areaOf g (now (list .entry)))) (after (courseOf q (areaOf g (now (list .entry)))) (take count ids) steps) (now (out .entry)) ⌝ }
+    ensures { λ _. ⌜ now (mem .exit) ≡ cleared 0 memoryWords (now (mem .entry)) ⌝ }
+{
+    let w = setup_of(engine, q);
+    let r = covering_internal(mem, q, g, list, w, ids, count, steps);
     match r {
         Turn::Refused(n) => {
             cellunion::clear(mem, 0, MEMORY_WORDS);
-            Ran::Refused(n)
+            Seen::Refused(n)
         }
         Turn::Going(t) => {
-            let end = QUEUE_WORDS + t.kept;
-            cellunion::clear(mem, 0, QUEUE_WORDS);
-            cellunion::clear(mem, end, MEMORY_WORDS);
-            Ran::Done {
-                count: t.kept,
-                steps: t.steps,
-                aside: t.aside,
-            }
+            let seen = tell(mem, t, w, out);
+            cellunion::clear(mem, 0, MEMORY_WORDS);
+            seen
         }
     }
 }

@@ -7,7 +7,7 @@ use mathlib.Core.Logic.{_↔_}
 use Prim.Native.Nat.{ℕ, _≤_, _<_}
 use native.Mathlib.Omega.{arith}
 use lib.Dec.{leb}
-use lib.ListN.{length, take, drop}
+use lib.ListN.{length, take, drop, length-append}
 use lib.Seq.{take-at}
 use borrow.Author.Tests.{le-leb, lt-leb, leb-true, leb-false}
 use Rattle.region.specs.Region.{Area, boundOf}
@@ -284,6 +284,14 @@ module _ (k : Kind) (c : RegionCoverer) (a : Area) (allowance memory room : ℕ)
 
 pub determined : (R : Result) (r r′ : Answer) (m m₁ m₂ o o₁ o₂ : List ℕ) → Answered R r m m₁ o o₁ → Answered R r′ m m₂ o o₂ → (r ≡ r′) × (m₁ ≡ m₂) × (o₁ ≡ o₂)
 determined R r r′ m m₁ m₂ o o₁ o₂ a b = (a .answer ∙ sym (b .answer), a .memory ∙ sym (b .memory), a .output ∙ sym (b .output))
+
+-- ---- the output has as many places as the answer has ids
+
+pub count-fits : (R : Result) (out : List ℕ) → answerOf R .count ≤ length (outputAfter R out)
+unfolding answerOf outputAfter
+count-fits (barred n) out = omega arith
+count-fits (refused n) out = omega arith
+count-fits (done l steps aside) out = simp length-append (omega arith)
 
 -- ---- what a success says: the finished list stands in the output's first places
 

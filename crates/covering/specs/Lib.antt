@@ -1,1 +1,2 @@
 pub mod Covering
+pub mod Watch

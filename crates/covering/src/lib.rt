@@ -11,6 +11,7 @@ ghost use Rattle.bars.specs.Bars.{barOf};
 ghost use Rattle.covering.specs.declared.Kind.{Kind};
 ghost use Rattle.covering.specs.declared.Ending.{Ending};
 ghost use Rattle.covering.specs.Covering.{refusal, fitted, listOf, ranOf, endedAs, leftBy, answerLaid, comesTo, resultOf, Answered};
+ghost use Rattle.covering.specs.Watch.{Watched};
 ghost use Rattle.fast.specs.Memory.{fastCoveringFor};
 ghost use Rattle.region.specs.Region.{areaOf, boundOf};
 ghost use Rattle.run.specs.Run.{rawMost, queueWords, memoryWords};
@@ -19,6 +20,8 @@ ghost use Rattle.coverer.specs.Engine.{wordsAt};
 use bars::Bar;
 use cellunion::Laid;
 use coverer::Ran;
+use coverer::Seen;
+use queue::Engine;
 use region::Region;
 use run::MEMORY_WORDS;
 use run::QUEUE_WORDS;
@@ -103,6 +106,7 @@ fn laid_answer(laid: Laid, steps: u32, aside: u64) -> Answer
 
 // The run of a request that lies in the domain, from its start cells; the raw list stays in the memory, behind the queue's words.
 fn run_from_starts(
+    engine: Engine,
     inner: bool,
     c: RegionCoverer,
     g: Region,
@@ -116,7 +120,7 @@ fn run_from_starts(
     let starts = fast::starts(c, g, list, mem);
     let q = Request { coverer: c, inner };
     let ids = starts.ids;
-    coverer::run(mem, q, g, list, ids, starts.count, allowance)
+    coverer::run(engine, mem, q, g, list, ids, starts.count, allowance)
 }
 
 // Ends a request whose raw list stands in the memory behind the queue's words: lays the list that is asked for over the output, if it has room, and clears
@@ -141,6 +145,7 @@ fn finish(
 
 // The run of a request that is not barred, and the list that it asks for.
 fn run_and_finish(
+    engine: Engine,
     e: Ending,
     inner: bool,
     c: RegionCoverer,
@@ -153,7 +158,7 @@ fn run_and_finish(
     requires { ⌜ barOf c (areaOf g (now list)) (length (now mem)) ≡ Bar.Open ⌝ }
     ensures { λ r. ⌜ Answered (endedAs e c (length (now (out .entry))) (ranOf inner c (areaOf g (now (list .entry))) allowance)) r (now (mem .entry)) (now (mem .exit)) (now (out .entry)) (now (out .exit)) ⌝ }
 {
-    let ran = run_from_starts(inner, c, g, list, allowance, mem);
+    let ran = run_from_starts(engine, inner, c, g, list, allowance, mem);
     match ran {
         Ran::Refused(late) => refuse(late),
         Ran::Done {
@@ -176,6 +181,7 @@ fn lay_fast(c: RegionCoverer, g: Region, list: &[u64], mem: &mut [u64], out: &mu
 
 // What a request that is not barred comes to, by its kind.
 fn come_to(
+    engine: Engine,
     kind: Kind,
     c: RegionCoverer,
     g: Region,
@@ -188,14 +194,16 @@ fn come_to(
     ensures { λ r. ⌜ Answered (comesTo kind c (areaOf g (now (list .entry))) allowance (length (now (out .entry)))) r (now (mem .entry)) (now (mem .exit)) (now (out .entry)) (now (out .exit)) ⌝ }
 {
     match kind {
-        Kind::Outer(e) => run_and_finish(e, false, c, g, list, allowance, mem, out),
-        Kind::Inner(e) => run_and_finish(e, true, c, g, list, allowance, mem, out),
+        Kind::Outer(e) => run_and_finish(engine, e, false, c, g, list, allowance, mem, out),
+        Kind::Inner(e) => run_and_finish(engine, e, true, c, g, list, allowance, mem, out),
         Kind::Fast => lay_fast(c, g, list, mem, out),
     }
 }
 
-// A request of any kind: the functions below are its cases under the Rust's names. The quick covering takes no steps, and no allowance matters to it.
+// A request of any kind, its run by either engine: the functions below are its cases under the Rust's names, by the quick engine. The quick covering takes no steps,
+// and neither the allowance nor the engine matters to it.
 pub fn respond(
+    engine: Engine,
     kind: Kind,
     c: RegionCoverer,
     g: Region,
@@ -208,7 +216,7 @@ pub fn respond(
 {
     let first = bars::first_refusal(c, g, list, mem.len());
     match first {
-        Bar::Open => come_to(kind, c, g, list, allowance, mem, out),
+        Bar::Open => come_to(engine, kind, c, g, list, allowance, mem, out),
         Bar::Barred(number) => refuse(number),
     }
 }
@@ -225,6 +233,7 @@ pub fn covering(
     ensures { λ r. ⌜ Answered (resultOf (Kind.Outer Ending.Covering) c (areaOf g (now (list .entry))) allowance (length (now (mem .entry))) (length (now (out .entry)))) r (now (mem .entry)) (now (mem .exit)) (now (out .entry)) (now (out .exit)) ⌝ }
 {
     respond(
+        Engine::Quick,
         Kind::Outer(Ending::Covering),
         c,
         g,
@@ -247,6 +256,7 @@ pub fn cellunion(
     ensures { λ r. ⌜ Answered (resultOf (Kind.Outer Ending.CellUnion) c (areaOf g (now (list .entry))) allowance (length (now (mem .entry))) (length (now (out .entry)))) r (now (mem .entry)) (now (mem .exit)) (now (out .entry)) (now (out .exit)) ⌝ }
 {
     respond(
+        Engine::Quick,
         Kind::Outer(Ending::CellUnion),
         c,
         g,
@@ -268,7 +278,16 @@ pub fn raw(
 ) -> Answer
     ensures { λ r. ⌜ Answered (resultOf (Kind.Outer Ending.Raw) c (areaOf g (now (list .entry))) allowance (length (now (mem .entry))) (length (now (out .entry)))) r (now (mem .entry)) (now (mem .exit)) (now (out .entry)) (now (out .exit)) ⌝ }
 {
-    respond(Kind::Outer(Ending::Raw), c, g, list, allowance, mem, out)
+    respond(
+        Engine::Quick,
+        Kind::Outer(Ending::Raw),
+        c,
+        g,
+        list,
+        allowance,
+        mem,
+        out,
+    )
 }
 
 // Cells inside the region, of levels min_level to max_level in whole steps of level_mod.
@@ -283,6 +302,7 @@ pub fn interior_covering(
     ensures { λ r. ⌜ Answered (resultOf (Kind.Inner Ending.Covering) c (areaOf g (now (list .entry))) allowance (length (now (mem .entry))) (length (now (out .entry)))) r (now (mem .entry)) (now (mem .exit)) (now (out .entry)) (now (out .exit)) ⌝ }
 {
     respond(
+        Engine::Quick,
         Kind::Inner(Ending::Covering),
         c,
         g,
@@ -305,6 +325,7 @@ pub fn interior_cellunion(
     ensures { λ r. ⌜ Answered (resultOf (Kind.Inner Ending.CellUnion) c (areaOf g (now (list .entry))) allowance (length (now (mem .entry))) (length (now (out .entry)))) r (now (mem .entry)) (now (mem .exit)) (now (out .entry)) (now (out .exit)) ⌝ }
 {
     respond(
+        Engine::Quick,
         Kind::Inner(Ending::CellUnion),
         c,
         g,
@@ -326,7 +347,16 @@ pub fn interior_raw(
 ) -> Answer
     ensures { λ r. ⌜ Answered (resultOf (Kind.Inner Ending.Raw) c (areaOf g (now (list .entry))) allowance (length (now (mem .entry))) (length (now (out .entry)))) r (now (mem .entry)) (now (mem .exit)) (now (out .entry)) (now (out .exit)) ⌝ }
 {
-    respond(Kind::Inner(Ending::Raw), c, g, list, allowance, mem, out)
+    respond(
+        Engine::Quick,
+        Kind::Inner(Ending::Raw),
+        c,
+        g,
+        list,
+        allowance,
+        mem,
+        out,
+    )
 }
 
 // The quick, coarse covering from the region's bound alone, with no run and 0 steps.
@@ -339,5 +369,47 @@ pub fn fast_covering(
 ) -> Answer
     ensures { λ r. ⌜ Answered (resultOf Kind.Fast c (areaOf g (now (list .entry))) 0 (length (now (mem .entry))) (length (now (out .entry)))) r (now (mem .entry)) (now (mem .exit)) (now (out .entry)) (now (out .exit)) ⌝ }
 {
-    respond(Kind::Fast, c, g, list, 0, mem, out)
+    respond(Engine::Quick, Kind::Fast, c, g, list, 0, mem, out)
+}
+
+// The run of a request that is not barred, from its start cells, as it stands after so many steps.
+fn watch_from_starts(
+    engine: Engine,
+    inner: bool,
+    c: RegionCoverer,
+    g: Region,
+    list: &[u64],
+    steps: u32,
+    mem: &mut [u64],
+    out: &mut [u64],
+) -> Seen
+    requires { ⌜ barOf c (areaOf g (now list)) (length (now mem)) ≡ Bar.Open ⌝ }
+    ensures { λ r. ⌜ Watched inner c (areaOf g (now (list .entry))) steps r (now (mem .entry)) (now (mem .exit)) (now (out .entry)) (now (out .exit)) ⌝ }
+{
+    let starts = fast::starts(c, g, list, mem);
+    let q = Request { coverer: c, inner };
+    let ids = starts.ids;
+    coverer::watch(engine, mem, q, g, list, ids, starts.count, steps, out)
+}
+
+// A request's run as it stands after so many steps, or where its queue is empty before, by either engine: in the output's first places the kept ids, in the
+// order kept, then the queued cells, the next one first, each id followed by its cost. Refused with 1 to 6 as any request; with 7 or 8 as the run meets them up to
+// there; with 10 where the output has no room for all that.
+pub fn watch(
+    engine: Engine,
+    inner: bool,
+    c: RegionCoverer,
+    g: Region,
+    list: &[u64],
+    steps: u32,
+    mem: &mut [u64],
+    out: &mut [u64],
+) -> Seen
+    ensures { λ r. ⌜ Watched inner c (areaOf g (now (list .entry))) steps r (now (mem .entry)) (now (mem .exit)) (now (out .entry)) (now (out .exit)) ⌝ }
+{
+    let first = bars::first_refusal(c, g, list, mem.len());
+    match first {
+        Bar::Open => watch_from_starts(engine, inner, c, g, list, steps, mem, out),
+        Bar::Barred(number) => Seen::Refused(number),
+    }
 }

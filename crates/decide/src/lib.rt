@@ -7,7 +7,6 @@ ghost use lib.Dec.{leb, ltb, eqb};
 ghost use lib.Count.{ones};
 ghost use Rattle.cellid.specs.CellId.{levelOf};
 ghost use Rattle.run.specs.Run.{minLevel, maxCells, queueMost, rawMost, depth};
-use queue::Rule;
 use run::Request;
 
 // How far down a candidate is expanded: one level below min, else level_mod.
@@ -21,14 +20,14 @@ pub fn levels_under(q: Request, id: u64) -> u64
     }
 }
 
-// Whether the parent is kept in the place of its children: outer, at min or deeper, all of 4^level_mod terminal.
-pub fn lifts(q: Request, w: Rule, id: u64, terminal: u64) -> bool
-    ensures { λ r. ⌜ r ≡ (not (q .inner) && (leb (minLevel q) (levelOf id) && eqb (ones terminal) (w .full))) ⌝ }
+// Whether the parent is kept in the place of its children: outer, at min or deeper, all of 4^level_mod, the full set, terminal.
+pub fn lifts(q: Request, full: u64, id: u64, terminal: u64) -> bool
+    ensures { λ r. ⌜ r ≡ (not (q .inner) && (leb (minLevel q) (levelOf id) && eqb (ones terminal) full)) ⌝ }
 {
     if cellid::level(id) < q.coverer.min_level {
         return false;
     }
-    if queue::count(terminal) != w.full {
+    if records::count(terminal) != full {
         return false;
     }
     !q.inner

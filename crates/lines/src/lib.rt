@@ -132,7 +132,7 @@ fn answer_in(kind: u64, lists: &[u64], first: usize, asked: u64, out: &mut [u64]
     requires { ⌜ first ≤ length (now lists) ⌝ }
     ensures { λ r. ⌜ AnsweredIn kind (take first (now (lists .entry))) (drop first (now (lists .entry))) asked r (now (out .entry)) (now (out .exit)) ⌝ }
 {
-    let o = requests::lesser(asked as usize, out.len());
+    let o = cellunion::lesser(asked as usize, out.len());
     answer_for(kind, &lists[..first], &lists[first..], &mut out[..o])
 }
 

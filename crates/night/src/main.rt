@@ -189,8 +189,8 @@ fn serve_and_tell(
 )
     requires { ⌜ (n ≤ 256) × (17 * length (now out) + 256 ≤ length (now page)) ⌝ }
 {
-    let m = requests::lesser(head.mem as usize, mem.len());
-    let o = requests::lesser(head.out as usize, out.len());
+    let m = cellunion::lesser(head.mem as usize, mem.len());
+    let o = cellunion::lesser(head.out as usize, out.len());
     let form = head.form;
     let served = serve_first(orders, n, &mut mem[..m], &mut out[..o]);
     tell_night(served, n, form, &out[..o], page);

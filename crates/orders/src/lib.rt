@@ -9,6 +9,7 @@ use cell::Cap;
 use covering::Answer;
 use covering::Ending;
 use covering::Kind;
+use queue::Engine;
 use region::Region;
 use run::RegionCoverer;
 
@@ -65,6 +66,7 @@ fn serve(o: Order, used: usize, mem: &mut [u64], out: &mut [u64]) -> Answer
     let region = region_of(o.cell, o.id, cap);
     let coverer = o.coverer;
     covering::respond(
+        Engine::Quick,
         kind,
         coverer,
         region,

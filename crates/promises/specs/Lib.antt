@@ -1,3 +1,4 @@
 pub mod Promises
 pub mod Rows
 pub mod Answers
+pub mod Engines

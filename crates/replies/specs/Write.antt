@@ -56,23 +56,24 @@ idsText form (id ∷ l) = idText form id ++ idsText form l
 -- the words for faults, in the order of the faults
 unfoldable pub faultWords : List ℕ
 faultWords =
-    ascii "unknown-kind unknown-region missing-field extra-field repeated-option not-a-number too-few-digits too-many-digits too-large bad-byte line-too-long outside-domain read-failed"
+    ascii "unknown-kind unknown-region unknown-engine missing-field extra-field repeated-option not-a-number too-few-digits too-many-digits too-large bad-byte line-too-long outside-domain read-failed"
 
 -- the place of a fault's word, counted from 0
 abbrev pub faultNo : Fault → ℕ
 faultNo Fault.UnknownKind = 0
 faultNo Fault.UnknownRegion = 1
-faultNo Fault.MissingField = 2
-faultNo Fault.ExtraField = 3
-faultNo Fault.RepeatedOption = 4
-faultNo Fault.NotANumber = 5
-faultNo Fault.TooFewDigits = 6
-faultNo Fault.TooManyDigits = 7
-faultNo Fault.TooLarge = 8
-faultNo Fault.BadByte = 9
-faultNo Fault.LineTooLong = 10
-faultNo Fault.OutsideDomain = 11
-faultNo Fault.ReadFailed = 12
+faultNo Fault.UnknownEngine = 2
+faultNo Fault.MissingField = 3
+faultNo Fault.ExtraField = 4
+faultNo Fault.RepeatedOption = 5
+faultNo Fault.NotANumber = 6
+faultNo Fault.TooFewDigits = 7
+faultNo Fault.TooManyDigits = 8
+faultNo Fault.TooLarge = 9
+faultNo Fault.BadByte = 10
+faultNo Fault.LineTooLong = 11
+faultNo Fault.OutsideDomain = 12
+faultNo Fault.ReadFailed = 13
 
 unfoldable pub faultText : Fault → List ℕ
 faultText f = bytesOf faultWords (fieldNo (faultNo f) faultWords 0)
@@ -84,6 +85,10 @@ errorText line f = ascii "error " ++ (decimalText line ++ (space ++ (faultText f
 -- refused NUMBER
 unfoldable pub refusedText : ℕ → List ℕ
 refusedText number = ascii "refused " ++ (decimalText number ++ newline)
+
+-- disagree
+unfoldable pub disagreeText : List ℕ
+disagreeText = ascii "disagree" ++ newline
 
 -- end ANSWERED
 unfoldable pub endText : ℕ → List ℕ

@@ -3,7 +3,7 @@ ghost use mathlib.Core.Path.{_≡_};
 ghost use mathlib.Core.List.{_++_};
 ghost use Rattle.text.specs.Text.{bytesOf, fieldNo};
 ghost use Rattle.tokens.specs.Tokens.{nameOf};
-ghost use Rattle.replies.specs.Write.{Wrote, decimalText, idText, idsText, faultNo, faultText, errorText, refusedText, endText, countedText, okText, listText};
+ghost use Rattle.replies.specs.Write.{Wrote, decimalText, idText, idsText, faultNo, faultText, errorText, refusedText, disagreeText, endText, countedText, okText, listText};
 use text::Fault;
 use tokens::Form;
 
@@ -96,17 +96,18 @@ fn fault_place(f: Fault) -> u64
     match f {
         Fault::UnknownKind => 0,
         Fault::UnknownRegion => 1,
-        Fault::MissingField => 2,
-        Fault::ExtraField => 3,
-        Fault::RepeatedOption => 4,
-        Fault::NotANumber => 5,
-        Fault::TooFewDigits => 6,
-        Fault::TooManyDigits => 7,
-        Fault::TooLarge => 8,
-        Fault::BadByte => 9,
-        Fault::LineTooLong => 10,
-        Fault::OutsideDomain => 11,
-        Fault::ReadFailed => 12,
+        Fault::UnknownEngine => 2,
+        Fault::MissingField => 3,
+        Fault::ExtraField => 4,
+        Fault::RepeatedOption => 5,
+        Fault::NotANumber => 6,
+        Fault::TooFewDigits => 7,
+        Fault::TooManyDigits => 8,
+        Fault::TooLarge => 9,
+        Fault::BadByte => 10,
+        Fault::LineTooLong => 11,
+        Fault::OutsideDomain => 12,
+        Fault::ReadFailed => 13,
     }
 }
 
@@ -115,7 +116,7 @@ fn put_fault(text: &mut [u8], at: usize, f: Fault) -> usize
     ensures { λ r. ⌜ Wrote at (faultText f) (now (text .entry)) r (now (text .exit)) ⌝ }
 {
     let words =
-        b"unknown-kind unknown-region missing-field extra-field repeated-option not-a-number too-few-digits too-many-digits too-large bad-byte line-too-long outside-domain read-failed";
+        b"unknown-kind unknown-region unknown-engine missing-field extra-field repeated-option not-a-number too-few-digits too-many-digits too-large bad-byte line-too-long outside-domain read-failed";
     put_word(text, at, words, fault_place(f))
 }
 
@@ -135,6 +136,13 @@ pub fn put_refused(text: &mut [u8], number: u64) -> usize
 {
     let a = put_number(text, 0, b"refused ", number);
     put(text, a, b"\n")
+}
+
+// The answer to a request to which two engines gave different answers: `disagree`.
+pub fn put_disagree(text: &mut [u8]) -> usize
+    ensures { λ r. ⌜ Wrote 0 disagreeText (now (text .entry)) r (now (text .exit)) ⌝ }
+{
+    put(text, 0, b"disagree\n")
 }
 
 // What is written after the last answer: `end ANSWERED`.

@@ -10,19 +10,20 @@ use lib.ListN.{length, take, drop, length-append, length-take}
 use lib.Seq.{take-append-seam}
 use borrow.Author.Tests.{eq-eqb, ne-eqb}
 use Rattle.covering.specs.declared.Answer.{Answer}
-use Rattle.covering.proofs.Table.{Sound, result-sound}
+use Rattle.covering.proofs.Table.{count-fits, Sound, result-sound}
 use Rattle.covering.specs.Covering.{Result, barred, refused, done, resultOf, answerOf, memoryAfter, outputAfter, Answered}
+use Rattle.selftest.specs.declared.Tested.{Tested}
 use Rattle.text.specs.declared.Fault.{Fault}
 use Rattle.text.specs.declared.Place.{Place}
 use Rattle.text.specs.Text.{isSilent}
 use Rattle.text.proofs.Fields.{words-fit, words-list}
 use Rattle.tokens.specs.declared.Form.{Form}
-use Rattle.replies.specs.Write.{Wrote, okText, refusedText, errorText}
+use Rattle.replies.specs.Write.{Wrote, okText, refusedText, disagreeText, errorText}
 use Rattle.replies.proofs.Lengths.{wrote-whole, error-length, refused-length, ok-length}
 use Rattle.region.specs.Region.{Area, capArea, cellArea, listArea, areaOf}
 use Rattle.requests.specs.declared.line.Asked.{Asked}
 use Rattle.requests.specs.Line.{Wish, wishOf, regionOf, idsOf, askedPart, askedWith, ReadAsked}
-use Rattle.requests.specs.Requests.{allowanceOf, resultFor, resultIn, resultText, onFirst, textAt, memoryAt, outputAt, askedText, askedWords, askedMemory, askedOutput, answerText, AnsweredIn, Replied}
+use Rattle.requests.specs.Requests.{allowanceOf, resultFor, resultIn, resultText, onFirst, textAt, memoryAt, outputAt, askedText, askedWords, askedMemory, askedOutput, answerText, testedText, AnsweredIn, Replied}
 
 -- ---- a part no longer than the whole
 
@@ -63,14 +64,8 @@ in-sound w mem out = result-sound (w .kind) (w .coverer) (w .area) (allowanceOf 
 
 -- ---- the answer to a result, with the output that it leaves
 
-count-fits : (R : Result) (out rest : List ℕ) → answerOf R .count ≤ length (outputAfter R out ++ rest)
-unfolding answerOf outputAfter
-count-fits (barred n) out rest = omega arith
-count-fits (refused n) out rest = omega arith
-count-fits (done l steps aside) out rest = simp length-append (omega arith)
-
 pub asked-fits : (w : Wish) (a : Answer) (mem mem' out out' : List ℕ) → AnsweredIn w a mem mem' out out' → a .count ≤ length out'
-asked-fits w a mem mem' out out' A = rw (A .answer, A .output) (count-fits (resultIn w mem out) _ _)
+asked-fits w a mem mem' out out' A = rw (A .answer, A .output) (simp length-append (omega (arith, count-fits (resultIn w mem out) (take (w .out) out))))
 
 module _ (form : Form) (a : Answer) (out : List ℕ) where
   done-text : a .number ≡ 0 → answerText form a out ≡ okText form (a .steps) (a .aside) (take (a .count) out)
@@ -88,6 +83,20 @@ module _ (form : Form) (a : Answer) (out : List ℕ) where
 
     pub wrote-refused : (a .number ≡ 0 → ⊥) → Wrote 0 (refusedText (a .number)) page r page' → Wrote 0 (answerText form a out) page r page'
     wrote-refused h w = rw (refused-text h) w
+
+-- what is written of engines that agree, and of engines that don't
+module _ (form : Form) (t : Tested) (out : List ℕ) where
+  agreed-text : t .agree ≡ true → testedText form t out ≡ answerText form (t .answer) out
+  unfolding testedText
+  agreed-text h = rw (testedText, h)
+
+  module _ (page : List ℕ) (r : ℕ) (page' : List ℕ) where
+    pub wrote-agreed : t .agree ≡ true → Wrote 0 (answerText form (t .answer) out) page r page' → Wrote 0 (testedText form t out) page r page'
+    wrote-agreed h w = rw (agreed-text h) w
+
+    pub wrote-disagree : t .agree ≡ false → Wrote 0 disagreeText page r page' → Wrote 0 (testedText form t out) page r page'
+    unfolding testedText
+    wrote-disagree h w = rw (testedText, h) w
 
 answer-text : (form : Form) (room : ℕ) (R : Result) (out rest : List ℕ) → Sound room R → answerText form (answerOf R) (outputAfter R out ++ rest) ≡ resultText form R
 unfolding answerOf outputAfter resultText Sound
@@ -155,7 +164,7 @@ module _ (w : Wish) (q : Asked) (words words' : List ℕ) (R : ReadAsked w q wor
   asked-back : askedWith q (take (q .count) words') ≡ w
   asked-back =
       let ids : take (q .count) words' ≡ idsOf (w .area) = words-list (idsOf (w .area)) words words' (q .count) count-is (R .ids) in
-      ap (λ (x : Asked). askedWith x (take (q .count) words')) (R .read) ∙ ap (λ (l : List ℕ). askedWith (askedPart w) l) ids ∙ ap (λ (a : Area). record { kind = w .kind; coverer = w .coverer; area = a; allowance = w .allowance; out = w .out; mem = w .mem; form = w .form; after = w .after }) (area-back (w .area))
+      ap (λ (x : Asked). askedWith x (take (q .count) words')) (R .read) ∙ ap (λ (l : List ℕ). askedWith (askedPart w) l) ids ∙ ap (λ (a : Area). record { kind = w .kind; coverer = w .coverer; area = a; allowance = w .allowance; out = w .out; mem = w .mem; form = w .form; engines = w .engines; after = w .after }) (area-back (w .area))
 
 module _ (number : ℕ) (line words mem out page : List ℕ) where
   pub replied-nothing : isSilent line ≡ true → Replied number line words words mem mem out out page 0 page
@@ -181,16 +190,17 @@ module _ (number : ℕ) (line words mem out page : List ℕ) where
           output = rw (askedOutput, asks, output-bad w number mem out (w .after) f b);
         }
 
-    pub replied-asked : (end : ℕ) (a : Answer) (mem' out' : List ℕ) → q .after ≡ Place.At end → AnsweredIn (askedWith q (take (q .count) words')) a mem mem' out out' → Wrote 0 (answerText (q .form) a out') page r page'
+    pub replied-asked : (end : ℕ) (t : Tested) (mem' out' : List ℕ) → q .after ≡ Place.At end → AnsweredIn (askedWith q (take (q .count) words')) (t .answer) mem mem' out out' × (t .agree ≡ true)
+        → Wrote 0 (testedText (q .form) t out') page r page'
         → Replied number line words words' mem mem' out out' page r page'
     unfolding askedText askedMemory askedOutput w
-    replied-asked end a mem' out' e B v =
-        let A : AnsweredIn w a mem mem' out out' = rw (asked-back w q words words' R) at B in
+    replied-asked end t mem' out' e B v =
+        let A : AnsweredIn w (t .answer) mem mem' out out' = rw (asked-back w q words words' R) at (B .0) in
         let b : w .after ≡ Place.At end = sym (ap (λ (x : Asked). x .after) (R .read)) ∙ e in
-        let t : answerText (q .form) a out' ≡ resultText (w .form) (resultIn w mem out) =
-        ap (λ (x : Asked). answerText (x .form) a out') (R .read) ∙ rw (A .answer, A .output) (answer-text (w .form) _ (resultIn w mem out) _ _ (in-sound w mem out)) in
+        let s : testedText (q .form) t out' ≡ resultText (w .form) (resultIn w mem out) =
+        agreed-text (q .form) t out' (B .1) ∙ ap (λ (x : Asked). answerText (x .form) (t .answer) out') (R .read) ∙ rw (A .answer, A .output) (answer-text (w .form) _ (resultIn w mem out) _ _ (in-sound w mem out)) in
         record {
-          wrote = rw (askedText, asks, text-asked w number mem out (w .after) end b) (wrote-whole (omega (arith, in-short w mem out)) (rw t at v));
+          wrote = rw (askedText, asks, text-asked w number mem out (w .after) end b) (wrote-whole (omega (arith, in-short w mem out)) (rw s at v));
           lent = there;
           memory = rw (askedMemory, asks, memory-asked w number mem out (w .after) end b) (A .memory);
           output = rw (askedOutput, asks, output-asked w number mem out (w .after) end b) (A .output);

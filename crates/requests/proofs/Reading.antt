@@ -11,17 +11,19 @@ use Rattle.text.specs.declared.Fault.{Fault}
 use Rattle.text.specs.declared.Field.{Field}
 use Rattle.text.specs.declared.Place.{Place}
 use Rattle.text.specs.declared.Read.{Read}
-use Rattle.text.specs.Text.{until, fieldAt, bytesOf, placeAmong, numberIn, numberAfter, numbersAfter, listAfter, ReadList, choiceAfter, endAfter, startOf, wordsWith}
+use Rattle.text.specs.Text.{until, fieldAt, bytesOf, placeAmong, chosen, faulty, numberIn, numberAfter, numbersAfter, listAfter, ReadList, choiceAfter, endAfter, startOf, wordsWith}
 use Rattle.cell.specs.declared.Cap.{Cap}
 use Rattle.region.specs.declared.Region.{Region}
 use Rattle.run.specs.Run.{memoryWords}
 use Rattle.covering.specs.declared.Kind.{Kind}
+use Rattle.selftest.specs.declared.Engines.{Engines}
 use Rattle.tokens.specs.declared.Form.{Form}
 use Rattle.requests.specs.declared.line.Four.{Four}
 use Rattle.requests.specs.declared.line.CovererRead.{CovererRead}
 use Rattle.requests.specs.declared.line.RegionRead.{RegionRead}
 use Rattle.requests.specs.declared.line.Options.{Options}
-use Rattle.requests.specs.Line.{kinds, kindOf, fourAfter, covererAfter, capOf, AreaRead, capAfter, cellAfter, idsAfter, shapes, areaAfter, keys, mostOf, none, valueOr, formOf, badOption, optionGiven, optionOf, optionFrom, nextOption, optionsAfter, wishOf, regionOf, idsOf, regionPart, ReadRegion, ReadAsked}
+use Rattle.selftest.specs.Selftest.{enginesOf}
+use Rattle.requests.specs.Line.{kinds, kindOf, fourAfter, covererAfter, capOf, AreaRead, capAfter, cellAfter, idsAfter, shapes, areaAfter, keys, mostOf, none, valueOr, formOf, engineWords, engineIn, valueIn, badOption, optionGiven, optionOf, optionFrom, nextOption, optionsAfter, wishOf, regionOf, idsOf, regionPart, ReadRegion, ReadAsked}
 
 -- ---- the parts of a request
 
@@ -68,13 +70,31 @@ module _ (l : List ℕ) (p : Place) where
 
 -- ---- options
 
-module _ (k : ℕ) (digits : List ℕ) (next : ℕ) (o : Options) where
-  pub option-first : (most : ℕ) (n : Read) → getD (o .values) k 0 ≡ none → most ≡ mostOf k → n ≡ numberIn Base.Ten most next digits
-      → record { values = set (o .values) k (n .value); after = n .after } ≡ optionGiven k digits next o
-  unfolding optionGiven
-  option-first most n h m e = rw (e, m, optionGiven, eq-eqb _ _ h)
+module _ (next : ℕ) (w : List ℕ) where
+  module _ (k : ℕ) (e : k ≡ placeAmong 3 engineWords 0 w) where
+    pub engine-one : k < 3 → record { value = k; after = Place.At next } ≡ engineIn next w
+    unfolding engineIn chosen
+    engine-one h = rw (engineIn, ← e, chosen, lt-ltb _ _ h, ← e)
 
-  pub option-again : (r : Options) → (getD (o .values) k 0 ≡ none → ⊥) → r ≡ badOption o Fault.RepeatedOption → r ≡ optionGiven k digits next o
+    pub engine-other : 3 ≤ k → record { value = 0; after = Place.Bad Fault.UnknownEngine } ≡ engineIn next w
+    unfolding engineIn chosen faulty
+    engine-other h = rw (engineIn, ← e, chosen, le-ltb _ _ h)
+
+  module _ (k : ℕ) (r : Read) where
+    pub value-number : (most : ℕ) → k < 4 → most ≡ mostOf k → r ≡ numberIn Base.Ten most next w → r ≡ valueIn k next w
+    unfolding valueIn
+    value-number most h m e = rw (valueIn, lt-ltb _ _ h, ← m) e
+
+    pub value-engine : 4 ≤ k → r ≡ engineIn next w → r ≡ valueIn k next w
+    unfolding valueIn
+    value-engine h e = rw (valueIn, le-ltb _ _ h) e
+
+module _ (k : ℕ) (w : List ℕ) (next : ℕ) (o : Options) where
+  pub option-first : (n : Read) → getD (o .values) k 0 ≡ none → n ≡ valueIn k next w → record { values = set (o .values) k (n .value); after = n .after } ≡ optionGiven k w next o
+  unfolding optionGiven
+  option-first n h e = rw (e, optionGiven, eq-eqb _ _ h)
+
+  pub option-again : (r : Options) → (getD (o .values) k 0 ≡ none → ⊥) → r ≡ badOption o Fault.RepeatedOption → r ≡ optionGiven k w next o
   unfolding optionGiven
   option-again r h e = rw (optionGiven, ne-eqb _ _ h) e
 
@@ -86,12 +106,12 @@ module _ (w : List ℕ) (next : ℕ) (o r : Options) (e : ℕ) (at : e ≡ until
   unfolding optionOf
   option-none h d = rw (optionOf, ← at, le-ltb _ _ h) d
 
-  module _ (k : ℕ) (h : e < length w) (i : k ≡ placeAmong 4 keys 0 (take (e + 1) w)) where
-    pub option-other : 4 ≤ k → r ≡ badOption o Fault.ExtraField → r ≡ optionOf w next o
+  module _ (k : ℕ) (h : e < length w) (i : k ≡ placeAmong 5 keys 0 (take (e + 1) w)) where
+    pub option-other : 5 ≤ k → r ≡ badOption o Fault.ExtraField → r ≡ optionOf w next o
     unfolding optionOf
     option-other g d = rw (optionOf, ← at, lt-ltb _ _ h, ← at, ← i, le-ltb _ _ g) d
 
-    pub option-key : k < 4 → r ≡ optionGiven k (take (length w - (e + 1)) (drop (e + 1) w)) next o → r ≡ optionOf w next o
+    pub option-key : k < 5 → r ≡ optionGiven k (take (length w - (e + 1)) (drop (e + 1) w)) next o → r ≡ optionOf w next o
     unfolding optionOf
     option-key g d = rw (optionOf, ← at, lt-ltb _ _ h, ← at, ← i, lt-ltb _ _ g, ← at, ← i) (rw (rest-is (e + 1) w) at d)
 
@@ -109,19 +129,19 @@ module _ (l : List ℕ) (p : Place) (o : Options) where
   unfolding optionFrom
   next-bad f h = rw h
 
-pub options-read : (l : List ℕ) (p : Place) (a b c d e : Options) → a ≡ nextOption l (record { values = none ∷ none ∷ none ∷ none ∷ []; after = p }) → b ≡ nextOption l a → c ≡ nextOption l b → d ≡ nextOption l c
-    → e ≡ nextOption l d → e ≡ optionsAfter l p
+pub options-read : (l : List ℕ) (p : Place) (a b c d e f : Options) → a ≡ nextOption l (record { values = none ∷ none ∷ none ∷ none ∷ none ∷ []; after = p }) → b ≡ nextOption l a → c ≡ nextOption l b
+    → d ≡ nextOption l c → e ≡ nextOption l d → f ≡ nextOption l e → f ≡ optionsAfter l p
 unfolding optionsAfter
-options-read l p a b c d e ea eb ec ed ee = rw (ee, ed, ec, eb, ea)
+options-read l p a b c d e f ea eb ec ed ee ef = rw (ef, ee, ed, ec, eb, ea)
 
 -- ---- all that a line asks
 
-pub asked-read : (most : ℕ) (l words words' : List ℕ) (start : Place) (word : Read) (c : CovererRead) (g : RegionRead) (o : Options) (end : Place) (k : Kind) (allowance out mem : ℕ) (form : Form)
+pub asked-read : (most : ℕ) (l words words' : List ℕ) (start : Place) (word : Read) (c : CovererRead) (g : RegionRead) (o : Options) (end : Place) (k : Kind) (allowance out mem : ℕ) (form : Form) (engines : Engines)
     → start ≡ startOf l → word ≡ choiceAfter kinds 7 Fault.UnknownKind l start → c ≡ covererAfter l (word .after) → ReadRegion (areaAfter most l (c .after)) g words words' → o ≡ optionsAfter l (g .after)
     → end ≡ endAfter l (o .after) → k ≡ kindOf (word .value) → allowance ≡ valueOr 4294967295 (getD (o .values) 0 0) → out ≡ valueOr 65536 (getD (o .values) 1 0) → mem ≡ valueOr memoryWords (getD (o .values) 2 0) → form ≡ formOf (getD (o .values) 3 0)
-    → ReadAsked (wishOf most l) (record { kind = k; coverer = c .coverer; region = g .region; count = g .count; allowance = allowance; out = out; mem = mem; form = form; after = end }) words words'
+    → engines ≡ enginesOf (valueOr 0 (getD (o .values) 4 0)) → ReadAsked (wishOf most l) (record { kind = k; coverer = c .coverer; region = g .region; count = g .count; allowance = allowance; out = out; mem = mem; form = form; engines = engines; after = end }) words words'
 unfolding wishOf
-asked-read most l words words' start word c g o end k allowance out mem form es ek ec G eo ee e1 e2 e3 e4 e5 = record {
-  read = rw (e1, e2, e3, e4, e5, ee, eo, G .read, ec, ek, es);
+asked-read most l words words' start word c g o end k allowance out mem form engines es ek ec G eo ee e1 e2 e3 e4 e5 e6 = record {
+  read = rw (e1, e2, e3, e4, e5, e6, ee, eo, G .read, ec, ek, es);
   ids = rw (← es, ← ek, ← ec) (G .ids);
 }

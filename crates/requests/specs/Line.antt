@@ -1,4 +1,4 @@
--- A request of `cover` as a line: `KIND MIN MAX MOD MAX_CELLS REGION [allow=N] [out=N] [mem=N] [tokens=N]`, the options in any order.
+-- A request of `cover` as a line: `KIND MIN MAX MOD MAX_CELLS REGION [allow=N] [out=N] [mem=N] [tokens=N] [engine=WORD]`, the options in any order.
 use mathlib.Core.Path.{_≡_}
 use mathlib.Core.Bool.{true, false}
 use mathlib.Core.List.{List, [], _∷_}
@@ -10,7 +10,8 @@ use Rattle.text.specs.Ascii.{ascii}
 use Rattle.text.specs.declared.Base.{Base}
 use Rattle.text.specs.declared.Fault.{Fault}
 use Rattle.text.specs.declared.Place.{Place}
-use Rattle.text.specs.Text.{until, fieldAt, bytesOf, isThere, placeAmong, numberIn, numberAfter, numbersAfter, listAfter, wordsWith, choiceAfter, endAfter, startOf}
+use Rattle.text.specs.declared.Read.{Read}
+use Rattle.text.specs.Text.{until, fieldAt, bytesOf, isThere, placeAmong, chosen, numberIn, numberAfter, numbersAfter, listAfter, wordsWith, choiceAfter, endAfter, startOf}
 use Rattle.point.specs.declared.Point.{Point}
 use Rattle.cell.specs.declared.Cap.{Cap}
 use Rattle.region.specs.declared.Region.{Region}
@@ -19,6 +20,8 @@ use Rattle.run.specs.declared.RegionCoverer.{RegionCoverer}
 use Rattle.run.specs.Run.{memoryWords}
 use Rattle.covering.specs.declared.Ending.{Ending}
 use Rattle.covering.specs.declared.Kind.{Kind}
+use Rattle.selftest.specs.declared.Engines.{Engines}
+use Rattle.selftest.specs.Selftest.{enginesOf}
 use Rattle.tokens.specs.declared.Form.{Form}
 use Rattle.requests.specs.declared.line.CovererRead.{CovererRead}
 use Rattle.requests.specs.declared.line.Four.{Four}
@@ -108,12 +111,16 @@ areaAfter most l p =
       ]
     ]
 
--- ---- options: the allowance, the places of output, the words of working memory, whether ids are written as tokens
+-- ---- options: the allowance, the places of output, the words of working memory, whether ids are written as tokens, the engines that answer
 
 abbrev pub keys : List ℕ
-keys = ascii "allow= out= mem= tokens="
+keys = ascii "allow= out= mem= tokens= engine="
 
--- the most that each may be
+-- the words for engines, in the order of their numbers
+abbrev pub engineWords : List ℕ
+engineWords = ascii "quick plain both"
+
+-- the most that each of the others may be
 unfoldable pub mostOf : ℕ → ℕ
 mostOf k = getD (4294967295 ∷ 65536 ∷ 8192 ∷ []) k 1
 
@@ -128,26 +135,34 @@ valueOr default v = elim (eqb v none) [ true ↦ default | false ↦ v ]
 unfoldable pub formOf : ℕ → Form
 formOf v = elim (eqb v 1) [ true ↦ Form.Token | false ↦ Form.Digits ]
 
+-- the number of the engines that a word names
+unfoldable pub engineIn : ℕ → List ℕ → Read
+engineIn next w = chosen 3 Fault.UnknownEngine (placeAmong 3 engineWords 0 w) next
+
+-- what the bytes after the k-th key give: for engine= the place of a word, for any other a number
+unfoldable pub valueIn : ℕ → ℕ → List ℕ → Read
+valueIn k next w = elim (ltb k 4) [ true ↦ numberIn Base.Ten (mostOf k) next w | false ↦ engineIn next w ]
+
 -- a fault among the options
 unfoldable pub badOption : Options → Fault → Options
 badOption o f = record { values = o .values; after = Place.Bad f }
 
--- the k-th option, with the digits that spell its number; it is given once
+-- the k-th option, with the bytes after its key; it is given once
 unfoldable pub optionGiven : ℕ → List ℕ → ℕ → Options → Options
-optionGiven k digits next o =
-    let n = numberIn Base.Ten (mostOf k) next digits in
+optionGiven k w next o =
+    let n = valueIn k next w in
     elim (eqb (getD (o .values) k 0) none) [
       | true ↦ record { values = set (o .values) k (n .value); after = n .after }
       | false ↦ badOption o Fault.RepeatedOption
     ]
 
--- the option that a field is: a key, which ends with its first = (61), and a number
+-- the option that a field is: a key, which ends with its first = (61), and a value
 unfoldable pub optionOf : List ℕ → ℕ → Options → Options
 optionOf w next o = elim (ltb (until 61 w) (length w)) [
   | false ↦ badOption o Fault.ExtraField
   | true ↦
-      let k = placeAmong 4 keys 0 (take (until 61 w + 1) w) in
-      elim (ltb k 4) [ true ↦ optionGiven k (drop (until 61 w + 1) w) next o | false ↦ badOption o Fault.ExtraField ]
+      let k = placeAmong 5 keys 0 (take (until 61 w + 1) w) in
+      elim (ltb k 5) [ true ↦ optionGiven k (drop (until 61 w + 1) w) next o | false ↦ badOption o Fault.ExtraField ]
 ]
 
 -- one option more, if there is one
@@ -158,9 +173,9 @@ optionFrom l (Place.At at) o = elim (isThere (fieldAt l at)) [ true ↦ optionOf
 abbrev pub nextOption : List ℕ → Options → Options
 nextOption l o = optionFrom l (o .after) o
 
--- four options at most; a fifth field is a fault, and which it is is told by its own turn
+-- five options at most; a sixth field is a fault, and which it is is told by its own turn
 unfoldable pub optionsAfter : List ℕ → Place → Options
-optionsAfter l p = nextOption l (nextOption l (nextOption l (nextOption l (nextOption l (record { values = none ∷ none ∷ none ∷ none ∷ []; after = p })))))
+optionsAfter l p = nextOption l (nextOption l (nextOption l (nextOption l (nextOption l (nextOption l (record { values = none ∷ none ∷ none ∷ none ∷ none ∷ []; after = p }))))))
 
 -- ---- what a line asks: one part after another; the place after it is a fault's where the line is no request
 
@@ -172,6 +187,7 @@ pub record Wish : Type 0 where
   pub out : ℕ
   pub mem : ℕ
   pub form : Form
+  pub engines : Engines
   pub after : Place
 
 -- of a list at most so many ids
@@ -189,6 +205,7 @@ wishOf most l =
       out = valueOr 65536 (getD (o .values) 1 0);
       mem = valueOr memoryWords (getD (o .values) 2 0);
       form = formOf (getD (o .values) 3 0);
+      engines = enginesOf (valueOr 0 (getD (o .values) 4 0));
       after = endAfter l (o .after);
     }
 
@@ -224,6 +241,7 @@ askedPart w = record {
   out = w .out;
   mem = w .mem;
   form = w .form;
+  engines = w .engines;
   after = w .after;
 }
 
@@ -242,5 +260,6 @@ askedWith q ids = record {
   out = q .out;
   mem = q .mem;
   form = q .form;
+  engines = q .engines;
   after = q .after;
 }

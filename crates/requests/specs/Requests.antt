@@ -1,4 +1,5 @@
--- What a line of `cover` comes to: the public answer of its kind, for the line's numbers and region, and the text of that answer.
+-- What a line of `cover` comes to: the public answer of its kind, for the line's numbers and region, and the text of that answer. Which engines it
+-- names changes nothing.
 use mathlib.Core.Path.{_≡_}
 use mathlib.Core.Bool.{true, false}
 use mathlib.Core.List.{List, [], _++_}
@@ -8,10 +9,11 @@ use lib.ListN.{length, take, drop}
 use Rattle.covering.specs.declared.Answer.{Answer}
 use Rattle.covering.specs.Covering.{Result, resultOf, answerOf, memoryAfter, outputAfter}
 use Rattle.covering.specs.Covering as Covering
+use Rattle.selftest.specs.declared.Tested.{Tested}
 use Rattle.text.specs.declared.Place.{Place}
 use Rattle.text.specs.Text.{isSilent, wordsWith}
 use Rattle.tokens.specs.declared.Form.{Form}
-use Rattle.replies.specs.Write.{Whole, refusedText, okText, errorText}
+use Rattle.replies.specs.Write.{Whole, refusedText, disagreeText, okText, errorText}
 use Rattle.requests.specs.Line.{Wish, wishOf, idsOf}
 
 -- a u32: no run takes more steps than that allows
@@ -78,6 +80,10 @@ answerText form a out = elim (eqb (a .number) 0) [
   | true ↦ okText form (a .steps) (a .aside) (take (a .count) out)
   | false ↦ refusedText (a .number)
 ]
+
+-- the text of what engines gave: their answer where they agree
+unfoldable pub testedText : Form → Tested → List ℕ → List ℕ
+testedText form t out = elim (t .agree) [ true ↦ answerText form (t .answer) out | false ↦ disagreeText ]
 
 pub record AnsweredIn (w : Wish) (r : Answer) (mem mem' out out' : List ℕ) : Type 0 where
   pub answer : r ≡ answerOf (resultIn w mem out)

@@ -1,10 +1,10 @@
-// A request of `cover` as a line: `KIND MIN MAX MOD MAX_CELLS REGION [allow=N] [out=N] [mem=N] [tokens=N]`, the options in any order. Any numbers and any bits of
-// floats are taken: whoever answers the request tests its domain.
+// A request of `cover` as a line: `KIND MIN MAX MOD MAX_CELLS REGION [allow=N] [out=N] [mem=N] [tokens=N] [engine=WORD]`, the options in any order. Any numbers and
+// any bits of floats are taken: whoever answers the request tests its domain.
 ghost use mathlib.Core.Path.{_≡_};
 ghost use Prim.Native.Nat.{_<_};
 ghost use Rattle.text.specs.Text.{choiceAfter};
 ghost use Rattle.text.specs.declared.Fault.{Fault};
-ghost use Rattle.requests.specs.Line.{kinds, shapes, kindOf, fourAfter, covererAfter, pointOf, capOf, capAfter, cellAfter, idsAfter, areaAfter, regionPart, ReadRegion, mostOf, valueOr, formOf, badOption, optionGiven, optionOf, nextOption, optionsAfter, wishOf, ReadAsked};
+ghost use Rattle.requests.specs.Line.{kinds, shapes, kindOf, fourAfter, covererAfter, pointOf, capOf, capAfter, cellAfter, idsAfter, areaAfter, regionPart, ReadRegion, mostOf, valueOr, formOf, engineIn, valueIn, badOption, optionGiven, optionOf, nextOption, optionsAfter, wishOf, ReadAsked};
 ghost use lib.ListN.{length};
 use cell::Cap;
 use covering::Ending;
@@ -13,6 +13,7 @@ use point::Point;
 use region::Region;
 use run::MEMORY_WORDS;
 use run::RegionCoverer;
+use selftest::Engines;
 use text::Base;
 use text::Fault;
 use text::Place;
@@ -38,14 +39,14 @@ pub struct RegionRead {
     pub after: Place,
 }
 
-// The options that were given, in the order allow, out, mem, tokens, and the place after them; u64::MAX stands for one that was not.
+// The options that were given, in the order allow, out, mem, tokens, engine, and the place after them; u64::MAX stands for one that was not.
 pub struct Options {
-    pub values: [u64; 4],
+    pub values: [u64; 5],
     pub after: Place,
 }
 
-// What a line asks: the kind of answer, of what, how many ids of a list were read for it, with how much, and how ids are to be written; and the line's end, or
-// what is wrong with the line.
+// What a line asks: the kind of answer, of what, how many ids of a list were read for it, with how much, how ids are to be written, and which engines are to
+// answer; and the line's end, or what is wrong with the line.
 pub struct Asked {
     pub kind: Kind,
     pub coverer: RegionCoverer,
@@ -55,6 +56,7 @@ pub struct Asked {
     pub out: u64,
     pub mem: u64,
     pub form: Form,
+    pub engines: Engines,
     pub after: Place,
 }
 
@@ -192,7 +194,7 @@ pub fn read_region(line: &[u8], p: Place, words: &mut [u64]) -> RegionRead
     read_ids(line, after, words)
 }
 
-// The most that the k-th option may be.
+// The most that the k-th option may be, where it is a number.
 fn most_of(k: u64) -> u64
     ensures { λ r. ⌜ r ≡ mostOf k ⌝ }
 {
@@ -202,6 +204,33 @@ fn most_of(k: u64) -> u64
         2 => 8192,
         _ => 1,
     }
+}
+
+// The number of the engines that a word names.
+fn read_engine(word: &[u8], next: usize) -> Read
+    ensures { λ r. ⌜ r ≡ engineIn next (now (word .entry)) ⌝ }
+{
+    let k = text::place_among(word, b"quick plain both", 3);
+    if k < 3 {
+        return Read {
+            value: k,
+            after: Place::At(next),
+        };
+    }
+    Read {
+        value: 0,
+        after: Place::Bad(Fault::UnknownEngine),
+    }
+}
+
+// What the bytes after the k-th key give: a number, or for the last the place of a word.
+fn read_value(k: u64, s: &[u8], next: usize) -> Read
+    ensures { λ r. ⌜ r ≡ valueIn k next (now (s .entry)) ⌝ }
+{
+    if k < 4 {
+        return text::read_bytes(s, Base::Ten, most_of(k), next);
+    }
+    read_engine(s, next)
 }
 
 fn bad_option(o: Options, f: Fault) -> Options
@@ -214,15 +243,15 @@ fn bad_option(o: Options, f: Fault) -> Options
     }
 }
 
-// The k-th option, with the digits that spell its number.
-fn option_given(k: u64, digits: &[u8], next: usize, o: Options) -> Options
-    requires { ⌜ k < 4 ⌝ }
-    ensures { λ r. ⌜ r ≡ optionGiven k (now (digits .entry)) next o ⌝ }
+// The k-th option, with the bytes after its key.
+fn option_given(k: u64, s: &[u8], next: usize, o: Options) -> Options
+    requires { ⌜ k < 5 ⌝ }
+    ensures { λ r. ⌜ r ≡ optionGiven k (now (s .entry)) next o ⌝ }
 {
     let mut values = o.values;
     let i = k as usize;
     if values[i] == u64::MAX {
-        let n = text::read_bytes(digits, Base::Ten, most_of(k), next);
+        let n = read_value(k, s, next);
         values[i] = n.value;
         let after = n.after;
         return Options { values, after };
@@ -230,15 +259,15 @@ fn option_given(k: u64, digits: &[u8], next: usize, o: Options) -> Options
     bad_option(o, Fault::RepeatedOption)
 }
 
-// The option that a field is: a key, which ends with its first `=`, and a number.
+// The option that a field is: a key, which ends with its first `=`, and a value.
 fn option_of(field: &[u8], next: usize, o: Options) -> Options
     ensures { λ r. ⌜ r ≡ optionOf (now (field .entry)) next o ⌝ }
 {
     let e = text::find(field, b'=');
     if e < field.len() {
         let from = e + 1;
-        let k = text::place_among(&field[..from], b"allow= out= mem= tokens=", 4);
-        if k < 4 {
+        let k = text::place_among(&field[..from], b"allow= out= mem= tokens= engine=", 5);
+        if k < 5 {
             return option_given(k, &field[from..], next, o);
         }
         return bad_option(o, Fault::ExtraField);
@@ -265,19 +294,20 @@ fn next_option(line: &[u8], o: Options) -> Options
     }
 }
 
-// The options: four at most, each once. A fifth field is a fault, and which it is is told by its own turn.
+// The options: five at most, each once. A sixth field is a fault, and which it is is told by its own turn.
 pub fn read_options(line: &[u8], p: Place) -> Options
     ensures { λ r. ⌜ r ≡ optionsAfter (now (line .entry)) p ⌝ }
 {
     let none = Options {
-        values: [u64::MAX; 4],
+        values: [u64::MAX; 5],
         after: p,
     };
     let one = next_option(line, none);
     let two = next_option(line, one);
     let three = next_option(line, two);
     let four = next_option(line, three);
-    next_option(line, four)
+    let five = next_option(line, four);
+    next_option(line, five)
 }
 
 // An option's value, or its default where it was not given.
@@ -327,6 +357,7 @@ pub fn read_asked(line: &[u8], words: &mut [u64]) -> Asked
         out: value_or(65536, values[1]),
         mem: value_or(MEMORY_WORDS as u64, values[2]),
         form: form_of(values[3]),
+        engines: selftest::engines_of(value_or(0, values[4])),
         after,
     }
 }

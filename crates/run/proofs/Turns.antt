@@ -1,17 +1,27 @@
 -- The run's equations, one for each way that the code goes.
-use mathlib.Core.Path.{_≡_, refl, ap}
+use mathlib.Core.Path.{_≡_, refl}
 use mathlib.Core.Bool.{Bool, true, false}
 use mathlib.Core.List.{[], _∷_, _++_}
-use Prim.Native.Nat.{ℕ, zero, suc, _≤_, _<_}
+use Prim.Native.Nat.{_≤_, _<_}
 use lib.ListN.{length}
 use borrow.Author.Tests.{lt-ltb, le-ltb}
 use Rattle.order.specs.Order.{insert}
-use Rattle.run.specs.Run.{Grown, Outcome, State, add, enqueue, going, isEmpty, keep, lifts, loop, refused, setAside, then, expansionOf, Task, queueMost, rawMost, _by_}
+use Rattle.run.specs.Run.{Grown, Outcome, State, add, enqueue, going, isEmpty, keep, lifts, refused, setAside, then, expansionOf, Task, queueMost, rawMost, _by_}
 
 pub then-then : (o : Outcome) (f g : State → Outcome) → then (then o f) g ≡ then o (λ s. then (f s) g)
 unfolding then
 then-then (refused n) f g = refl
 then-then (going s) f g = refl
+
+pub then-cong : (o : Outcome) (f g : State → Outcome) → ((s : State) → f s ≡ g s) → then o f ≡ then o g
+unfolding then
+then-cong (refused n) f g e = refl
+then-cong (going s) f g e = e s
+
+pub then-going : (o : Outcome) → then o (λ s. going s) ≡ o
+unfolding then
+then-going (refused n) = refl
+then-going (going s) = refl
 
 module _ (T : Task) (lt : Grown → Grown → Bool) where
   pub keep-go : (c : Grown) (s : State) → length (s .raw) < rawMost → keep c s ≡ going (record { raw = s .raw ++ (c ∷ []); queue = s .queue; aside = s .aside; steps = s .steps })
@@ -41,8 +51,3 @@ module _ (T : Task) (lt : Grown → Grown → Bool) where
   pub add-queue : (c : Grown) (s : State) → isEmpty (expansionOf T (c .id) .children) ≡ false → lifts T (c .id) ≡ false → add (T by lt) c false s ≡ enqueue lt c s
   unfolding add
   add-queue c s e d = rw (e, d, add)
-
-  pub loop-end : (a : ℕ) (s : State) → s .queue ≡ [] → loop (T by lt) a s ≡ going s
-  unfolding loop isEmpty
-  loop-end zero s e = rw (ap isEmpty e, loop)
-  loop-end (suc a) s e = rw (ap isEmpty e, loop)

@@ -12,6 +12,7 @@ ghost use Rattle.text.specs.Text.{digitOf, allDigits, valueFrom, faulty,
 pub enum Fault {
     UnknownKind,
     UnknownRegion,
+    UnknownEngine,
     MissingField,
     ExtraField,
     RepeatedOption,

@@ -15,7 +15,7 @@ same-length c = search needs
 returns : tie.Need-returns
 returns c =
     let at = c .before .before .before .before .before .before .before in
-    add-kept _ (domain _ _ (at .pre .1 .0 .asks)) _ _ _ _ (at .pre .1 .1 .0) _ _ (c .before .before .before .before .if1 .taken) (c .before .before .keep .ensures .0 _) (c .before .before .keep .ensures .1)
+    add-kept _ _ (domain _ _ (at .pre .1 .0 .asks)) _ _ _ _ (at .pre .1 .1 .0) _ _ (c .before .before .before .before .if1 .taken) (c .before .before .keep .ensures .0 _ _) (c .before .before .keep .ensures .1)
 
 expand-requires : tie.Need-expand-requires
 expand-requires c κs =
@@ -36,7 +36,7 @@ set-aside-requires c κs =
 returns-2 : tie.Need-returns-2
 returns-2 c =
     let at = c .before .before .before .before .before .before .before .before in
-    add-empty _ (domain _ _ (at .pre .1 .0 .asks)) _ _ _ _ (at .pre .1 .1 .0) _ _ _ (c .before .before .before .before .before .if1 .left) (c .before .before .before .before .expand .ensures) (c .before .before .if2 .taken) (c .before .lsb .ensures) (c .set-aside .ensures)
+    add-empty _ _ (domain _ _ (at .pre .1 .0 .asks)) _ _ _ _ (at .pre .1 .1 .0) _ _ _ (c .before .before .before .before .before .if1 .left) (c .before .before .before .before .expand .ensures) (c .before .before .if2 .taken) (c .before .lsb .ensures) (c .set-aside .ensures)
 
 lifts-requires : tie.Need-lifts-requires
 lifts-requires c κs = search needs
@@ -51,8 +51,8 @@ returns-3 : tie.Need-returns-3
 returns-3 c =
     let at = c .before .before .before .before .before .before .before .before .before .before .before .before in
     let go = c .before .before .before .before in
-    add-lifted _ (domain _ _ (at .pre .1 .0 .asks)) _ _ _ _ (at .pre .1 .1 .0) _ _ _ _ _ (go .before .before .before .before .before .if1 .left) (go .before .before .before .before .expand .ensures) (go .before .before .if2 .left) (at .pre .1 .0 .rule) (go .before .lifts .ensures) (go .if3 .taken)
-    (c .before .before .keep2 .ensures .0 _) (c .before .before .keep2 .ensures .1)
+    add-lifted _ _ (domain _ _ (at .pre .1 .0 .asks)) _ _ _ _ (at .pre .1 .1 .0) _ _ _ _ (go .before .before .before .before .before .if1 .left) (go .before .before .before .before .expand .ensures) (go .before .before .if2 .left) (at .pre .1 .0 .rule) (go .before .lifts .ensures) (go .if3 .taken)
+    (c .before .before .keep2 .ensures .0 _ _) (c .before .before .keep2 .ensures .1)
 
 enqueue-requires : tie.Need-enqueue-requires
 enqueue-requires c κs =
@@ -66,7 +66,7 @@ returns-4 : tie.Need-returns-4
 returns-4 c =
     let at = c .before .before .before .before .before .before .before .before .before .before .before .before in
     let go = c .before .before .before .before in
-    add-queued _ (domain _ _ (at .pre .1 .0 .asks)) _ _ _ _ (at .pre .1 .1 .0) _ _ _ _ _ (go .before .before .before .before .before .if1 .left) (go .before .before .before .before .expand .ensures) (go .before .before .if2 .left) (at .pre .1 .0 .rule) (go .before .lifts .ensures) (go .if3 .left)
+    add-queued _ _ (domain _ _ (at .pre .1 .0 .asks)) _ _ _ _ (at .pre .1 .1 .0) _ _ _ _ (go .before .before .before .before .before .if1 .left) (go .before .before .before .before .expand .ensures) (go .before .before .if2 .left) (at .pre .1 .0 .rule) (go .before .lifts .ensures) (go .if3 .left)
     (c .before .before .enqueue .ensures .0 _) (c .before .before .enqueue .ensures .1)
 
 pub add-candidate-spec : {M : Type 1} → statement M

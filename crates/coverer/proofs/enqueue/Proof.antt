@@ -1,13 +1,13 @@
 -- `coverer::enqueue` meets its contract.
-use Rattle.coverer.proofs.Stands.{queues-by, queues-not}
+use Rattle.coverer.proofs.Stands.{queues, queues-not}
 use Rattle.coverer.specs.Engine.{AsideUpTo}
 use borrow.Author.Needs.{needs}
 use native.Mathlib.Omega.{arith}
 use Rattle.coverer.proofs.enqueue.Statement.{statement}
 use Rattle.coverer.proofs.enqueue.Tie as tie
 
-push-requires : tie.Need-push-requires
-push-requires c κs = search needs
+add-requires : tie.Need-add-requires
+add-requires c κs = search needs
 
 add-t11 : tie.Need-add-t11
 add-t11 c = search needs
@@ -17,11 +17,11 @@ same-length c = search needs
 
 returns : tie.Need-returns
 unfolding AsideUpTo
-returns c = (λ T ew er. queues-by T _ _ _ _ _ (c .before .before .before .before .before .before .before .pre .0) (omega (arith, c .before .before .before .before .if1 .taken)) ew er (c .before .before .push .ensures), omega arith)
+returns c = (λ T ew er. queues _ T ew _ _ _ _ (c .before .before .before .before .before .before .before .pre .0) (omega (arith, c .before .before .before .before .if1 .taken)) er (c .before .before .add .ensures), omega arith)
 
 returns-2 : tie.Need-returns-2
 unfolding AsideUpTo
-returns-2 c = (λ T ew er. queues-not T _ _ _ (omega (arith, c .if1 .left)), tt)
+returns-2 c = (λ T ew er. queues-not _ T _ _ _ (omega (arith, c .if1 .left)), tt)
 
 pub enqueue-spec : {M : Type 1} → statement M
-enqueue-spec = tie.close (tie.spec push-requires add-t11 same-length returns returns-2)
+enqueue-spec = tie.close (tie.spec add-requires add-t11 same-length returns returns-2)

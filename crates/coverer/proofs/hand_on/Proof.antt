@@ -9,7 +9,7 @@ use Rattle.coverer.proofs.Adds.{domain, queued}
 use Rattle.coverer.proofs.Steps.{depth-le, Broods, brood-room, brood-failed-le, brood-places, brood-ok, brood-leaves, hands}
 use Rattle.coverer.specs.Engine.{childrenFrom, leavesIn, broodOf, recOf, grown}
 use Rattle.coverer.specs.declared.Brood.{Brood}
-use Rattle.queue.specs.declared.Rec.{Rec}
+use Rattle.records.specs.declared.Rec.{Rec}
 use Rattle.region.specs.Region.{Area}
 use Rattle.run.specs.Run.{depth}
 use borrow.Author.Needs.{needs}
@@ -65,7 +65,7 @@ same-length c = search needs
 returns : tie.Need-returns
 returns c =
     let z = c .before .before .before .before .before .before .before .before .before .before .before in
-    hands _ _ _ _ _ _ (made _ _ (z .pre .1 .0 .asks) _ _ _ _ (z .pre .1 .1 .0) (c .before .before .before .before .before .before .before .before .levels-under .ensures) (z .pre .1 .1 .1 .0) (c .before .before .before .before .before .before .before .cells-under .ensures)) _ _ _ _ _ (c .before .before .before .set-aside .ensures) (c .before .before .add-children .ensures)
+    hands _ _ _ _ _ _ (made _ _ (z .pre .1 .0 .asks) _ _ _ _ (z .pre .1 .1 .0) (c .before .before .before .before .before .before .before .before .levels-under .ensures) (z .pre .1 .1 .1 .0) (c .before .before .before .before .before .before .before .cells-under .ensures)) _ _ _ _ _ _ (c .before .before .before .set-aside .ensures) (c .before .before .add-children .ensures)
 
 pub hand-on-spec : {M : Type 1} → statement M
 hand-on-spec =

@@ -6,6 +6,7 @@ use Rattle.coverer.proofs.Runs.{Starting, starting, starting-turn, star
 use Rattle.coverer.specs.declared.Counts.{Counts}
 use Rattle.order.specs.Order.{All}
 use Rattle.order.proofs.OrderLaws.{all-get}
+use Rattle.queue.specs.declared.Setup.{Setup}
 use Rattle.region.specs.Region.{Area, areaOf}
 use Rattle.run.proofs.Totals.{leaves-le}
 use Rattle.run.specs.Ground.{Fit}
@@ -18,12 +19,12 @@ use native.Mathlib.Omega.{arith}
 use Rattle.coverer.proofs.initial_candidates.Statement.{statement}
 use Rattle.coverer.proofs.initial_candidates.Tie as tie
 
-record Inv (q : Request) (a : Area) (count : ℕ) (ids m₀ m : List ℕ) (t : Counts) (i : ℕ) : Type 0 where
+record Inv (w : Setup) (q : Request) (a : Area) (count : ℕ) (ids m₀ m : List ℕ) (t : Counts) (i : ℕ) : Type 0 where
   within : i ≤ count
   six : count ≤ 6
   wide : length ids ≡ 6
   long : length m ≡ length m₀
-  starting : Starting (taskOf q a) (take count ids) m₀ m t i
+  starting : Starting w (taskOf q a) (take count ids) m₀ m t i
 
 -- the i-th of the start cells
 inside : (count i : ℕ) (ids : List ℕ) → i < count → count ≤ 6 → length ids ≡ 6 → i < length (take count ids)
@@ -33,13 +34,13 @@ cell : (q : Request) (count i : ℕ) (ids : List ℕ) → i < count → count �
 cell q count i ids h six wide a = subst (Fit q) (getD-take count ids i 0 h) (all-get (Fit q) (take count ids) 0 i (inside count i ids h six wide) a)
 
 abbrev Inv-loop : tie.InvT-loop
-Inv-loop m₀ q g list w count ids t₀ i₀ m t i = Inv q (areaOf g list) count ids m₀ m t i
+Inv-loop m₀ q g list w count ids t₀ i₀ m t i = Inv w q (areaOf g list) count ids m₀ m t i
 
 abbrev μ-loop : tie.MeasureT-loop
 μ-loop m₀ q g list w count ids t₀ i₀ m t i = count - i
 
 loop-holds : tie.Need-loop-holds Inv-loop μ-loop
-loop-holds c = record { within = omega arith; six = c .before .before .pre .1 .1 .0; wide = omega arith; long = refl; starting = starting _ _ _ }
+loop-holds c = record { within = omega arith; six = c .before .before .pre .1 .1 .0; wide = omega arith; long = refl; starting = starting _ _ _ _ }
 
 mul-start : tie.Need-mul-start Inv-loop μ-loop
 mul-start c = omega arith
@@ -65,7 +66,7 @@ returns : tie.Need-returns Inv-loop μ-loop
 returns c =
     let I = c .before .before .before .before .before .before .before .before .loop .inv in
     let h = c .before .before .before .before .before .before .before .loop-test .taken in
-    starting-stop _ _ _ _ _ _ _ _ _ _ (inside _ _ _ h (I .six) (I .wide)) (sym (getD-take _ _ _ 0 h)) (c .before .r .given .1) (c .before .before .before .before .before .start .ensures .0) (I .starting)
+    starting-stop _ _ _ _ _ _ _ _ _ _ _ (inside _ _ _ h (I .six) (I .wide)) (sym (getD-take _ _ _ 0 h)) (c .before .r .given .1) (c .before .before .before .before .before .start .ensures .0) (I .starting)
 
 enum-known-r-2 : tie.Need-enum-known-r-2 Inv-loop μ-loop
 enum-known-r-2 c = search needs
@@ -86,7 +87,7 @@ loop-again c =
       six = I .six;
       wide = I .wide;
       long = d .kept .0 ∙ I .long;
-      starting = starting-turn _ _ _ _ _ _ _ _ _ _ (inside _ _ _ h (I .six) (I .wide)) (sym (getD-take _ _ _ 0 h)) (c .before .r2 .given .1) (leaves-le _) (d .ensures .0) (d .ensures .1) (I .starting);
+      starting = starting-turn _ _ _ _ _ _ _ _ _ _ _ (inside _ _ _ h (I .six) (I .wide)) (sym (getD-take _ _ _ 0 h)) (c .before .r2 .given .1) (leaves-le _) (d .ensures .0) (d .ensures .1) (I .starting);
     }
 
 same-length-2 : tie.Need-same-length-2 Inv-loop μ-loop
@@ -96,7 +97,7 @@ returns-2 : tie.Need-returns-2 Inv-loop μ-loop
 returns-2 c =
     let I = c .before .loop .inv in
     let n : c .before .loop .i ≡ c .before .before .before .before .args .count = omega (arith, I .within, c .loop-test .left) in
-    starting-end _ _ _ _ _ _ (n ∙ sym (length-take-le _ _ (omega (arith, I .six, I .wide)))) (I .starting)
+    starting-end _ _ _ _ _ _ _ (n ∙ sym (length-take-le _ _ (omega (arith, I .six, I .wide)))) (I .starting)
 
 pub initial-candidates-spec : {M : Type 1} → statement M
 initial-candidates-spec =

@@ -1,10 +1,11 @@
--- `coverer::proceed` meets its contract. The invariant: the state is one that the defined run reaches, and its loop from here is the loop from the start.
+-- `coverer::proceed` meets its contract. The invariant: the state is one that the defined run reaches, and the steps from here are those left from the start.
 use Rattle.run.specs.declared.Request.{Request}
 use Prim.Native.Nat.{ℕ, _-_}
 use Rattle.candidate.specs.Candidate.{taskOf}
 use Rattle.coverer.proofs.Runs.{Going, going-spent, going-end, going-stop, going-turn}
 use Rattle.coverer.proofs.Stands.{goes-start}
 use Rattle.coverer.specs.declared.Counts.{Counts}
+use Rattle.queue.specs.declared.Setup.{Setup}
 use Rattle.region.specs.Region.{Area, areaOf}
 use borrow.Author.Needs.{needs}
 use lib.ListN.{length}
@@ -14,12 +15,12 @@ use native.Mathlib.Omega.{arith}
 use Rattle.coverer.proofs.proceed.Statement.{statement}
 use Rattle.coverer.proofs.proceed.Tie as tie
 
-record Inv (q : Request) (a : Area) (allowance : ℕ) (m₀ : List ℕ) (t₀ : Counts) (m : List ℕ) (t : Counts) : Type 0 where
+record Inv (w : Setup) (q : Request) (a : Area) (allowance : ℕ) (m₀ : List ℕ) (t₀ : Counts) (m : List ℕ) (t : Counts) : Type 0 where
   long : length m ≡ length m₀
-  going : Going (taskOf q a) allowance m₀ t₀ m t
+  going : Going w (taskOf q a) allowance m₀ t₀ m t
 
 abbrev Inv-loop : tie.InvT-loop
-Inv-loop m₀ q g list w allowance t₀ m t = Inv q (areaOf g list) allowance m₀ t₀ m t
+Inv-loop m₀ q g list w allowance t₀ m t = Inv w q (areaOf g list) allowance m₀ t₀ m t
 
 abbrev μ-loop : tie.MeasureT-loop
 μ-loop m₀ q g list w allowance t₀ m t = allowance - t .steps
@@ -28,13 +29,13 @@ loop-holds : tie.Need-loop-holds Inv-loop μ-loop
 loop-holds c =
     let z = c .before .before in
     let L = z .pre .1 .1 .0 in
-    record { long = refl; going = record { state = L .0; reached = L .1; stands = L .2; left = z .pre .1 .1 .1; goes = goes-start _ _ _ _ } }
+    record { long = refl; going = record { state = L .0; reached = L .1; stands = L .2; left = z .pre .1 .1 .1; goes = goes-start _ _ _ _ _ } }
 
 same-length : tie.Need-same-length Inv-loop μ-loop
 same-length c = c .before .before .before .before .loop .inv .long
 
 returns : tie.Need-returns Inv-loop μ-loop
-returns c = going-spent _ _ _ _ _ _ (c .before .before .before .before .loop .inv .going) (c .before .before .if1 .taken) (c .if2 .taken)
+returns c = going-spent _ _ _ _ _ _ _ (c .before .before .before .before .loop .inv .going) (c .if2 .taken)
 
 step-requires : tie.Need-step-requires Inv-loop μ-loop
 step-requires c κs =
@@ -49,7 +50,7 @@ same-length-2 : tie.Need-same-length-2 Inv-loop μ-loop
 same-length-2 c = c .before .before .before .before .before .step .kept .0 ∙ c .before .before .before .before .before .before .before .before .before .before .before .loop .inv .long
 
 returns-2 : tie.Need-returns-2 Inv-loop μ-loop
-returns-2 c = going-stop _ _ _ _ _ _ (c .before .before .before .before .before .before .before .before .before .before .before .loop .inv .going) _ _ (c .before .before .before .before .before .before .before .before .before .if1 .taken) (c .before .before .before .before .before .before .before .if2 .left) (c .before .before .before .before .before .step .ensures) _ (c .before .r .given .1)
+returns-2 c = going-stop _ _ _ _ _ _ _ (c .before .before .before .before .before .before .before .before .before .before .before .loop .inv .going) _ _ (c .before .before .before .before .before .before .before .before .before .if1 .taken) (c .before .before .before .before .before .before .before .if2 .left) (c .before .before .before .before .before .step .ensures) _ (c .before .r .given .1)
 
 enum-known-r-2 : tie.Need-enum-known-r-2 Inv-loop μ-loop
 enum-known-r-2 c = search needs
@@ -57,17 +58,17 @@ enum-known-r-2 c = search needs
 loop-less : tie.Need-loop-less Inv-loop μ-loop
 loop-less c =
     let I = c .before .before .before .before .before .before .before .before .before .before .before .loop .inv in
-    let T = going-turn _ _ _ _ _ _ (c .before .before .before .before .before .before .before .before .before .before .before .loop .inv .going) _ _ (c .before .before .before .before .before .before .before .before .before .if1 .taken) (c .before .before .before .before .before .before .before .if2 .left) (c .before .before .before .before .before .step .ensures) _ (c .before .r2 .given .1) in
+    let T = going-turn _ _ _ _ _ _ _ (c .before .before .before .before .before .before .before .before .before .before .before .loop .inv .going) _ _ (c .before .before .before .before .before .before .before .before .before .if1 .taken) (c .before .before .before .before .before .before .before .if2 .left) (c .before .before .before .before .before .step .ensures) _ (c .before .r2 .given .1) in
     omega (arith, T .1, T .0 .left)
 
 loop-again : tie.Need-loop-again Inv-loop μ-loop
-loop-again c = record { long = c .before .before .before .before .before .step .kept .0 ∙ c .before .before .before .before .before .before .before .before .before .before .before .loop .inv .long; going = (going-turn _ _ _ _ _ _ (c .before .before .before .before .before .before .before .before .before .before .before .loop .inv .going) _ _ (c .before .before .before .before .before .before .before .before .before .if1 .taken) (c .before .before .before .before .before .before .before .if2 .left) (c .before .before .before .before .before .step .ensures) _ (c .before .r2 .given .1)) .0 }
+loop-again c = record { long = c .before .before .before .before .before .step .kept .0 ∙ c .before .before .before .before .before .before .before .before .before .before .before .loop .inv .long; going = (going-turn _ _ _ _ _ _ _ (c .before .before .before .before .before .before .before .before .before .before .before .loop .inv .going) _ _ (c .before .before .before .before .before .before .before .before .before .if1 .taken) (c .before .before .before .before .before .before .before .if2 .left) (c .before .before .before .before .before .step .ensures) _ (c .before .r2 .given .1)) .0 }
 
 same-length-3 : tie.Need-same-length-3 Inv-loop μ-loop
 same-length-3 c = c .before .before .loop .inv .long
 
 returns-3 : tie.Need-returns-3 Inv-loop μ-loop
-returns-3 c = going-end _ _ _ _ _ _ (c .before .before .loop .inv .going) (c .if1 .left)
+returns-3 c = going-end _ _ _ _ _ _ _ (c .before .before .loop .inv .going) (c .if1 .left)
 
 pub proceed-spec : {M : Type 1} → statement M
 proceed-spec =

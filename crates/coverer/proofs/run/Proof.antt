@@ -1,78 +1,53 @@
 -- `coverer::run` meets its contract.
-use Prim.Native.Nat.{_*_, _≤_}
-use Rattle.cellid.proofs.Laws.{one-shl}
-use Rattle.coverer.proofs.Answers.{answer-room, answer-refused, answer-done}
-use Rattle.run.specs.Run.{full}
+use mathlib.Core.Path.{ap}
+use Rattle.queue.specs.declared.Setup.{Setup}
+use Rattle.coverer.proofs.Answers.{answer-room, answer-refused, answer-spent, answer-done}
+use Rattle.coverer.specs.Coverer.{outcomeOf}
 use borrow.Author.Needs.{needs}
 use native.Mathlib.Omega.{arith}
 use Rattle.coverer.proofs.run.Statement.{statement}
 use Rattle.coverer.proofs.run.Tie as tie
 
-mul-t13 : tie.Need-mul-t13
-mul-t13 c = search needs
-
-shl-t14 : tie.Need-shl-t14
-shl-t14 c = search needs
-
 covering-internal-requires : tie.Need-covering-internal-requires
-unfolding full
 covering-internal-requires c κs =
-    let z = c .before .before .before .before in
-    let A = z .pre .1 .0 in
-    let few : z .args .q .coverer .«level_mod» ≤ 3 = A .few in
-    (z .pre .0, (record { asks = A; rule = rw (one-shl (2 * z .args .q .coverer .«level_mod») (omega arith)) }, (z .pre .1 .1 .0, z .pre .1 .1 .1)))
+    let P = c .before .before .before .before .pre in
+    (P .0, (record { asks = P .1 .0; rule = ap (λ (w : Setup). w .rule .full) (c .setup-of .ensures) }, (P .1 .1 .0, P .1 .1 .1)))
 
-enum-known-r : tie.Need-enum-known-r
-enum-known-r c = search needs
+finish-requires : tie.Need-finish-requires
+finish-requires c κs =
+    let d = c .before .before .before .before .before .before .before .before .covering-internal in
+    (omega (arith, d .kept .0, c .before .before .before .before .before .before .before .before .before .before .before .before .before .pre .0), answer-room _ _ _ _ _ _ _ (d .ensures) _ (c .before .before .before .before .r2 .given .1))
 
-clear-requires : tie.Need-clear-requires
-clear-requires c κs = search needs
-
-enum-known-r-2 : tie.Need-enum-known-r-2
-enum-known-r-2 c = search needs
-
-add-end : tie.Need-add-end
-add-end c = let room = answer-room _ _ _ _ _ (c .before .before .before .before .before .before .covering-internal .ensures) _ (c .before .before .r2 .given .1) in
-    omega arith
-
-clear-requires-2 : tie.Need-clear-requires-2
-clear-requires-2 c κs = search needs
-
-clear-requires-3 : tie.Need-clear-requires-3
-clear-requires-3 c κs =
-    let z = c .before .before .before .before .before .before .before .before .before .before .before .before .before .before .before .before in
-    let room = answer-room _ _ _ _ _ (c .before .before .before .before .before .before .before .before .before .before .before .covering-internal .ensures) _ (c .before .before .before .before .before .before .before .r2 .given .1) in
-    (omega arith, omega (arith, c .before .before .before .clear2 .kept .0, c .before .before .before .before .before .before .before .before .before .before .before .covering-internal .kept .0, z .pre .0))
-
-same-length : tie.Need-same-length
-same-length c = search needs
-
+-- the allowance is used up
 returns : tie.Need-returns
-returns c = answer-refused _ _ _ _ _ (c .before .before .before .before .before .before .before .before .before .covering-internal .ensures) _ _ (c .before .before .before .before .before .r .given .1) (c .before .before .clear .ensures)
+unfolding outcomeOf
+returns c = answer-spent _ _ _ _ _ _ _ (c .before .before .before .before .before .before .before .before .before .before .before .covering-internal .ensures) _ (c .before .before .before .before .before .before .before .r2 .given .1) _ _ (c .before .before .before .before .if1 .taken) (c .before .before .refuse2 .ensures)
 
-same-length-2 : tie.Need-same-length-2
-same-length-2 c = search needs
-
+-- 7 or 8
 returns-2 : tie.Need-returns-2
-returns-2 c =
-    let z = c .before .before .before .before .before .before .before .before .before .before .before .before .before .before .before .before .before .before .before in
-    let d = c .before .before .before .before .before .before .before .before .before .before .before .before .before .before .covering-internal in
-    answer-done _ _ _ _ _ (d .ensures) _ (c .before .before .before .before .before .before .before .before .before .before .r2 .given .1) _ _ (omega (arith, d .kept .0, z .pre .0)) (c .before .before .before .before .before .before .clear2 .ensures) (c .before .before .clear3 .ensures)
+unfolding outcomeOf
+returns-2 c = answer-refused _ _ _ _ _ _ _ (c .before .before .before .before .before .before .before .before .before .covering-internal .ensures) _ _ _ (c .before .before .before .before .before .r .given .1) (c .before .before .refuse .ensures)
+
+returns-3 : tie.Need-returns-3
+unfolding outcomeOf
+returns-3 c =
+    let d = c .before .before .before .before .before .before .before .before .before .before .before .covering-internal in
+    answer-done _ _ _ _ _ _ _ (d .ensures) _ (c .before .before .before .before .before .before .before .r2 .given .1) _ _ (omega (arith, d .kept .0, c .before .before .before .before .before .before .before .before .before .before .before .before .before .before .before .before .pre .0)) (c .before .before .before .before .if1 .left) (c .before .before .finish .ensures)
 
 pub run-spec : {M : Type 1} → statement M
 run-spec =
     tie.close
     (tie.spec
-    mul-t13
-    shl-t14
+    (λ c κs. search needs)
     covering-internal-requires
-    enum-known-r
-    clear-requires
-    enum-known-r-2
-    add-end
-    clear-requires-2
-    clear-requires-3
-    same-length
+    (λ c. search needs)
+    (λ c κs. search needs)
+    (λ c. search needs)
+    (λ c κs. search needs)
+    (λ c. search needs)
     returns
-    same-length-2
-    returns-2)
+    finish-requires
+    (λ c. search needs)
+    returns-2
+    (λ c. search needs)
+    returns-3)

@@ -10,7 +10,7 @@ finish-requires c κs =
     let r = c .before .before .before .before .before .before .before in
     let z = r .before .before .before .before .before in
     let d = ran-done _ _ _ _ (sym (c .before .before .before .ran2 .given .1) ∙ r .run-from-starts .ensures .0) in
-    let same = r .run-from-starts .kept .1 .1 .1 .1 .1 .0 in
+    let same = r .run-from-starts .kept .1 .1 .1 .1 .1 .1 .0 in
     (finish-asks (z .args .e) _ _ _ _ _ (z .args .out .now) (z .pre) _ (r .run-from-starts .ensures .1) _ _ _ d same, finish-holds (z .args .e) _ _ _ _ _ (z .args .out .now) (z .pre) _ (r .run-from-starts .ensures .1) _ _ _ d same)
 
 returns : tie.Need-returns
@@ -22,7 +22,7 @@ returns-2 : tie.Need-returns-2
 returns-2 c =
     let r = c .before .before .before .before .before .before .before .before .before .before .before .before in
     let d = ran-done _ _ _ _ (sym (c .before .before .before .before .before .before .before .before .ran2 .given .1) ∙ r .run-from-starts .ensures .0) in
-    respond-done _ _ _ _ _ _ _ (r .before .before .before .before .before .pre) _ (r .run-from-starts .ensures .1) _ _ _ d (r .run-from-starts .kept .1 .1 .1 .1 .1 .0) _ _ _ (c .before .before .before .before .finish .ensures)
+    respond-done _ _ _ _ _ _ _ (r .before .before .before .before .before .pre) _ (r .run-from-starts .ensures .1) _ _ _ d (r .run-from-starts .kept .1 .1 .1 .1 .1 .1 .0) _ _ _ (c .before .before .before .before .finish .ensures)
 
 pub run-and-finish-spec : {M : Type 1} → statement M
 run-and-finish-spec =

@@ -15,8 +15,8 @@ slice-reshare-prefix-answer-in c = ids-fit _ _ _ _ (c .before .before .before .b
 slice-aggregate-answer-in : tie.Need-slice-aggregate-answer-in
 slice-aggregate-answer-in c = sym (length-take-le _ _ (ids-fit _ _ _ _ (c .before .before .before .before .before .read-asked .ensures)))
 
-put-answer-requires : tie.Need-put-answer-requires
-put-answer-requires c κs = asked-fits _ _ _ _ _ _ (c .before .before .before .before .before .before .answer-in .ensures)
+put-tested-requires : tie.Need-put-tested-requires
+put-tested-requires c κs = asked-fits _ _ _ _ _ _ (c .before .before .before .before .before .before .answer-in .ensures .0)
 
 returns-2 : tie.Need-returns-2
 returns-2 c =
@@ -27,7 +27,7 @@ returns-2 c =
     let i = r .before .before in
     let s = i .before in
     let z = s .before .before .before .before .before .before in
-    replied-asked _ _ _ _ _ _ _ _ _ _ (sym (s .is-silent .ensures) ∙ i .if1 .left) (r .read-asked .ensures) (z .pre) _ (a .answer-in .result) _ _ (e .enum-told .given .1) (a .answer-in .ensures) (p .put-answer .ensures)
+    replied-asked _ _ _ _ _ _ _ _ _ _ (sym (s .is-silent .ensures) ∙ i .if1 .left) (r .read-asked .ensures) (z .pre) _ (a .answer-in .result) _ _ (e .enum-told .given .1) (a .answer-in .ensures) (p .put-tested .ensures)
 
 returns-3 : tie.Need-returns-3
 returns-3 c =
@@ -50,7 +50,7 @@ answer-spec =
     slice-reshare-prefix-answer-in
     slice-aggregate-answer-in
     (λ c κs. search needs)
-    put-answer-requires
+    put-tested-requires
     (λ c. search needs)
     (λ c κs. search needs)
     (λ c. search needs)

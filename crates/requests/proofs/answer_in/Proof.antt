@@ -14,7 +14,7 @@ slice-aggregate-answer-run-2 : tie.Need-slice-aggregate-answer-run-2
 slice-aggregate-answer-run-2 c = sym (length-take-le _ _ (omega arith))
 
 returns : tie.Need-returns
-returns c = answered-in _ _ _ _ _ _ _ _ (c .before .before .before .before .before .before .before .before .lesser .ensures) (c .before .before .before .before .before .before .before .lesser2 .ensures) (c .before .before .before .before .answer-run .ensures)
+returns c = (answered-in _ _ _ _ _ _ _ _ (c .before .before .before .before .before .before .before .before .lesser .ensures) (c .before .before .before .before .before .before .before .lesser2 .ensures) (c .before .before .before .before .answer-run .ensures .0), c .before .before .before .before .answer-run .ensures .1)
 
 pub answer-in-spec : {M : Type 1} → statement M
 answer-in-spec =

@@ -5,7 +5,7 @@ use Rattle.requests.proofs.line.option_given.Statement.{statement}
 use Rattle.requests.proofs.line.option_given.Tie as tie
 
 returns : tie.Need-returns
-returns c = option-first _ _ _ _ _ (c .read-bytes .result) (c .before .before .if1 .taken) (c .before .most-of .ensures) (c .read-bytes .ensures)
+returns c = option-first _ _ _ _ (c .read-value .result) (c .before .if1 .taken) (c .read-value .ensures)
 
 returns-2 : tie.Need-returns-2
 returns-2 c = option-again _ _ _ _ _ (c .before .if1 .left) (c .bad-option .ensures)
@@ -16,7 +16,6 @@ option-given-spec =
     (tie.spec
     (λ c. search needs)
     (λ c. search needs)
-    (λ c κs. search needs)
     (λ c κs. search needs)
     (λ c. search needs)
     (λ c. search needs)
