@@ -17,7 +17,7 @@ use Rattle.order.specs.Order.{All}
 use Rattle.order.proofs.OrderLaws.{which}
 use Rattle.region.specs.Region.{Area}
 use Rattle.run.specs.declared.Request.{Request}
-use Rattle.run.specs.Run.{Child, State, Outcome, refused, going, then, divide, isEmpty, sumOf, full, depth, expansionOf, lifts, byId, keep, enqueue, setAside, isFull, add, addAll, Task, maxLevel, levelMod, minLevel, maxCells, memoryWords, byCost}
+use Rattle.run.specs.Run.{Child, State, going, then, divide, isEmpty, sumOf, full, depth, expansionOf, lifts, byId, keep, enqueue, setAside, isFull, add, addAll, Task, maxLevel, levelMod, minLevel, maxCells, memoryWords, byCost}
 use Rattle.run.specs.Masks.{consIf, childrenIn, found}
 use Rattle.run.specs.Ground.{Domain, lookFor, ChildOk, Queued}
 use Rattle.run.proofs.Lists.{if-ok, empty-nil, sum-append, all-back, rel-eq}

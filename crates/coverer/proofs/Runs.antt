@@ -24,7 +24,7 @@ use Rattle.candidate.specs.Candidate.{candidateOf}
 use Rattle.coverer.specs.declared.Counts.{Counts}
 use Rattle.coverer.specs.declared.Turn.{Turn}
 use Rattle.coverer.specs.Engine.{past, asideOf, AsideUpTo, grown, onward, Stands, Gives, Does, Comes, Reached}
-use Rattle.coverer.proofs.Stands.{queue-length, stands-nothing, sets-aside, aside-in, aside-le, does-as, Goes, goes-turn, goes-stop, goes-on, goes-end}
+use Rattle.coverer.proofs.Stands.{queue-length, stands-nothing, sets-aside, aside-in, aside-le, does-as, Goes, goes-turn, goes-stop, goes-end}
 use Rattle.coverer.proofs.Adds.{low-leaves}
 
 -- ---- what a candidate says of the look

@@ -1,6 +1,5 @@
 -- The two engines, the quick one and the plain one: a request as one of them answered it. Paper 02: "It must give the same answer as the quick one on every request";
 -- "Same limits, same refusals, same working memory after it."
-use mathlib.Core.Path.{_≡_}
 use mathlib.Core.List.{List}
 use Prim.Native.Nat.{ℕ}
 use lib.ListN.{length}

@@ -4,7 +4,7 @@ mod line;
 ghost use mathlib.Core.Bool.{true};
 ghost use mathlib.Core.Path.{_≡_};
 ghost use lib.ListN.{length};
-ghost use Prim.Native.Nat.{_+_, _*_, _≤_, min};
+ghost use Prim.Native.Nat.{_+_, _*_, _≤_};
 ghost use Rattle.covering.specs.Covering.{Answered};
 ghost use Rattle.replies.specs.Write.{Wrote};
 ghost use Rattle.requests.specs.Line.{askedWith};

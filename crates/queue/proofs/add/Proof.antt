@@ -3,7 +3,6 @@ use mathlib.Core.Path.{_≡_}
 use mathlib.Core.List.{List}
 use Prim.Native.Nat.{ℕ}
 use Rattle.records.specs.declared.Rec.{Rec}
-use Rattle.records.specs.declared.Rule.{Rule}
 use Rattle.records.specs.Records.{putR}
 use Rattle.heap.specs.Heap.{pushR}
 use Rattle.queue.specs.declared.Engine.{Engine}

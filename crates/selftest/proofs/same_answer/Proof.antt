@@ -1,5 +1,5 @@
 -- `selftest::same_answer` meets its contract.
-use mathlib.Core.Path.{_≡_, sym}
+use mathlib.Core.Path.{sym}
 use borrow.Author.Tests.{eq-eqb, ne-eqb}
 use Rattle.selftest.specs.Selftest.{sameAnswer}
 use Rattle.selftest.proofs.same_answer.Statement.{statement}
