@@ -1,5 +1,5 @@
 // cpp FILE TIMES: answers the request lines of FILE, TIMES times over, by S2RegionCoverer of the C++ S2 library; the last time it writes
-// the answers as `cover` does, with - for steps and set-aside total. Takes `covering` and `interior`, without options. See bench/run.
+// the answers as `cover` does, with - for steps and set-aside totals. Takes `covering` and `interior`, without options. See bench/run.
 #include <cinttypes>
 #include <cstdio>
 #include <cstdlib>
@@ -86,7 +86,7 @@ int main(int argc, char** argv) {
     for (const Request& request : requests) {
       Answer(request, &coverer, &found);
       if (left > 1) continue;
-      std::printf("ok - - %zu", found.size());
+      std::printf("ok - - - - - - - %zu", found.size());
       for (S2CellId id : found) std::printf(" %016" PRIx64, id.id());
       std::printf("\n");
     }

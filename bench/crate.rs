@@ -1,5 +1,5 @@
 //! crate FILE TIMES: answers the request lines of FILE, TIMES times over, by the region coverer of crate s2; the last time it writes the
-//! answers as `cover` does, with - for steps and set-aside total. Takes `covering` and `interior`, without options. See bench/run.
+//! answers as `cover` does, with - for steps and set-aside totals. Takes `covering` and `interior`, without options. See bench/run.
 
 mod consts;
 mod r1;
@@ -78,7 +78,7 @@ fn main() {
         for request in &requests {
             let found = black_box(answer(black_box(request)));
             if left == 0 {
-                write!(output, "ok - - {}", found.0.len()).expect("standard output");
+                write!(output, "ok - - - - - - - {}", found.0.len()).expect("standard output");
                 for id in &found.0 {
                     write!(output, " {:016x}", id.0).expect("standard output");
                 }

@@ -1,6 +1,6 @@
 /* night FILE TIMES: serves the night of FILE (its form stands in oracle/night.h), TIMES times over, by one call of flaxbadger_night; compiled with -DALONE,
  * by a call of a public function for each order, whose values go into the record. Writes the answers as 64-bit words as they stand in memory: number,
- * count, steps and aside of each order, then the places of the output that are taken. See bench/night. */
+ * count, steps and the six of aside of each order, then the places of the output that are taken. See bench/night. */
 #include "../oracle/night.h"
 
 #ifdef ALONE
@@ -12,7 +12,7 @@ static uint64_t serve(struct night *n, uint64_t *mem, uint64_t *out) {
         o->number = t.number;
         o->count = t.count;
         o->steps = (uint32_t)t.steps;
-        o->aside = t.aside;
+        memcpy(o->aside, t.aside, sizeof t.aside);
         taken += t.count;
     }
     return 0;
@@ -31,8 +31,9 @@ static void write_answers(const struct night *n, const uint64_t *out) {
     size_t taken = 0;
     for (size_t k = 0; k < n->many; k++) {
         const flaxbadger_order *o = &n->orders[k];
-        uint64_t words[] = {o->number, o->count, o->steps, o->aside};
+        uint64_t words[] = {o->number, o->count, o->steps};
         write_words(words, sizeof words / sizeof *words);
+        write_words(o->aside, FLAXBADGER_STARTS);
         taken += o->count;
     }
     write_words(out, taken);

@@ -7,6 +7,9 @@
 
 #include "flaxbadger.h"
 
+#ifndef FLAXBADGER_STARTS
+#define FLAXBADGER_STARTS 1 /* a header from before there were totals by start cell: one total */
+#endif
 #define PLACES 65536
 #define ALLOWANCE UINT32_MAX
 
@@ -52,12 +55,16 @@ static uint64_t answer(const struct request *r, uint64_t *count, uint64_t *steps
         r->id, r->min, r->max, r->mod, r->cells, ALLOWANCE, mem, FLAXBADGER_MEMORY, out, PLACES, count, steps, aside);
 }
 
-static void write_answer(uint64_t number, uint64_t count, uint64_t steps, uint64_t aside) {
+static void write_answer(uint64_t number, uint64_t count, uint64_t steps, const uint64_t *aside) {
     if (number != 0) {
         printf("refused %" PRIu64 "\n", number);
         return;
     }
-    printf("ok %" PRIu64 " %" PRIu64 " %" PRIu64, steps, aside, count);
+    printf("ok %" PRIu64, steps);
+    for (int i = 0; i < FLAXBADGER_STARTS; i++) {
+        printf(" %" PRIu64, aside[i]);
+    }
+    printf(" %" PRIu64, count);
     for (uint64_t i = 0; i < count; i++) {
         printf(" %016" PRIx64, out[i]);
     }
@@ -85,7 +92,7 @@ int main(int argc, char **argv) {
     }
     for (long left = atol(argv[2]); left > 0; left--) {
         for (size_t i = 0; i < many; i++) {
-            uint64_t count, steps, aside, number = answer(&requests[i], &count, &steps, &aside);
+            uint64_t count, steps, aside[FLAXBADGER_STARTS], number = answer(&requests[i], &count, &steps, aside);
             if (left == 1) {
                 write_answer(number, count, steps, aside);
             }

@@ -1,6 +1,6 @@
 """How the scripts for people ask the proved programs, and what they say where an answer, or their own list, was cut.
 
-`cover` answers lines. The filters `read_tokens` and `write_tokens` turn a text with a name a line into as many lines, or refuse it; so does
+`cover` and `probe` answer lines. The filters `read_tokens` and `write_tokens` turn a text with a name a line into as many lines, or refuse it; so does
 `night` with a night's orders.
 """
 
@@ -18,7 +18,7 @@ REFUSALS = {
     3: "level_mod is not 1, 2 or 3",
     4: "max_cells is over 1,000",
     5: "the region is outside the domain",
-    6: "the working memory is under 4,096 words",
+    6: "the working memory is under 5,120 words",
     7: "the queue would hold 1,025 candidates at once",
     8: "a 1,025th raw cell would be kept",
     9: "the allowance of steps is used up",
@@ -33,19 +33,27 @@ REFUSALS = {
 ENDING = signal.SIGHUP, signal.SIGINT, signal.SIGQUIT, signal.SIGTERM
 
 
-# ---- cover
+# ---- cover and probe
 
 
-def answers(who, lines):
-    """What cover answers to each of the lines. An answer that was cut ends the script, which is called who."""
+def answers(who, lines, program="cover"):
+    """What the program answers to each of the lines. An answer that was cut ends the script, which is called who."""
     try:
-        ran = subprocess.run([os.path.join(HERE, "cover")], input="".join(line + "\n" for line in lines), stdout=subprocess.PIPE, text=True)
+        ran = subprocess.run([os.path.join(HERE, program)], input="".join(line + "\n" for line in lines), stdout=subprocess.PIPE, text=True)
     except OSError as fault:
-        sys.exit(f"{who}: cover can't be run: {fault.strerror}")
+        sys.exit(f"{who}: {program} can't be run: {fault.strerror}")
     written = ran.stdout.split("\n")
     if ran.returncode != 0 or written[len(lines):] != [f"end {len(lines)}", ""]:
-        sys.exit(f"{who}: the answer of cover was cut (its status was {ran.returncode}), so nothing is listed")
+        sys.exit(f"{who}: the answer of {program} was cut (its status was {ran.returncode}), so nothing is listed")
     return written[:len(lines)]
+
+
+PLACES = 6  # start cells of a run, at most, and totals of an answer
+
+
+def figures(words):
+    """The words of an answer of a run after `ok`: its steps, the leaves set aside under each start cell, and the names of its cells."""
+    return int(words[0]), [int(word) for word in words[1:1 + PLACES]], words[2 + PLACES:]
 
 
 def words(who, line, answer):

@@ -116,11 +116,15 @@ def middle(cells):
 # ---- pictures
 
 
-class View:
-    """An orthographic view from above a centre, as wide as the cells and a disc around the centre ask for. Gives lines of SVG."""
+ROW = 24  # from one line of words below a view to the next
 
-    def __init__(self, centre, cells, radius=0.0):
-        self.normal = centre
+
+class View:
+    """An orthographic view from above a centre, as wide as the cells and a disc around the centre ask for, with room for some lines of words below it.
+    Gives lines of SVG."""
+
+    def __init__(self, centre, cells, radius=0.0, rows=0):
+        self.normal, self.high = centre, 840 + ROW * rows
         self.east, self.north = frame(centre)
         reach = max((math.acos(max(-1, min(1, dot(p, centre)))) for c in cells for p in border(c, 1)), default=0)
         self.wide = max(math.sin(min(math.pi / 2, max(reach, radius))), 1e-9) * 1.08
@@ -142,8 +146,8 @@ class View:
 
     def begun(self):
         """The paper, and the globe where it is in view."""
-        yield '<svg xmlns="http://www.w3.org/2000/svg" viewBox="0 0 800 840" width="800" height="840">'
-        yield '<rect width="800" height="840" fill="#fbfaf6"/>'
+        yield f'<svg xmlns="http://www.w3.org/2000/svg" viewBox="0 0 800 {self.high}" width="800" height="{self.high}">'
+        yield f'<rect width="800" height="{self.high}" fill="#fbfaf6"/>'
         if self.wide > 0.2:
             yield f'<circle cx="400" cy="400" r="{self.half / self.wide:.2f}" fill="#e3edf4" stroke="#9fb3c1"/>'
 
@@ -154,15 +158,50 @@ class View:
                 yield f"<g><title>{token_of(c)} level {level_of(c)}</title>"
                 yield f"{shape}</g>"
 
+    def outlines(self, cells, style):
+        """The borders of cells, as far as they are in view, each with its number in the list beside the corner that is furthest from the middle."""
+        for place, c in enumerate(cells):
+            points = list(border(c, max(16, 16 >> level_of(c) // 2)))
+            corners = within([self.seen(p) for p in points], 0, 2 * self.half)
+            if not corners or all(dot(p, self.normal) < 0 for p in points):
+                continue
+            on_edge = lambda p, q: any(abs(p[k] - at) + abs(q[k] - at) < 0.01 for k in (0, 1) for at in (0, 2 * self.half))
+            lines = (f"M{p[0]:.2f},{p[1]:.2f} {q[0]:.2f},{q[1]:.2f}" for p, q in zip(corners, corners[1:] + corners[:1]) if not on_edge(p, q))
+            far, own = max(corners, key=lambda corner: math.dist(corner, (self.half, self.half))), [sum(ts) / len(corners) for ts in zip(*corners)]
+            x, y = (a + (b - a) * 36 / (math.dist(far, own) or 1) for a, b in zip(far, own))
+            yield f"<g><title>start cell {token_of(c)} level {level_of(c)}</title>"
+            yield f'<path d="{" ".join(lines)}" {style}/>'
+            yield f'<text x="{x:.2f}" y="{y:.2f}" font-family="sans-serif" font-size="22" text-anchor="middle" fill="#3b4a66">{place}</text></g>'
+
+    def below(self, lines):
+        """Lines of words in the room below the view."""
+        return [text(16, line, 824 + ROW * k) for k, line in enumerate(lines, 1)]
+
     def ring(self, radius, style):
         """The rim of a disc around the centre."""
         at = rim(self.normal, radius)
         return self.shape([at(math.radians(n)) for n in range(360)], style)
 
 
-def text(x, words):
+def within(points, low, high):
+    """The part of a polygon that lies in a square: along each of the square's sides what is beyond it is cut off."""
+    for axis in (0, 1):
+        for sign, bound in ((1, low), (-1, -high)):
+            over = [sign * p[axis] - bound for p in points]
+            found = []
+            for k, p in enumerate(points):
+                q, a, b = points[k - 1], over[k - 1], over[k]
+                if (a < 0) != (b < 0):
+                    found.append(tuple(s + (t - s) * a / (a - b) for s, t in zip(q, p)))
+                if b >= 0:
+                    found.append(p)
+            points = found
+    return points
+
+
+def text(x, words, y=824):
     """A line of SVG with words below the view."""
-    return f'<text x="{x}" y="824" font-family="sans-serif" font-size="15" fill="#333">{words}</text>'
+    return f'<text x="{x}" y="{y}" font-family="sans-serif" font-size="15" fill="#333">{words}</text>'
 
 
 def key(x, style, words):

@@ -16,15 +16,17 @@
  *   level_mod              1, 2 or 3: levels are min_level plus whole steps of this
  *   max_cells              0 to 1,000: how many cells are aimed at. More are given where min_level or the start cells ask it
  *   allowance              how many steps the run may take, 0 to 4,294,967,295
- *   mem, mem_len           working memory, at least 4,096 words. What stands in it makes no difference to the answer. Words from
- *                          4,096 on are never touched
+ *   mem, mem_len           working memory, at least 5,120 words. What stands in it makes no difference to the answer. Words from
+ *                          5,120 on are never touched
  *   out, out_len           the output, of any length. The ids of the answer go into its first places
- *   count, steps, aside    where the answer's values are written: how many ids it has; how many steps the run took; how many leaf
- *                          cells (of level 30) an outer run set aside as outside the region. With level_mod above 1 the start
- *                          cells of a list may overlap; a leaf cell that is set aside under two of them counts twice
- * Pointers must be valid for the lengths given, aligned as uint64_t is, and not null, not even for a length of 0, as of an empty
- * list; and no two of list, mem, out, count, steps and aside may overlap. This is the caller's part: C passes no lengths that could
- * be tested.
+ *   count, steps, aside    where the answer's values are written: how many ids it has; how many steps the run took; and in six words
+ *                          how many leaf cells (of level 30) an outer run set aside as outside the region, by start cell: aside[0]
+ *                          those under the first cell that the run started from, aside[1] those under the second, and so on; 0 where
+ *                          there is no such start cell. Their sum is all that was set aside. With level_mod above 1 the start cells
+ *                          of a list may overlap; a leaf cell that is set aside under two of them counts under each
+ * Pointers must be valid for the lengths given, aside for six words, aligned as uint64_t is, and not null, not even for a length of 0,
+ * as of an empty list; and no two of list, mem, out, count, steps and aside may overlap. This is the caller's part: C passes no lengths
+ * that could be tested.
  *
  * RESULT. The number of the refusal, or 0 for success.
  *    1  max_level is over 30                                     mem unchanged
@@ -35,14 +37,14 @@
  *       finite or not of unit length, a radius that is not
  *       finite or over 4, an id that is not a cell, a list
  *       that descends or overlaps or has over 4,096 ids
- *    6  mem_len is under 4,096                                   mem unchanged
- *    7  the run's queue would hold 1,025 candidates at once      first 4,096 words of mem zero
- *    8  the run would keep a 1,025th raw cell                    first 4,096 words of mem zero
- *    9  the queue isn't empty and the allowance is used up       first 4,096 words of mem zero
- *   10  the answer is longer than out_len                        first 4,096 words of mem zero
+ *    6  mem_len is under 5,120                                   mem unchanged
+ *    7  the run's queue would hold 1,025 candidates at once      first 5,120 words of mem zero
+ *    8  the run would keep a 1,025th raw cell                    first 5,120 words of mem zero
+ *    9  the queue isn't empty and the allowance is used up       first 5,120 words of mem zero
+ *   10  the answer is longer than out_len                        first 5,120 words of mem zero
  * 1 to 6 are tested in that order, before anything else; 7 to 9 come as the run meets them. A refusal leaves the output as it was
- * and writes 0 to count, steps and aside. A success leaves the ids in the first `count` places of the output, the rest of the
- * output as it was, and the first 4,096 words of mem zero.
+ * and writes 0 to count, to steps and to all six of aside. A success leaves the ids in the first `count` places of the output, the rest
+ * of the output as it was, and the first 5,120 words of mem zero.
  */
 #ifndef FLAXBADGER_H
 #define FLAXBADGER_H
@@ -55,7 +57,8 @@
 extern "C" {
 #endif
 
-#define FLAXBADGER_MEMORY 4096 /* words of working memory that are always enough */
+#define FLAXBADGER_MEMORY 5120 /* words of working memory that are always enough */
+#define FLAXBADGER_STARTS 6 /* cells that a run starts from, at most: as many words has aside */
 #define FLAXBADGER_LIST_MOST 4096 /* ids that a list may have as a region */
 
 #define FLAXBADGER_CAP double x, double y, double z, double radius
@@ -63,7 +66,7 @@ extern "C" {
 #define FLAXBADGER_LIST const uint64_t *list, size_t list_len
 #define FLAXBADGER_LEVELS uint64_t min_level, uint64_t max_level, uint64_t level_mod, uint64_t max_cells
 #define FLAXBADGER_BUFFERS \
-    uint64_t *mem, size_t mem_len, uint64_t *out, size_t out_len, uint64_t *count, uint64_t *steps, uint64_t *aside
+    uint64_t *mem, size_t mem_len, uint64_t *out, size_t out_len, uint64_t *count, uint64_t *steps, uint64_t aside[FLAXBADGER_STARTS]
 
 /* A covering: cells that cover the region, of levels min_level to max_level in whole steps of level_mod, ascending. */
 uint64_t flaxbadger_covering_cap(FLAXBADGER_CAP, FLAXBADGER_LEVELS, uint32_t allowance, FLAXBADGER_BUFFERS);
@@ -81,7 +84,7 @@ uint64_t flaxbadger_raw_cap(FLAXBADGER_CAP, FLAXBADGER_LEVELS, uint32_t allowanc
 uint64_t flaxbadger_raw_cell(FLAXBADGER_CELL, FLAXBADGER_LEVELS, uint32_t allowance, FLAXBADGER_BUFFERS);
 uint64_t flaxbadger_raw_list(FLAXBADGER_LIST, FLAXBADGER_LEVELS, uint32_t allowance, FLAXBADGER_BUFFERS);
 
-/* The same three for cells inside the region: aside is 0. */
+/* The same three for cells inside the region: aside is six zeros. */
 uint64_t flaxbadger_interior_covering_cap(FLAXBADGER_CAP, FLAXBADGER_LEVELS, uint32_t allowance, FLAXBADGER_BUFFERS);
 uint64_t flaxbadger_interior_covering_cell(FLAXBADGER_CELL, FLAXBADGER_LEVELS, uint32_t allowance, FLAXBADGER_BUFFERS);
 uint64_t flaxbadger_interior_covering_list(FLAXBADGER_LIST, FLAXBADGER_LEVELS, uint32_t allowance, FLAXBADGER_BUFFERS);
@@ -92,8 +95,8 @@ uint64_t flaxbadger_interior_raw_cap(FLAXBADGER_CAP, FLAXBADGER_LEVELS, uint32_t
 uint64_t flaxbadger_interior_raw_cell(FLAXBADGER_CELL, FLAXBADGER_LEVELS, uint32_t allowance, FLAXBADGER_BUFFERS);
 uint64_t flaxbadger_interior_raw_list(FLAXBADGER_LIST, FLAXBADGER_LEVELS, uint32_t allowance, FLAXBADGER_BUFFERS);
 
-/* A quick, coarse covering from the region's bound alone: no run, no allowance; steps and aside are 0, and of the refusals only 1 to 6
- * and 10 come. */
+/* A quick, coarse covering from the region's bound alone: no run, no allowance; steps is 0, aside six zeros, and of the refusals only 1 to
+ * 6 and 10 come. */
 uint64_t flaxbadger_fast_covering_cap(FLAXBADGER_CAP, FLAXBADGER_LEVELS, FLAXBADGER_BUFFERS);
 uint64_t flaxbadger_fast_covering_cell(FLAXBADGER_CELL, FLAXBADGER_LEVELS, FLAXBADGER_BUFFERS);
 uint64_t flaxbadger_fast_covering_list(FLAXBADGER_LIST, FLAXBADGER_LEVELS, FLAXBADGER_BUFFERS);
@@ -198,7 +201,7 @@ uint64_t flaxbadger_read_tokens(const uint8_t *text, size_t text_len, uint64_t *
  * left in the output: refusals, count, steps, aside, mem and the ids in the output are the same. An order that is refused takes no room, and
  * the next one is answered.
  *
- * Into each record the answer is written: number (0 for success, or the refusal's), count, steps and aside. Nothing else in it is changed. The
+ * Into each record the answer is written: number (0 for success, or the refusal's), count, steps and the six of aside. Nothing else in it is changed. The
  * list of the record orders[k] begins behind the counts of those before it, at out[orders[0].count + .. + orders[k - 1].count]; the counts
  * of all are the places that are taken. The rest of the output stays as it was.
  *
@@ -208,7 +211,7 @@ uint64_t flaxbadger_read_tokens(const uint8_t *text, size_t text_len, uint64_t *
  *   allowance          how many steps its run may take; of a quick covering it says nothing
  *
  * The result is 0; or 13, where orders_len is over 256: no order is looked at, and records, mem and out are as they were. The record is laid
- * out as C does it, in 120 bytes on x86-64 Linux. A bool is 0 or 1, as C makes it. orders may not overlap mem or out, nor they each other, and
+ * out as C does it, in 160 bytes on x86-64 Linux. A bool is 0 or 1, as C makes it. orders may not overlap mem or out, nor they each other, and
  * what is said of pointers above holds here too. */
 typedef struct {
     double x, y, z;
@@ -227,14 +230,14 @@ typedef struct {
     uint64_t number; /* from byte 0 */
     size_t count;    /* 8 */
     uint32_t steps;  /* 16 */
-    uint64_t aside;  /* 24 */
-    bool fast;       /* 32 */
-    bool inner;      /* 33 */
-    bool cell;       /* 34 */
-    uint64_t id;     /* 40 */
-    flaxbadger_cap cap;         /* 48 */
-    flaxbadger_coverer coverer; /* 80 */
-    uint32_t allowance;         /* 112 */
+    uint64_t aside[FLAXBADGER_STARTS]; /* 24 */
+    bool fast;       /* 72 */
+    bool inner;      /* 73 */
+    bool cell;       /* 74 */
+    uint64_t id;     /* 80 */
+    flaxbadger_cap cap;         /* 88 */
+    flaxbadger_coverer coverer; /* 120 */
+    uint32_t allowance;         /* 152 */
 } flaxbadger_order;
 
 #define FLAXBADGER_ORDERS 256 /* orders that a night may have */

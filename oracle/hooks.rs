@@ -3,7 +3,8 @@
 //! The words are paper 01's: a step takes one candidate from the queue; 7 when the queue would hold 1,025 candidates,
 //! 8 when a 1,025th raw cell would be kept, 9 when the queue isn't empty and the allowance is used up, looked at before
 //! each step. Once a run is refused, nothing more is added and no step is taken. Set aside are, in an outer run, a start
-//! cell that fails, and the failed cells of the expansion of a candidate that is handed on to its children or has none.
+//! cell that fails, and the failed cells of the expansion of a candidate that is handed on to its children or has none:
+//! each under the place of its start cell, paper 02's request h, or, in the build `total`, all under one.
 
 use crate::s2::cellid::{CellID, MAX_LEVEL};
 use std::cell::RefCell;
@@ -11,19 +12,29 @@ use std::cell::RefCell;
 /// The most places that the line program's output has.
 pub const ROOM: u128 = 65_536;
 const LIMIT: usize = 1_024;
+/// Start cells, at most.
+pub const PLACES: usize = 6;
 
-/// One run: the allowance that it was given and what it has reported so far.
+/// One run: the allowance that it was given, whether its steps are to be told, and what it has reported so far.
 #[derive(Default)]
 pub struct Run {
     pub allowance: u64,
+    pub watched: bool,
     pub steps: u64,
-    pub aside: u64,
+    /// Leaves set aside by the place of the start cell.
+    pub aside: [u64; PLACES],
+    /// Leaves set aside, where no candidate has a place.
+    pub total: u64,
     /// 7, 8 or 9 once the run is refused, else 0.
     pub refused: u8,
     pub starts: Vec<CellID>,
     pub raw: Vec<CellID>,
-    /// Cost and id of each candidate taken.
-    pub taken: Vec<(i64, u64)>,
+    /// Cost, id and place, where it has one, of each candidate taken.
+    pub taken: Vec<String>,
+    /// What stands after each step, from that of the start cells on, in the words of the program `steps`.
+    pub stood: Vec<String>,
+    /// How often a cell was queued while the same cell was, from another start cell.
+    pub twins: u64,
     /// A list would have become longer than ROOM and was left as it was.
     pub long: bool,
 }
@@ -36,8 +47,8 @@ fn with<T>(f: impl FnOnce(&mut Run) -> T) -> T {
     RUN.with(|run| f(&mut run.borrow_mut()))
 }
 
-pub fn begin(allowance: u64) {
-    with(|run| *run = Run { allowance, ..Run::default() })
+pub fn begin(allowance: u64, watched: bool) {
+    with(|run| *run = Run { allowance, watched, ..Run::default() })
 }
 
 pub fn end() -> Run {
@@ -67,7 +78,30 @@ pub fn may_step(queue: usize) -> bool {
 }
 
 pub fn taken(priority: isize, id: &CellID) {
-    with(|run| run.taken.push((-(priority as i64), id.0)))
+    with(|run| run.taken.push(format!("{}:{:016x}", -priority, id.0)))
+}
+
+pub fn taken_from(priority: isize, id: &CellID, place: usize) {
+    with(|run| run.taken.push(format!("{}:{:016x}:{place}", -priority, id.0)))
+}
+
+/// With the cells kept and the queue's candidates, cost, id and place of each, in any order: before each step, and at the end, where the queue is empty.
+pub fn stands(kept: &[CellID], queue: impl Iterator<Item = (isize, CellID, usize)>) {
+    with(|run| {
+        if !run.watched || run.refused != 0 {
+            return;
+        }
+        let mut queued: Vec<_> = queue.map(|(cost, id, place)| (cost, id.0, place)).collect();
+        queued.sort();
+        let taken = run.taken.last().map_or(String::from("0:0000000000000000:0"), String::clone);
+        let [cost, id, place] = taken.split(':').collect::<Vec<_>>()[..] else { unreachable!() };
+        let mut words = vec![format!("step {} {id} {cost} {place} {} {}", run.steps, kept.len(), queued.len())];
+        words.extend(run.aside.iter().map(u64::to_string));
+        words.extend(kept.iter().map(|id| format!("{:016x}", id.0)));
+        words.extend(queued.iter().map(|(cost, id, place)| format!("{id:016x} {cost} {place}")));
+        run.stood.truncate(run.steps as usize);
+        run.stood.push(words.join(" "));
+    })
 }
 
 /// Before a candidate is queued, with the queue's length.
@@ -78,6 +112,11 @@ pub fn may_queue(queue: usize) -> bool {
         }
         run.refused == 0
     })
+}
+
+/// Before a candidate is queued, with whether the same cell waits there from another start cell.
+pub fn queued(twin: bool) {
+    with(|run| run.twins += u64::from(twin))
 }
 
 /// Before a cell is kept, with the number of cells kept so far.
@@ -92,7 +131,13 @@ pub fn may_keep(kept: usize) -> bool {
 
 pub fn set_aside(inner: bool, leaves: u64) {
     if !inner {
-        with(|run| run.aside += leaves)
+        with(|run| run.total += leaves)
+    }
+}
+
+pub fn set_aside_at(inner: bool, place: usize, leaves: u64) {
+    if !inner {
+        with(|run| run.aside[place] += leaves)
     }
 }
 

@@ -11,7 +11,7 @@
 //!                            list LIST, LIST COUNT NUMBER..., any numbers, at most 16,384, here and wherever a region stands;
 //!                            OPTION allow=N, out=N, mem=N, tokens=N or engine=WORD, in any order, each at most once; with
 //!                            tokens=1 ids are written as tokens, WORD, which is quick, plain or both, says nothing; answer
-//!                            ok STEPS ASIDE COUNT ID... or refused NUMBER
+//!                            ok STEPS ASIDE0 .. ASIDE5 COUNT ID... or refused NUMBER; in the build `total` ok STEPS ASIDE COUNT ID...
 //!     ranges LIST [OPTION...], cells LIST [OPTION...]
 //!                            lists as in a region; answer ok COUNT NUMBER... or refused NUMBER
 //!     union LIST LIST [OPTION...], common LIST LIST [OPTION...], difference LIST LIST [OPTION...]
@@ -19,7 +19,10 @@
 //!     write_tokens ROOM LIST answer ok BYTES TEXT, a text as two hex digits a byte, refused 11 FIRST or refused 12
 //!     read_tokens ROOM [TEXT]
 //!                            no TEXT for an empty one; answer ok COUNT ID..., refused 11 FIRST or refused 12
-//!     trace KIND ...         the candidates that the run takes, COUNT COST:ID...; hooked builds only
+//!     trace KIND ...         the candidates that the run takes, COUNT COST:ID:PLACE..., in the build `total` COUNT COST:ID...; hooked builds only
+//!     steps KIND ...         what the program `steps` writes, its lines with a semicolon between them; builds with places only
+//!     twofold KIND ...       whether start cells overlap, and how often a cell was queued while the same cell was, from another start cell;
+//!                            builds with places only
 //!     levels R COUNT         the level for each of COUNT floats from R upwards in their bits, as runs LEVEL:HOW-MANY...
 //!     normalize LIST, denormalize MIN MOD LIST, normalize_covering MIN MAX MOD MAX_CELLS LIST
 //!                            LIST COUNT ID..., at most 4,096 ids
@@ -40,7 +43,7 @@
 //! Domains: ids are valid; floats are finite (but for cover's regions and sqrt); a point is_unit (but for is_unit itself);
 //! a cap is in paper 01's domain, a radius at most 4; a list as a region is in paper 02's: valid, ascending, no cell inside
 //! another, at most 4,096 ids; vertex_neighbors asks for a level above the id's own.
-//! The builds with the unmodified region.rs have no steps, set-aside totals, raw lists and start cells: they write `-` for
+//! The builds with the unmodified region.rs have no steps, set-aside totals, raw lists and start cells: they write `-` for each of
 //! these and never refuse with 7 to 10. They find the normalised outer list by normalising the covering, which has the
 //! same leaves. Where a run asks too many tests, or fast covering might have too many cells, they answer `cut`.
 //! `panic` answers a question at which the Rust panics.
@@ -79,6 +82,8 @@ const LINE: usize = 262_144;
 const IDS: u64 = 4_096;
 const DIGITS: usize = 20;
 const WORDS: u64 = 8_192;
+/// Words of memory below which a request is refused.
+const ENOUGH: u64 = 5_120;
 const NUMBERS: u64 = 16_384;
 const NAN: &str = "7ff8000000000000";
 
@@ -259,7 +264,7 @@ impl<'a> Fields<'a> {
                 return Err("twice");
             }
         }
-        let (allowance, out, memory) = (allowance.unwrap_or(0xffffffff), out.unwrap_or(65_536), memory.unwrap_or(4_096));
+        let (allowance, out, memory) = (allowance.unwrap_or(0xffffffff), out.unwrap_or(65_536), memory.unwrap_or(ENOUGH));
         let tokens = tokens.unwrap_or(0);
         if allowance > 0xffffffff || u128::from(out) > hooks::ROOM || memory > WORDS || tokens > 1 {
             return Err("large");
@@ -431,7 +436,40 @@ fn may_be_long(bound: &[CellID], numbers: &Numbers) -> bool {
     !cfg!(hooked) && hooks::denormalized(&bound, numbers.min, numbers.step) > hooks::ROOM
 }
 
-fn cover(kind: Kind, fields: &mut Fields, trace: bool) -> Result<String, Word> {
+/// What is told of a request: its answer, or something about its run.
+#[derive(Clone, Copy, PartialEq)]
+enum Told {
+    Answer,
+    Trace,
+    Steps,
+    Twofold,
+}
+
+fn told(word: &str) -> Told {
+    match word {
+        "trace" => Told::Trace,
+        "steps" => Told::Steps,
+        "twofold" => Told::Twofold,
+        _ => Told::Answer,
+    }
+}
+
+/// Steps and set-aside totals.
+fn figures(run: &hooks::Run) -> String {
+    if !cfg!(hooked) {
+        return vec!["-"; 1 + hooks::PLACES].join(" ");
+    }
+    let totals: &[u64] = if cfg!(placed) { &run.aside } else { &[run.total] };
+    let words: Vec<String> = [run.steps].iter().chain(totals).map(u64::to_string).collect();
+    words.join(" ")
+}
+
+/// Whether two of the cells share a leaf.
+fn overlap(cells: &[CellID]) -> bool {
+    cells.iter().enumerate().any(|(at, one)| cells[..at].iter().any(|other| other.intersects(one)))
+}
+
+fn cover(kind: Kind, fields: &mut Fields, told: Told) -> Result<String, Word> {
     let numbers = Numbers::read(fields)?;
     let region = fields.region()?;
     let options = fields.options()?;
@@ -440,17 +478,20 @@ fn cover(kind: Kind, fields: &mut Fields, trace: bool) -> Result<String, Word> {
         return refused(numbers.refusal());
     }
     let Some(region) = region else { return refused(5) };
-    if options.memory < 4_096 {
+    if options.memory < ENOUGH {
         return refused(6);
     }
     let coverer = numbers.coverer();
+    if kind == Kind::Fast && told == Told::Steps {
+        return Err("domain");
+    }
     if kind == Kind::Fast && may_be_long(&region.cell_union_bound(), &numbers) {
         return Ok(String::from("cut"));
     }
-    if (trace || kind == Kind::Raw || kind == Kind::Iraw) && !cfg!(hooked) {
+    if (told == Told::Trace || kind == Kind::Raw || kind == Kind::Iraw) && !cfg!(hooked) || matches!(told, Told::Steps | Told::Twofold) && !cfg!(placed) {
         return Ok(String::from("-"));
     }
-    hooks::begin(options.allowance);
+    hooks::begin(options.allowance, told == Told::Steps);
     ASKED.set(0);
     let found = match kind {
         Kind::Covering => coverer.covering(&region).0,
@@ -460,22 +501,24 @@ fn cover(kind: Kind, fields: &mut Fields, trace: bool) -> Result<String, Word> {
         Kind::Fast => coverer.fast_covering(&region).0,
     };
     let run = hooks::end();
-    if trace {
-        let mut text = run.taken.len().to_string();
-        for (cost, id) in run.taken {
-            text.push_str(&format!(" {cost}:{id:016x}"));
+    match told {
+        Told::Trace => return Ok([run.taken.len().to_string()].into_iter().chain(run.taken).collect::<Vec<_>>().join(" ")),
+        Told::Twofold => return Ok(format!("{} {}", truth(overlap(&run.starts)), run.twins)),
+        Told::Steps => {
+            let done = format!("done {} {}", figures(&run), run.raw.len());
+            let last = if run.refused != 0 { format!("refused {}", run.refused) } else { done };
+            return Ok([run.stood, vec![last]].concat().join(";"));
         }
-        return Ok(text);
+        Told::Answer => {}
     }
     if run.refused != 0 {
         return refused(run.refused);
     }
-    let found = if kind == Kind::Raw || kind == Kind::Iraw { run.raw } else { found };
+    let found = if kind == Kind::Raw || kind == Kind::Iraw { run.raw.clone() } else { found };
     if cfg!(hooked) && (run.long || found.len() as u64 > options.out) {
         return refused(10);
     }
-    let numbers = if cfg!(hooked) { format!("{} {}", run.steps, run.aside) } else { String::from("- -") };
-    Ok(format!("ok {numbers} {}", answered(&found, &options)))
+    Ok(format!("ok {} {}", figures(&run), answered(&found, &options)))
 }
 
 /// A list as pairs of first and last leaf; None for one outside the rules.
@@ -688,7 +731,7 @@ fn probe(question: &str, fields: &mut Fields) -> Result<String, Word> {
             if may_be_long(&bound, &numbers) {
                 return Ok(String::from("cut"));
             }
-            hooks::begin(0);
+            hooks::begin(0, false);
             let found = numbers.coverer().fast_covering(&Bound(bound)).0;
             if hooks::end().long {
                 return Err("room");
@@ -705,7 +748,7 @@ fn probe(question: &str, fields: &mut Fields) -> Result<String, Word> {
             if !cfg!(hooked) {
                 return Ok(String::from("-"));
             }
-            hooks::begin(0);
+            hooks::begin(0, false);
             ASKED.set(0);
             numbers.coverer().covering(&region);
             list(&hooks::end().starts)
@@ -717,13 +760,13 @@ fn probe(question: &str, fields: &mut Fields) -> Result<String, Word> {
 fn question(fields: Vec<&str>) -> Result<String, Word> {
     let mut fields = Fields(fields.into_iter().peekable());
     let mut word = fields.word()?;
-    let trace = word == "trace";
-    if trace {
+    let told = told(word);
+    if told != Told::Answer {
         word = fields.word()?;
     }
     let answer = match kind(word) {
-        Some(kind) => cover(kind, &mut fields, trace)?,
-        None if trace => return Err("kind"),
+        Some(kind) => cover(kind, &mut fields, told)?,
+        None if told != Told::Answer => return Err("kind"),
         None => probe(word, &mut fields)?,
     };
     fields.end()?;

@@ -2,8 +2,8 @@
 
 Used by oracle/compare --lists and oracle/picklists. A Picker with the same seed gives the same questions. Lists, and lists that
 break a rule, are those of oracle/idlists.py and some more: cells inside one, runs of neighbours, siblings, one cell a face, what
-discs were covered with, lists whose start cells lie inside one another once they are moved, lists that come to as many cells as
-the limits of a run are. Most are short: a run joins the listed cells two at a time, all of them looked at each time, which takes
+discs were covered with, lists whose start cells lie inside one another once they are moved, and some of them such that a run queues a
+cell from two start cells at once, lists that come to as many cells as the limits of a run are. Most are short: a run joins the listed cells two at a time, all of them looked at each time, which takes
 the square of their number. What stands here only chooses questions and decides no answer.
 """
 
@@ -71,7 +71,7 @@ class Picker(questions.Picker):
             region, natural = super().region()
             kind = self.r.choice(["covering", "covering", "cellunion", "interior", "icellunion", "fast"])
             lines.append(" ".join([kind, *map(str, self.numbers(natural)), region, f"out={self.r.choice([20, 50, 100, 100, 400])}"]))
-        self.pool = [[int(word, 16) for word in answer.split(" ")[4:]] for answer in ask(lines) if answer.startswith("ok")]
+        self.pool = [[int(word, 16) for word in answer.split(" ")[questions.COUNT + 1:]] for answer in ask(lines) if answer.startswith("ok")]
 
     # lists
 
@@ -159,6 +159,22 @@ class Picker(questions.Picker):
         low, high = level - step * r.randint(0, level // step), max(map(level_of, found)) + r.choice([0, 0, 1, 3])
         return apart(found), (low, r.choice([30, min(30, high)]), step, r.choice([2, 3, 3, 4, 4, 8, 20]))
 
+    def placed(self):
+        """A request whose start cells overlap. One of them, moved to its adjusted level, holds others that were kept before it, with several listed cells
+        in each, so that they wait in the queue when the run comes to them once more, from the cell that holds them. max_cells is often such that one of
+        the two is handed on and the other is not."""
+        r, step = self.r, self.r.choice([2, 3])
+        level = r.randint(0, 30 - 2 * step)
+        above, place = self.id(level), r.randint(1, 3)
+        found = [self.under(child(above, place), level + r.randint(1, step - 1))]
+        for _ in range(r.choice([2, 2, 3])):
+            top = self.under(child(above, r.randrange(place)), level + step * r.choice([1, 1, 1, 2]))
+            found += [self.under(top, min(30, level_of(top) + r.randint(1, 4))) for _ in range(r.randint(1, 6))]
+        if self.chance(0.1):
+            found.append(self.id())
+        high = r.choice([30, max(map(level_of, found)) + r.choice([0, 0, 1, 3])])
+        return self.outer(level - step * r.randint(0, level // step), high, step, r.randint(4, 24), f"list {counted(apart(found))}")
+
     def under(self, id, level):
         """A cell of a level in a cell."""
         low = id & -id
@@ -205,7 +221,7 @@ class Picker(questions.Picker):
         low = high + 1 if 2 in faults else 2
         region = self.bad_region() if 5 in faults else self.region()[0]
         line = f"{self.r.choice(questions.KINDS)} {low} {high} {4 if 3 in faults else 1} {1001 if 4 in faults else 8} {region}"
-        return line + "".join(f" {option}" for fault, option in ((9, "allow=0"), (10, "out=0"), (6, "mem=4095")) if fault in faults)
+        return line + "".join(f" {option}" for fault, option in ((9, "allow=0"), (10, "out=0"), (6, f"mem={questions.WORDS - 1}")) if fault in faults)
 
     def request(self):
         """One `cover` line."""
@@ -241,8 +257,8 @@ class Picker(questions.Picker):
         """As before; and now and then the answer itself is a list for another request."""
         words = answer.split(" ")
         found = super().derived(line, answer, taken)
-        if words[0] == "ok" and line.split(" ")[0] not in ("raw", "iraw") and "tokens" not in line and len(words) < 104 and self.chance(0.3):
-            ids = [int(word, 16) for word in words[4:]]
+        if words[0] == "ok" and line.split(" ")[0] not in ("raw", "iraw") and "tokens" not in line and int(words[questions.COUNT]) < 100 and self.chance(0.3):
+            ids = [int(word, 16) for word in words[questions.COUNT + 1:]]
             found.append(" ".join([self.r.choice(questions.KINDS), *map(str, self.numbers(self.natural(ids))), "list", counted(ids)]))
         return found
 

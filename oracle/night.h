@@ -18,7 +18,7 @@ struct night {
 };
 
 struct told {
-    uint64_t number, count, steps, aside;
+    uint64_t number, count, steps, aside[FLAXBADGER_STARTS];
 };
 
 static void *room(size_t bytes) {
@@ -67,10 +67,11 @@ static struct night read_night(FILE *from) {
 
 #define LEVELS o->coverer.min_level, o->coverer.max_level, o->coverer.level_mod, o->coverer.max_cells
 #define CAP o->cap.center.x, o->cap.center.y, o->cap.center.z, o->cap.radius
-#define BUFFERS mem, mem_len, out, out_len, &t.count, &t.steps, &t.aside
+#define BUFFERS mem, mem_len, out, out_len, &t.count, &t.steps, t.aside
 
 static inline struct told alone(const flaxbadger_order *o, uint64_t *mem, size_t mem_len, uint64_t *out, size_t out_len) {
-    struct told t = {0, UINT64_MAX, UINT64_MAX, UINT64_MAX};
+    struct told t;
+    memset(&t, 0xff, sizeof t);
     if (o->fast && o->cell) t.number = flaxbadger_fast_covering_cell(o->id, LEVELS, BUFFERS);
     else if (o->fast) t.number = flaxbadger_fast_covering_cap(CAP, LEVELS, BUFFERS);
     else if (o->inner && o->cell) t.number = flaxbadger_interior_covering_cell(o->id, LEVELS, o->allowance, BUFFERS);

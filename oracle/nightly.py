@@ -10,13 +10,14 @@ import re
 
 import questions
 from judges import RUST
+from questions import WORDS
 
 LARGE = 65536  # places of an output, at most: the Rust takes no more
 MOST = 256  # orders of a night
+MEMORY = 8192  # words of memory, at most
 FEWEST = 1000  # requests from which the orders of a batch are taken
 FLIPS = 60
 LIMITS = 12
-WORDS = 4096  # of memory, that are always enough
 ALLOWANCE = 4294967295  # where a request has none
 OFTEN = [1, 2, MOST - 1, MOST]
 OVER = [MOST + 1, MOST + 1, MOST + 2, 300, 512, 1000]
@@ -26,7 +27,7 @@ ROOMS = {
     "none": lambda cells: 0, "large": lambda cells: LARGE,
 }
 WEIGHTS = [4, 4, 3, 1, 2]  # of these
-COUNT = re.compile(r"ok \d+ \d+ \d+ (\d+)\b")
+COUNT = re.compile(r"ok \d+ \d+(?: \d+){6} (\d+)\b")
 
 Order = collections.namedtuple("Order", "sort asks allowance fields")  # as a request without options, and as oracle/night.h reads it
 Night = collections.namedtuple("Night", "room out mem orders")  # room: the output's length in words, of ROOMS
@@ -48,7 +49,7 @@ def read(night, answers):
     for answer in answers:
         word, *values = answer.split(" ")
         lines.append(" ".join([word, str(taken), *values]) if word == "ok" else answer)
-        taken += int(values[2]) if word == "ok" else 0
+        taken += int(values[questions.COUNT - 1]) if word == "ok" else 0
     refused = sum(not line.startswith("ok") for line in lines)
     return [*lines, f"end {len(lines)} {refused} {taken} {night.out - taken}"]
 
@@ -90,7 +91,7 @@ class Picker(questions.Picker):
     def requests(self, many):
         """So many requests and some more, made from their answers or at the limits of a run."""
         self.find_flips(judge, FLIPS)
-        asked = [self.request() for _ in range(many)]
+        asked = [self.placed() if self.chance(1 / 6) else self.request() for _ in range(many)]
         known = [pair for pair in zip(asked, judge(asked)) if not pair[1].startswith("error")]
         more = [line for line, answer in known for line in self.derived(line, answer)]
         return [line for line, _ in known] + self.r.sample(more, min(len(more), many // 4)) + self.limits(judge, LIMITS)
@@ -103,7 +104,7 @@ class Picker(questions.Picker):
         r, pick = self.r, self.r.random()
         if pick < 0.8:
             return WORDS
-        return r.choice([WORDS + 1, 2 * WORDS, r.randint(WORDS, 2 * WORDS)] if pick < 0.9 else [0, 1, WORDS - 1, r.randint(0, WORDS - 1)])
+        return r.choice([WORDS + 1, MEMORY, r.randint(WORDS, MEMORY)] if pick < 0.9 else [0, 1, WORDS - 1, r.randint(0, WORDS - 1)])
 
     def nights(self, many):
         """So many nights, as yet with a large output."""

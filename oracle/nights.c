@@ -1,14 +1,16 @@
 /* Asks flaxbadger_night about the night on standard input (its form stands in oracle/night.h), and each of its orders of the function for it alone, in
  * turn, on a copy of the memory and on a copy of the output behind the lists so far. Writes a line an order and one more. See oracle/nights.
  *
- *     ok BEGIN STEPS ASIDE COUNT ID...    an order's answer; or `refused NUMBER`
- *     end ORDERS REFUSED CELLS LEFT       LEFT: places of the output that are not taken
- *     refused 13                          in place of all these lines
+ *     ok BEGIN STEPS ASIDE0 .. ASIDE5 COUNT ID...
+ *                                      an order's answer; or `refused NUMBER`
+ *     end ORDERS REFUSED CELLS LEFT    LEFT: places of the output that are not taken
+ *     refused 13                       in place of all these lines
  *
  * What else a call has to keep is looked at here, and behind a line stands what it did not. Of an order: `answer`, where its number, count, steps and aside
- * are not those of the single call; `order`, where a field that says what is asked is changed. Of the night: `beside`, where a byte of the records before and
- * behind the orders is changed; `memory` and `output`, where these, with their margins, are not the copies after the single calls, or are changed where no
- * call may change them. Of 13: `records`, `memory` and `output`, where any byte is changed. Memory and output are filled with words that no answer has. */
+ * are not those of the single call, or an inner, a fast or a refused one has a total over 0; `order`, where a field that says what is asked is changed. Of
+ * the night: `beside`, where a byte of the records before and behind the orders is changed; `memory` and `output`, where these, with their margins, are not
+ * the copies after the single calls, or are changed where no call may change them. Of 13: `records`, `memory` and `output`, where any byte is changed. Memory
+ * and output are filled with words that no answer has. */
 #include "night.h"
 
 enum { MARGIN = 64 };
@@ -43,7 +45,9 @@ static int same_asked(const flaxbadger_order *a, const flaxbadger_order *b) {
 }
 
 static int same_answer(const flaxbadger_order *o, struct told t) {
-    return o->number == t.number && o->count == t.count && o->steps == t.steps && o->aside == t.aside;
+    static const uint64_t none[FLAXBADGER_STARTS];
+    if ((o->fast || o->inner || o->number != 0) && memcmp(o->aside, none, sizeof none) != 0) return 0;
+    return o->number == t.number && o->count == t.count && o->steps == t.steps && memcmp(o->aside, t.aside, sizeof t.aside) == 0;
 }
 
 /* Writes an order's answer; of its ids no more than there are. */
@@ -52,7 +56,9 @@ static void tell(const flaxbadger_order *o, size_t begin, const uint64_t *out, s
         printf("refused %" PRIu64, o->number);
         return;
     }
-    printf("ok %zu %" PRIu32 " %" PRIu64 " %zu", begin, o->steps, o->aside, o->count);
+    printf("ok %zu %" PRIu32, begin, o->steps);
+    for (size_t at = 0; at < FLAXBADGER_STARTS; at++) printf(" %" PRIu64, o->aside[at]);
+    printf(" %zu", o->count);
     for (size_t at = 0; at < o->count && at < left; at++) printf(" %016" PRIx64, out[begin + at]);
 }
 

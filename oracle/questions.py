@@ -21,21 +21,24 @@ LISTS = {"normalize": 0, "denormalize": 2, "normalize_covering": 4}  # how many 
 # Paper 01's "Numbers to try" that are run and compared: request and answer.
 FULL, EMPTY = (f"cap 3ff0000000000000 0000000000000000 0000000000000000 {radius}" for radius in ("4010000000000000", "bff0000000000000"))
 FACES = " ".join(f"{face * 2 + 1:x}000000000000000" for face in range(6))
+NONE = "0 0 0 0 0 0"  # six set-aside totals
 NUMBERS = [
-    (f"covering 0 30 1 8 {FULL}", f"ok 0 0 6 {FACES}"),
-    (f"covering 1 30 1 8 {FULL}", "ok 6 0 24 " + " ".join(f"{(2 * k + 1) << 58:016x}" for k in range(24))),
+    (f"covering 0 30 1 8 {FULL}", f"ok 0 {NONE} 6 {FACES}"),
+    (f"covering 1 30 1 8 {FULL}", f"ok 6 {NONE} 24 " + " ".join(f"{(2 * k + 1) << 58:016x}" for k in range(24))),
     (f"covering 1 30 1 8 {FULL} allow=5", "refused 9"),
     (f"covering 1 30 1 8 {FULL} out=23", "refused 10"),
     (f"covering 4 30 1 8 {FULL} allow=10000", "refused 8"),
     (f"covering 5 30 1 8 {FULL} allow=10000", "refused 7"),
-    (f"interior 0 30 1 3 {FULL}", f"ok 0 0 6 {FACES}"),
-    (f"interior 1 30 1 3 {FULL}", "ok 2 0 3 0400000000000000 0c00000000000000 1400000000000000"),
-    (f"interior 1 30 1 0 {FULL}", "ok 1 0 0"),
-    ("covering 0 30 1 8 cell 1000000000000000", "ok 0 5764607523034234880 1 1000000000000000"),
-    (f"covering 0 30 1 8 {EMPTY}", "ok 0 16 0"),
-    (f"interior 0 30 1 8 {EMPTY}", "ok 0 0 0"),
-    (f"fast 0 30 1 8 {EMPTY}", "ok 0 0 4 0555555555555554 0ffffffffffffffc 1000000000000004 1aaaaaaaaaaaaaac"),
+    (f"interior 0 30 1 3 {FULL}", f"ok 0 {NONE} 6 {FACES}"),
+    (f"interior 1 30 1 3 {FULL}", f"ok 2 {NONE} 3 0400000000000000 0c00000000000000 1400000000000000"),
+    (f"interior 1 30 1 0 {FULL}", f"ok 1 {NONE} 0"),
+    ("covering 0 30 1 8 cell 1000000000000000", f"ok 0 0{f' {4**30}' * 5} 1 1000000000000000"),
+    (f"covering 0 30 1 8 {EMPTY}", "ok 0 4 4 4 4 0 0 0"),
+    (f"interior 0 30 1 8 {EMPTY}", f"ok 0 {NONE} 0"),
+    (f"fast 0 30 1 8 {EMPTY}", f"ok 0 {NONE} 4 0555555555555554 0ffffffffffffffc 1000000000000004 1aaaaaaaaaaaaaac"),
 ]
+WORDS = 5120  # of memory, that are always enough
+COUNT = 8  # words of an answer before the count of its ids: ok, the steps and six totals
 MALFORMED = [
     "coverings 0 30 1 8 cell 1000000000000000", "covering 0 30 1 8", "covering 0 30 1 8 cell", "covering 0 30 1 8 cell 10",
     "covering 0 30 1 8 cell 10000000000000000", "covering 0 30 1 8 cell 100000000000000g", "covering 0 x 1 8 cell 1000000000000000",
@@ -44,10 +47,10 @@ MALFORMED = [
     "covering 0 30 1 8 cell 1000000000000000 3000000000000000", "covering 0 30 1 8 cell 1000000000000000 allow=",
     "covering 0 30 1 8 cell 1000000000000000 allow=4294967296", "covering 0 30 1 8 cell 1000000000000000 room=3",
     "covering", "fast 0 30 1 8 cell 1000000000000000 out=x", "raw 0 30 1 8 cell 1000000000000000 mem=8193",
-    "raw 0 30 1 8 cell 1000000000000000 mem=4096 allow=1 mem=4096", "covering 0 30 1 8 allow=1 cell 1000000000000000",
-    "covering 0 30 1 8 cell 1000000000000000 allow=1 out=1 mem=4096 out=1", "iraw 0 30 1 8 cell 1000000000000000 out=1 out",
+    "raw 0 30 1 8 cell 1000000000000000 mem=5120 allow=1 mem=5120", "covering 0 30 1 8 allow=1 cell 1000000000000000",
+    "covering 0 30 1 8 cell 1000000000000000 allow=1 out=1 mem=5120 out=1", "iraw 0 30 1 8 cell 1000000000000000 out=1 out",
     "covering 0 30 1 8 cell 1000000000000000 tokens=2", "raw 0 30 1 8 cell 1000000000000000 tokens=", "fast 0 30 1 8 cell 1000000000000000 token=1",
-    "fast 0 30 1 8 cell 1000000000000000 tokens=1 out=8 tokens=1", "raw 0 30 1 8 cell 1000000000000000 tokens=1 mem=4096 out=8 allow=9 tokens=0",
+    "fast 0 30 1 8 cell 1000000000000000 tokens=1 out=8 tokens=1", "raw 0 30 1 8 cell 1000000000000000 tokens=1 mem=5120 out=8 allow=9 tokens=0",
 ]
 
 POS_TO_IJ = [[0, 1, 3, 2], [0, 2, 3, 1], [3, 2, 0, 1], [3, 1, 0, 2]]
@@ -443,7 +446,7 @@ class Picker:
         if self.chance(0.05):
             line += f" out={r.choice([0, 1, 3, 4, 6, 7, 8, 100, 1000, 1024, 65535, 65536])}"
         if self.chance(0.05):
-            line += f" mem={r.choice([0, 1, 4095, 4096, 4097])}"
+            line += f" mem={r.choice([0, 1, WORDS - 1, WORDS, WORDS + 1])}"
         return line
 
     def derived(self, line, answer, taken=None):
@@ -452,12 +455,12 @@ class Picker:
         if not line or line.split(" ")[0] not in KINDS or "=" in line:
             return []
         if words[0] == "ok" and words[1] != "-":
-            steps, count = int(words[1]), int(words[3])
-            found = [f"{line} allow={steps} out={count} mem=4096", f"{line} mem={self.r.choice([4095, 4096, 4097])}"]
+            steps, count = int(words[1]), int(words[COUNT])
+            found = [f"{line} allow={steps} out={count} mem={WORDS}", f"{line} mem={self.r.choice([WORDS - 1, WORDS, WORDS + 1])}"]
             if steps:
                 found += [f"{line} allow={steps - 1}", f"{line} allow={steps - 1} out={max(0, count - 1)}"]
             if count:
-                found += [f"{line} out={count - 1}", f"{line} allow={steps} out={count - 1} mem=4097"]
+                found += [f"{line} out={count - 1}", f"{line} allow={steps} out={count - 1} mem={WORDS + 1}"]
             return found
         if words[0] == "refused" and words[1] in ("7", "8") and taken:
             return [f"{line} allow={taken}", f"{line} allow={taken - 1}", f"{line} allow={taken} out=0"]
@@ -590,7 +593,27 @@ class Picker:
         region, natural = self.region()
         return " ".join(["starts", *map(str, self.numbers(natural)), region])
 
-    # what only oracle/compare asks
+    # what only oracle/compare asks, and oracle/lists of a picker of its own
+
+    def outer(self, low, high, step, cells, region):
+        """A request, most often for an outer run: the others set nothing aside."""
+        kind = self.r.choice(["covering", "cellunion", "raw", "raw"] if self.chance(0.8) else KINDS)
+        return f"{kind} {low} {max(low, min(30, high))} {step} {cells} {region}"
+
+    def placed(self):
+        """A request whose six totals tell: about a cap over several faces, most often at a corner or an edge of the cube, with much empty ground around it."""
+        r = self.r
+        v, pick = [r.choice([-1.0, 1.0]) for _ in range(3)], r.random()
+        if pick > 0.5:
+            v[r.randrange(3)] = r.uniform(-1, 1)
+        if pick > 0.8:
+            v = [r.gauss(0, 1) for _ in range(3)]
+        away = 10 ** r.uniform(-6, -0.5)
+        center = normalized([x + away * r.gauss(0, 1) for x in v])
+        radius = r.choice([r.uniform(0.05, 3.9), r.uniform(0.2, 1.5), 4.0 ** -r.uniform(0, 6)])
+        natural = max(0, round(-math.log2(math.sqrt(radius))))
+        low = r.choice([0, 0, natural, natural + 1, natural + 2])
+        return self.outer(low, low + r.choice([1, 2, 3, 4, 6, 30]), r.choice([1, 1, 2, 3]), r.choice([4, 6, 8, 12, 20, 50, 100, 300, 1000]), f"cap {hexed(*center, radius)}")
 
     def turned(self, line):
         """A request with its options in any order; now and then it says whether ids are to be written as tokens."""

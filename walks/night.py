@@ -10,8 +10,10 @@ ROOMS = ["L7", *(f"L{k}" for k in range(9, COUNT))]
 DIES = [f"D{k}" for k in range(COUNT)]
 AT = ["row", "mem", "out", "tok2", "tok3", "L5", "L6", *ROOMS, "L1", "L2", "L3", "L4", "L0", "L8", "obor", "obs", "auth", *DIES]
 BEGUN = ["ords", "mem", "out", "tok1", "tok2", "tok3", "L1", "L2", "L3", "L4", "L8", "L0", "L5", "L6", *ROOMS, *DIES]
-ANSWERS = [("number", "L17"), ("count", "L18"), ("steps", "L19"), ("aside", "L20")]
+ANSWERS = ["L17", "L18", "L19", "L20"]  # their places, in the order of the record's fields and of the answer's
 FITS = "(tt, record { fits = %s })"
+# a record where it lies, at its own type: behind a reference it stands at that type's raw form
+OWN = "fullShare T′.mir b₁ there (only (orderVals %s))"
 LISTS = "(ls .1 .1 .0) (ls .1 .1 .1 .0)"
 TAKEN = f"taken-fits t inside r {LISTS} sv e₃"
 # of the memory and of the output: the name of the context's entry, its token's, the lifetime, the name, and how the walk writes it
@@ -72,10 +74,11 @@ def called(w):
 
 def written(w):
     """The four answers go into the record, field by field."""
-    for k, (name, place) in enumerate(ANSWERS):
+    for k, place in enumerate(ANSWERS):
+        own = " .1" * k + " .0"
         w.say(f"assigns ! (bin ! ({w.var('L6')}) (lit ! tt) (record {{ fits = at-fits }})) (from ! (stop !)) (store ! {w.at('L10')} refl {FITS % 'at-fits'}) $")
         w.assign(f"bin ! ({w.field('L1', 0)}) ({w.var('L10')}) tt", place, "(tt, tt)")
-        w.say(f"assigns ! (of-opd ! ({w.field('L7', k)})) (from ! (hop ! (look ! {w.at(place)} refl) (fld ! refl (stop !)))) (store-in ! {w.at('cell')} (sub ! {k} refl (whole !)) {FITS % f'{name}-of r w ok'}) $")
+        w.say(f"assigns ! (of-opd ! ({w.field('L7', k)})) (from ! (hop ! (look ! {w.at(place)} refl) (fld ! refl (stop !)))) (store-in ! {w.at('cell')} (sub ! {k} refl (whole !)) (S′.the-laws{own} .lawful 𝓤 H A W .typed _ _ (LL.owed S.the-type S′.the-laws r _ ok{own}) .0)) $")
 
 
 def goes_on():
@@ -89,7 +92,8 @@ def goes_on():
     w.say("elem-out ! R (Is R) (shows 𝓤 H A R) orderVals order-tells fullShare (t .orders) i noOrder b₁ o₁ inside (λ is.")
     w.split_in("row", "cell", "own", "others")
     w.say("rewrite ! 0 (λ (k : ℕ). ‵ (cellAt fullShare (R .mir) (orderVals o) b₁ k)) (place-is (mem R .size) o₁ i) refl $")
-    w.assign(f"of-opd ! (load ! (from ! (hop ! (look ! {w.at('L11')} refl) (stop !))) (look-raw ! 0 refl))", "L12", "(order-typed o is)")
+    w.say(f"use1 W (‵ (fat {OWN % 'o'})) (W .laws .raw-at {OWN % 'o'}) $")
+    w.assign(f"of-opd ! (load ! (from ! (hop ! (look ! {w.at('L11')} refl) (stop !))) (look ! 0 refl))", "L12", "(order-typed o is)")
     w.note("the memory and the output are lent on")
     w.relend("L2", "L13", "L14", "room₂ .0")
     w.relend("L3", "L15", "L16", "room₃ .0")
@@ -105,6 +109,7 @@ def goes_on():
     w.say(f"assigns ! (bin ! ({w.var('L5')}) ({w.field('L7', 1)}) (record {{ fits = {TAKEN} }})) (from ! (stop !)) (store ! {w.at('L5')} refl {FITS % TAKEN}) $")
     w.say(f"assigns-last ! (bin ! ({w.var('L6')}) (lit ! tt) (record {{ fits = next-fits }})) (from ! (stop !)) (store ! {w.at('L6')} refl {FITS % 'next-fits'}) $")
     w.move("cell")
+    w.say(f"use1 W (‵ (cellAt fullShare (R .mir) (orderVals (new t r)) b₁ there)) (W .laws .at-raw {OWN % '(new t r)'}) $")
     w.say("rewrite ! 0 (λ (k : ℕ). ‵ (cellAt fullShare (R .mir) (orderVals (new t r)) b₁ k)) (sym (place-is (mem R .size) o₁ i)) refl $")
     w.say("owned ! R (Is R) (LL.makes T.the-type T′.the-plain 𝓤 H A) (new t r) _ (new-is t r w is ok) $")
     w.take(0, "new")

@@ -13,21 +13,30 @@ AT(number, 0);
 AT(count, 8);
 AT(steps, 16);
 AT(aside, 24);
-AT(fast, 32);
-AT(inner, 33);
-AT(cell, 34);
-AT(id, 40);
-AT(cap, 48);
-AT(coverer, 80);
-AT(allowance, 112);
-typedef char an_order_has_120_bytes[sizeof(flaxbadger_order) == 120 ? 1 : -1];
+AT(fast, 72);
+AT(inner, 73);
+AT(cell, 74);
+AT(id, 80);
+AT(cap, 88);
+AT(coverer, 120);
+AT(allowance, 152);
+typedef char an_order_has_160_bytes[sizeof(flaxbadger_order) == 160 ? 1 : -1];
 
 static uint64_t mem[FLAXBADGER_MEMORY];
 static uint64_t out[64];
 static flaxbadger_order orders[FLAXBADGER_ORDERS + 1], as_before[FLAXBADGER_ORDERS + 1];
 
-static int show(const char *name, uint64_t number, uint64_t count, uint64_t steps, uint64_t aside) {
-    printf("%s: number %" PRIu64 ", %" PRIu64 " cells, %" PRIu64 " steps, %" PRIu64 " leaves set aside\n", name, number, count, steps, aside);
+/* The leaves set aside under all start cells together. */
+static uint64_t sum(const uint64_t aside[FLAXBADGER_STARTS]) {
+    uint64_t found = 0;
+    for (int place = 0; place < FLAXBADGER_STARTS; place++) {
+        found += aside[place];
+    }
+    return found;
+}
+
+static int show(const char *name, uint64_t number, uint64_t count, uint64_t steps, const uint64_t aside[FLAXBADGER_STARTS]) {
+    printf("%s: number %" PRIu64 ", %" PRIu64 " cells, %" PRIu64 " steps, %" PRIu64 " leaves set aside\n", name, number, count, steps, sum(aside));
     for (uint64_t i = 0; i < count && i < 4; i++) {
         printf("  %016" PRIx64 "\n", out[i]);
     }
@@ -38,40 +47,45 @@ static int show(const char *name, uint64_t number, uint64_t count, uint64_t step
 }
 
 int main(void) {
-    uint64_t count, steps, aside, number;
+    uint64_t count, steps, aside[FLAXBADGER_STARTS], number;
     int ok = 1;
 
     /* The whole sphere at level 1: 24 cells, 6 steps. */
-    number = flaxbadger_covering_cap(1, 0, 0, 4, 1, 30, 1, 8, 1000, mem, FLAXBADGER_MEMORY, out, 64, &count, &steps, &aside);
-    ok &= show("the whole sphere", number, count, steps, aside) && count == 24 && steps == 6 && aside == 0;
+    number = flaxbadger_covering_cap(1, 0, 0, 4, 1, 30, 1, 8, 1000, mem, FLAXBADGER_MEMORY, out, 64, &count, &steps, aside);
+    ok &= show("the whole sphere", number, count, steps, aside) && count == 24 && steps == 6 && sum(aside) == 0;
 
     /* The same with an allowance of 5 steps: refused with 9, and nothing written. */
     memset(out, 0xff, sizeof out);
-    number = flaxbadger_covering_cap(1, 0, 0, 4, 1, 30, 1, 8, 5, mem, FLAXBADGER_MEMORY, out, 64, &count, &steps, &aside);
+    number = flaxbadger_covering_cap(1, 0, 0, 4, 1, 30, 1, 8, 5, mem, FLAXBADGER_MEMORY, out, 64, &count, &steps, aside);
     show("with 5 steps", number, count, steps, aside);
-    ok &= number == 9 && count == 0 && steps == 0 && aside == 0 && out[0] == UINT64_MAX;
+    ok &= number == 9 && count == 0 && steps == 0 && sum(aside) == 0 && out[0] == UINT64_MAX;
 
-    /* Face 0 as a region. */
-    number = flaxbadger_covering_cell(UINT64_C(0x1000000000000000), 0, 30, 1, 8, 1000, mem, FLAXBADGER_MEMORY, out, 64, &count, &steps, &aside);
-    ok &= show("face 0", number, count, steps, aside) && count == 1 && out[0] == UINT64_C(0x1000000000000000) && aside == UINT64_C(5764607523034234880);
+    /* Face 0 as a region. The run starts from all six faces, and sets aside all 4^30 leaves of each but the first. */
+    number = flaxbadger_covering_cell(UINT64_C(0x1000000000000000), 0, 30, 1, 8, 1000, mem, FLAXBADGER_MEMORY, out, 64, &count, &steps, aside);
+    ok &= show("face 0", number, count, steps, aside) && count == 1 && out[0] == UINT64_C(0x1000000000000000) && aside[0] == 0;
+    for (int place = 1; place < FLAXBADGER_STARTS; place++) {
+        printf("  under start cell %d: %" PRIu64 "\n", place, aside[place]);
+        ok &= aside[place] == UINT64_C(1) << 60;
+    }
 
     /* A small cap, and the self-test of the machine on it: both engines agree, and their answer is the one before. Then the cells inside it. */
-    number = flaxbadger_covering_cap(0, 0, 1, 1e-6, 0, 30, 1, 8, 1000, mem, FLAXBADGER_MEMORY, out, 64, &count, &steps, &aside);
+    number = flaxbadger_covering_cap(0, 0, 1, 1e-6, 0, 30, 1, 8, 1000, mem, FLAXBADGER_MEMORY, out, 64, &count, &steps, aside);
     ok &= show("a cap at the pole", number, count, steps, aside);
-    uint64_t tested[64], tested_count, tested_steps, tested_aside, agree;
+    uint64_t tested[64], tested_count, tested_steps, tested_aside[FLAXBADGER_STARTS], agree;
     number = flaxbadger_covering_cap_by(FLAXBADGER_BOTH, 0, 0, 1, 1e-6, 0, 30, 1, 8, 1000, mem, FLAXBADGER_MEMORY, tested, 64, &tested_count,
-                                        &tested_steps, &tested_aside, &agree);
+                                        &tested_steps, tested_aside, &agree);
     printf("by both engines: number %" PRIu64 ", %" PRIu64 " cells, the engines %s\n", number, tested_count, agree == 1 ? "agree" : "DO NOT agree");
-    ok &= agree == 1 && number == 0 && tested_count == count && tested_steps == steps && tested_aside == aside && memcmp(tested, out, count * sizeof *out) == 0;
-    number = flaxbadger_interior_covering_cap(0, 0, 1, 1e-6, 0, 30, 1, 8, 1000, mem, FLAXBADGER_MEMORY, out, 64, &count, &steps, &aside);
-    ok &= show("inside it", number, count, steps, aside) && aside == 0;
-    number = flaxbadger_fast_covering_cap(0, 0, 1, 1e-6, 0, 30, 1, 8, mem, FLAXBADGER_MEMORY, out, 64, &count, &steps, &aside);
-    ok &= show("quickly", number, count, steps, aside) && steps == 0;
+    ok &= agree == 1 && number == 0 && tested_count == count && tested_steps == steps && memcmp(tested_aside, aside, sizeof aside) == 0;
+    ok &= memcmp(tested, out, count * sizeof *out) == 0;
+    number = flaxbadger_interior_covering_cap(0, 0, 1, 1e-6, 0, 30, 1, 8, 1000, mem, FLAXBADGER_MEMORY, out, 64, &count, &steps, aside);
+    ok &= show("inside it", number, count, steps, aside) && sum(aside) == 0;
+    number = flaxbadger_fast_covering_cap(0, 0, 1, 1e-6, 0, 30, 1, 8, mem, FLAXBADGER_MEMORY, out, 64, &count, &steps, aside);
+    ok &= show("quickly", number, count, steps, aside) && steps == 0 && sum(aside) == 0;
 
     /* A working memory that is too short: refused with 6. */
-    number = flaxbadger_raw_cap(0, 0, 1, 1e-6, 0, 30, 1, 8, 1000, mem, FLAXBADGER_MEMORY - 1, out, 64, &count, &steps, &aside);
+    number = flaxbadger_raw_cap(0, 0, 1, 1e-6, 0, 30, 1, 8, 1000, mem, FLAXBADGER_MEMORY - 1, out, 64, &count, &steps, aside);
     show("too little memory", number, count, steps, aside);
-    ok &= number == 6;
+    ok &= number == 6 && sum(aside) == 0;
 
     /* Six faces as leaf ranges: one pair, from the first leaf to the last; and back. An output of one word is too short. */
     uint64_t faces[6], pair[2];
@@ -100,27 +114,28 @@ int main(void) {
 
     /* The first list as a region: its three cells cover it, and lie inside it. Where one cell is aimed at, it is the face; of levels from 1 on, the
      * three again, and the face's last quarter, 4^29 leaves, is set aside. A list that descends is refused with 5. */
-    number = flaxbadger_covering_list(first, 3, 0, 30, 1, 8, 1000, mem, FLAXBADGER_MEMORY, out, 64, &count, &steps, &aside);
-    ok &= show("three quarters", number, count, steps, aside) && count == 3 && memcmp(out, first, 3 * sizeof *out) == 0 && steps == 0 && aside == 0;
-    number = flaxbadger_interior_covering_list(first, 3, 0, 30, 1, 8, 1000, mem, FLAXBADGER_MEMORY, out, 64, &count, &steps, &aside);
+    number = flaxbadger_covering_list(first, 3, 0, 30, 1, 8, 1000, mem, FLAXBADGER_MEMORY, out, 64, &count, &steps, aside);
+    ok &= show("three quarters", number, count, steps, aside) && count == 3 && memcmp(out, first, 3 * sizeof *out) == 0 && steps == 0 && sum(aside) == 0;
+    number = flaxbadger_interior_covering_list(first, 3, 0, 30, 1, 8, 1000, mem, FLAXBADGER_MEMORY, out, 64, &count, &steps, aside);
     ok &= number == 0 && count == 3 && memcmp(out, first, 3 * sizeof *out) == 0;
-    number = flaxbadger_covering_list(first, 3, 0, 30, 1, 1, 1000, mem, FLAXBADGER_MEMORY, out, 64, &count, &steps, &aside);
-    ok &= show("as one cell", number, count, steps, aside) && count == 1 && out[0] == faces[0] && steps == 1 && aside == 0;
-    number = flaxbadger_covering_list(first, 3, 1, 30, 1, 1, 1000, mem, FLAXBADGER_MEMORY, out, 64, &count, &steps, &aside);
-    ok &= show("from level 1 on", number, count, steps, aside) && count == 3 && memcmp(out, first, 3 * sizeof *out) == 0 && steps == 1 && aside == UINT64_C(1) << 58;
+    number = flaxbadger_covering_list(first, 3, 0, 30, 1, 1, 1000, mem, FLAXBADGER_MEMORY, out, 64, &count, &steps, aside);
+    ok &= show("as one cell", number, count, steps, aside) && count == 1 && out[0] == faces[0] && steps == 1 && sum(aside) == 0;
+    number = flaxbadger_covering_list(first, 3, 1, 30, 1, 1, 1000, mem, FLAXBADGER_MEMORY, out, 64, &count, &steps, aside);
+    ok &= show("from level 1 on", number, count, steps, aside) && count == 3 && memcmp(out, first, 3 * sizeof *out) == 0 && steps == 1;
+    ok &= aside[0] == UINT64_C(1) << 58 && sum(aside) == aside[0];
     const uint64_t descending[2] = {quarters[1], quarters[0]};
-    number = flaxbadger_covering_list(descending, 2, 0, 30, 1, 8, 1000, mem, FLAXBADGER_MEMORY, out, 64, &count, &steps, &aside);
+    number = flaxbadger_covering_list(descending, 2, 0, 30, 1, 8, 1000, mem, FLAXBADGER_MEMORY, out, 64, &count, &steps, aside);
     show("descending", number, count, steps, aside);
-    ok &= number == 5 && count == 0 && steps == 0 && aside == 0;
+    ok &= number == 5 && count == 0 && steps == 0 && sum(aside) == 0;
 
     /* No id at all is a region, whose answer has none; one id too many is none. */
     static uint64_t many[FLAXBADGER_LIST_MOST + 1];
     for (uint64_t i = 0; i < FLAXBADGER_LIST_MOST + 1; i++) {
         many[i] = 2 * i + 1;
     }
-    number = flaxbadger_covering_list(many, 0, 0, 30, 1, 8, 1000, mem, FLAXBADGER_MEMORY, out, 64, &count, &steps, &aside);
-    ok &= show("an empty list", number, count, steps, aside) && count == 0 && steps == 0 && aside == 0;
-    number = flaxbadger_covering_list(many, FLAXBADGER_LIST_MOST + 1, 0, 30, 1, 8, 1000, mem, FLAXBADGER_MEMORY, out, 64, &count, &steps, &aside);
+    number = flaxbadger_covering_list(many, 0, 0, 30, 1, 8, 1000, mem, FLAXBADGER_MEMORY, out, 64, &count, &steps, aside);
+    ok &= show("an empty list", number, count, steps, aside) && count == 0 && steps == 0 && sum(aside) == 0;
+    number = flaxbadger_covering_list(many, FLAXBADGER_LIST_MOST + 1, 0, 30, 1, 8, 1000, mem, FLAXBADGER_MEMORY, out, 64, &count, &steps, aside);
     show("one id too many", number, count, steps, aside);
     ok &= number == 5 && count == 0;
 
@@ -162,19 +177,20 @@ int main(void) {
     for (int k = 0; k < 4; k++) {
         const flaxbadger_order *o = &night[k];
         printf("  %s: number %" PRIu64 ", %zu cells from place %zu on, %" PRIu32 " steps, %" PRIu64 " leaves set aside\n", names[k], o->number,
-               o->count, begin, o->steps, o->aside);
-        ok &= o->number == refusals[k] && (o->number == 0 || (o->count == 0 && o->steps == 0 && o->aside == 0));
+               o->count, begin, o->steps, sum(o->aside));
+        ok &= o->number == refusals[k] && (o->number == 0 || (o->count == 0 && o->steps == 0)) && (k == 0 || sum(o->aside) == 0);
         begin += o->count;
     }
 
     /* Each alone has the same answer. */
-    number = flaxbadger_covering_cap(0, 0, 1, 1e-6, 0, 30, 1, 8, 1000, mem, FLAXBADGER_MEMORY, alone, 64, &count, &steps, &aside);
-    ok &= number == 0 && count == night[0].count && steps == night[0].steps && aside == night[0].aside && memcmp(alone, out, count * sizeof *out) == 0;
+    number = flaxbadger_covering_cap(0, 0, 1, 1e-6, 0, 30, 1, 8, 1000, mem, FLAXBADGER_MEMORY, alone, 64, &count, &steps, aside);
+    ok &= number == 0 && count == night[0].count && steps == night[0].steps && memcmp(aside, night[0].aside, sizeof aside) == 0;
+    ok &= sum(aside) > 0 && memcmp(alone, out, count * sizeof *out) == 0;
     begin = night[0].count;
-    number = flaxbadger_interior_covering_cap(0, 0, 1, 1e-6, 0, 30, 1, 8, 1000, mem, FLAXBADGER_MEMORY, alone, 64, &count, &steps, &aside);
+    number = flaxbadger_interior_covering_cap(0, 0, 1, 1e-6, 0, 30, 1, 8, 1000, mem, FLAXBADGER_MEMORY, alone, 64, &count, &steps, aside);
     ok &= number == 0 && count == night[1].count && steps == night[1].steps && memcmp(alone, out + begin, count * sizeof *out) == 0;
     begin += night[1].count;
-    number = flaxbadger_fast_covering_cell(faces[0], 0, 30, 1, 8, mem, FLAXBADGER_MEMORY, alone, 64, &count, &steps, &aside);
+    number = flaxbadger_fast_covering_cell(faces[0], 0, 30, 1, 8, mem, FLAXBADGER_MEMORY, alone, 64, &count, &steps, aside);
     ok &= number == 0 && count == night[3].count && count > 0 && memcmp(alone, out + begin, count * sizeof *out) == 0;
 
     /* One order too many: refused with 13, and records, memory and output are as they were. */

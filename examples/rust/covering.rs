@@ -9,19 +9,19 @@ extern "C" {
         x: f64, y: f64, z: f64, radius: f64,
         min_level: u64, max_level: u64, level_mod: u64, max_cells: u64, allowance: u32,
         mem: *mut u64, mem_len: usize, out: *mut u64, out_len: usize,
-        count: &mut u64, steps: &mut u64, aside: &mut u64,
+        count: &mut u64, steps: &mut u64, aside: &mut [u64; 6],
     ) -> u64;
     fn flaxbadger_covering_cap_by(
         engines: u64, x: f64, y: f64, z: f64, radius: f64,
         min_level: u64, max_level: u64, level_mod: u64, max_cells: u64, allowance: u32,
         mem: *mut u64, mem_len: usize, out: *mut u64, out_len: usize,
-        count: &mut u64, steps: &mut u64, aside: &mut u64, agree: &mut u64,
+        count: &mut u64, steps: &mut u64, aside: &mut [u64; 6], agree: &mut u64,
     ) -> u64;
     fn flaxbadger_covering_list(
         list: *const u64, list_len: usize,
         min_level: u64, max_level: u64, level_mod: u64, max_cells: u64, allowance: u32,
         mem: *mut u64, mem_len: usize, out: *mut u64, out_len: usize,
-        count: &mut u64, steps: &mut u64, aside: &mut u64,
+        count: &mut u64, steps: &mut u64, aside: &mut [u64; 6],
     ) -> u64;
     fn flaxbadger_ranges(ids: *const u64, ids_len: usize, out: *mut u64, out_len: usize, count: &mut u64) -> u64;
     fn flaxbadger_union(
@@ -60,7 +60,7 @@ struct Order {
     number: u64,
     count: usize,
     steps: u32,
-    aside: u64,
+    aside: [u64; 6],
     fast: bool,
     inner: bool,
     cell: bool,
@@ -70,22 +70,22 @@ struct Order {
     allowance: u32,
 }
 
-const _: () = assert!(size_of::<Order>() == 120);
-const _: () = assert!(offset_of!(Order, steps) == 16 && offset_of!(Order, aside) == 24 && offset_of!(Order, fast) == 32 && offset_of!(Order, cell) == 34);
-const _: () = assert!(offset_of!(Order, id) == 40 && offset_of!(Order, cap) == 48 && offset_of!(Order, coverer) == 80 && offset_of!(Order, allowance) == 112);
+const _: () = assert!(size_of::<Order>() == 160);
+const _: () = assert!(offset_of!(Order, steps) == 16 && offset_of!(Order, aside) == 24 && offset_of!(Order, fast) == 72 && offset_of!(Order, cell) == 74);
+const _: () = assert!(offset_of!(Order, id) == 80 && offset_of!(Order, cap) == 88 && offset_of!(Order, coverer) == 120 && offset_of!(Order, allowance) == 152);
 
-/// A success.
+/// A success. The leaves that were set aside stand by start cell.
 #[derive(Debug, PartialEq)]
 struct Done {
     count: usize,
     steps: u64,
-    aside: u64,
+    aside: [u64; 6],
 }
 
 /// Covers the cap, or gives the number of the refusal (1 to 10). The slices are borrowed for the call alone, so that the archive's
 /// requirements on pointers hold.
 fn covering(c: Coverer, center: [f64; 3], radius: f64, allowance: u32, mem: &mut [u64], out: &mut [u64]) -> Result<Done, u64> {
-    let (mut count, mut steps, mut aside) = (0, 0, 0);
+    let (mut count, mut steps, mut aside) = (0, 0, [0; 6]);
     let number = unsafe {
         flaxbadger_covering_cap(
             center[0], center[1], center[2], radius,
@@ -100,7 +100,7 @@ fn covering(c: Coverer, center: [f64; 3], radius: f64, allowance: u32, mem: &mut
 /// Covers the cap by both engines, one after the other, as a self-test of the machine: the answer, as above, and whether they agree. Where they don't,
 /// the machine is at fault, and the answer is not to be used.
 fn covering_tested(c: Coverer, center: [f64; 3], radius: f64, allowance: u32, mem: &mut [u64], out: &mut [u64]) -> (Result<Done, u64>, bool) {
-    let (mut count, mut steps, mut aside, mut agree) = (0, 0, 0, 0);
+    let (mut count, mut steps, mut aside, mut agree) = (0, 0, [0; 6], 0);
     let number = unsafe {
         flaxbadger_covering_cap_by(
             BOTH, center[0], center[1], center[2], radius,
@@ -114,7 +114,7 @@ fn covering_tested(c: Coverer, center: [f64; 3], radius: f64, allowance: u32, me
 
 /// Covers the ground of a list of cells, as above.
 fn covering_list(c: Coverer, list: &[u64], allowance: u32, mem: &mut [u64], out: &mut [u64]) -> Result<Done, u64> {
-    let (mut count, mut steps, mut aside) = (0, 0, 0);
+    let (mut count, mut steps, mut aside) = (0, 0, [0; 6]);
     let number = unsafe {
         flaxbadger_covering_list(
             list.as_ptr(), list.len(),
@@ -168,17 +168,21 @@ fn night(orders: &mut [Order], mem: &mut [u64], out: &mut [u64]) -> Result<(), u
 }
 
 fn main() {
-    let mut mem = vec![0u64; 4096];
+    let mut mem = vec![0u64; 5120];
     let mut out = vec![0u64; 64];
     let c = Coverer { min_level: 1, max_level: 30, level_mod: 1, max_cells: 8 };
 
     let sphere = covering(c, [1.0, 0.0, 0.0], 4.0, 1000, &mut mem, &mut out);
     println!("the whole sphere: {sphere:?}");
-    let mut ok = matches!(sphere, Ok(Done { count: 24, steps: 6, aside: 0 })) && out[0] == 0x0400000000000000 && out[23] == 0xbc00000000000000;
+    let mut ok = matches!(sphere, Ok(Done { count: 24, steps: 6, aside: [0, 0, 0, 0, 0, 0] })) && out[0] == 0x0400000000000000 && out[23] == 0xbc00000000000000;
 
     let short = covering(c, [1.0, 0.0, 0.0], 4.0, 1000, &mut mem, &mut out[..23]);
     println!("with an output of 23: {short:?}");
     ok &= matches!(short, Err(10));
+
+    let few = covering(c, [1.0, 0.0, 0.0], 4.0, 1000, &mut mem[..5119], &mut out);
+    println!("with a memory of 5,119 words: {few:?}");
+    ok &= matches!(few, Err(6));
 
     let pole = covering(Coverer { min_level: 0, ..c }, [0.0, 0.0, 1.0], 1e-6, 1000, &mut mem, &mut out);
     if let Ok(done) = &pole {
@@ -187,7 +191,8 @@ fn main() {
         }
     }
     println!("a cap at the pole: {pole:?}");
-    ok &= pole.is_ok();
+    let pole_aside = pole.as_ref().ok().map(|done| done.aside);
+    ok &= pole_aside.is_some_and(|aside| aside.iter().sum::<u64>() > 0);
 
     let mut again = vec![0u64; 64];
     let (tested, agree) = covering_tested(Coverer { min_level: 0, ..c }, [0.0, 0.0, 1.0], 1e-6, 1000, &mut mem, &mut again);
@@ -243,11 +248,12 @@ fn main() {
     let whole = night(&mut orders, &mut mem, &mut lists);
     println!("a night of four orders: {whole:?}");
     ok &= whole.is_ok() && orders.map(|o| o.number) == [0, 0, 9, 0];
+    ok &= pole_aside.is_some_and(|aside| orders.map(|o| o.aside) == [aside, [0; 6], [0; 6], [0; 6]]);
     let mut begin = 0;
     for (o, name) in orders.iter().zip(["around the cap", "inside it", "the whole sphere", "face 0, quickly"]) {
-        println!("  {name}: number {}, {} cells from place {begin} on, {} steps, {} leaves set aside", o.number, o.count, o.steps, o.aside);
+        println!("  {name}: number {}, {} cells from place {begin} on, {} steps, leaves set aside {:?}", o.number, o.count, o.steps, o.aside);
         let mut alone = vec![u64::MAX; 64];
-        let mut single = [Order { number: 0, count: 0, steps: 0, aside: 0, ..*o }];
+        let mut single = [Order { number: 0, count: 0, steps: 0, aside: [0; 6], ..*o }];
         ok &= night(&mut single, &mut mem, &mut alone).is_ok() && single[0] == *o && alone[..o.count] == lists[begin..begin + o.count];
         begin += o.count;
     }

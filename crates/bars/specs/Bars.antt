@@ -31,7 +31,7 @@ numbersBar c = elim (ltb 30 (c .«max_level»)) [
 unfoldable pub regionBar : Area → Bar
 regionBar a = elim (inDomain a) [ true ↦ Bar.Open | false ↦ Bar.Barred 5 ]
 
--- 6: "working memory under 4,096"
+-- 6: "working memory under" the words of a run; paper 02, h: "6 is now given under 5,120"
 unfoldable pub memoryBar : ℕ → Bar
 memoryBar memory = elim (ltb memory memoryWords) [ true ↦ Bar.Barred 6 | false ↦ Bar.Open ]
 

@@ -17,8 +17,9 @@ use Rattle.text.specs.declared.Read.{Read}
 use Rattle.text.specs.Text.{numberAfter, endAfter, startOf}
 use Rattle.tokens.specs.declared.Form.{Form}
 use Rattle.replies.specs.Write.{Wrote, Whole, refusedText}
-use Rattle.replies.proofs.Lengths.{wrote-whole, decimal-length, refused-length, counted-length}
+use Rattle.replies.proofs.Lengths.{wrote-whole, decimal-length, refused-length, counted-length, totals-length}
 use Rattle.cell.specs.declared.Cap.{Cap}
+use Rattle.totals.specs.declared.Totals.{Totals}
 use Rattle.run.specs.Run.{memoryWords}
 use Rattle.requests.specs.declared.line.CovererRead.{CovererRead}
 use Rattle.requests.specs.declared.line.Four.{Four}
@@ -87,9 +88,9 @@ head-read l start word o a b end out mem form es ew eo ea eb ee e1 e2 e3 = rw (e
 
 -- ---- the lines that answer a night
 
-done-length : (form : Form) (begin steps aside : ℕ) (ids : List ℕ) → length (doneText form begin steps aside ids) ≤ 17 * length ids + 87
+done-length : (form : Form) (begin steps : ℕ) (aside : Totals) (ids : List ℕ) → length (doneText form begin steps aside ids) ≤ 17 * length ids + 192
 unfolding doneText ascii
-done-length form begin steps aside ids = simp length-append (omega (arith, decimal-length begin, decimal-length steps, decimal-length aside, counted-length form ids))
+done-length form begin steps aside ids = simp length-append (omega (arith, decimal-length begin, decimal-length steps, totals-length aside, counted-length form ids))
 
 summary-length : (orders refused cells left : ℕ) → length (summaryText orders refused cells left) ≤ 88
 unfolding summaryText ascii

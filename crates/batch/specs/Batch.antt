@@ -12,7 +12,9 @@ use Rattle.text.specs.declared.Place.{Place}
 use Rattle.text.specs.declared.Read.{Read}
 use Rattle.text.specs.Text.{numberAfter, choiceAfter, endAfter, startOf, isAt}
 use Rattle.tokens.specs.declared.Form.{Form}
-use Rattle.replies.specs.Write.{space, newline, decimalText, countedText, refusedText}
+use Rattle.replies.specs.Write.{space, newline, decimalText, countedText, totalsText, refusedText}
+use Rattle.totals.specs.declared.Totals.{Totals}
+use Rattle.totals.specs.Totals.{noTotals}
 use Rattle.run.specs.Run.{memoryWords}
 use Rattle.requests.specs.declared.line.CovererRead.{CovererRead}
 use Rattle.requests.specs.Line.{fourAfter, covererAfter, capOf, none, valueOr, formOf, optionsAfter}
@@ -76,7 +78,7 @@ orderWith word c g allowance = record {
   number = 0;
   count = 0;
   steps = 0;
-  aside = 0;
+  aside = noTotals;
   fast = eqb (word .value) 2;
   inner = eqb (word .value) 1;
   cell = g .cell;
@@ -118,10 +120,10 @@ headOf l =
 
 -- ---- the lines that answer a night
 
--- ok BEGIN STEPS ASIDE COUNT ID...
-unfoldable pub doneText : Form → ℕ → ℕ → ℕ → List ℕ → List ℕ
+-- ok BEGIN STEPS ASIDE0 .. ASIDE5 COUNT ID...
+unfoldable pub doneText : Form → ℕ → ℕ → Totals → List ℕ → List ℕ
 doneText form begin steps aside ids =
-    ascii "ok " ++ (decimalText begin ++ (space ++ (decimalText steps ++ (space ++ (decimalText aside ++ (space ++ countedText form ids))))))
+    ascii "ok " ++ (decimalText begin ++ (space ++ (decimalText steps ++ (totalsText aside ++ (space ++ countedText form ids)))))
 
 -- of an order that was served, its ids in the output from a place on: as above where its number is 0, else refused NUMBER
 unfoldable pub servedText : Form → Order → ℕ → List ℕ → List ℕ

@@ -13,6 +13,7 @@ use text::Fault;
 use text::Place;
 use text::Read;
 use tokens::Form;
+use totals::Totals;
 
 // ---- an order
 
@@ -137,11 +138,12 @@ pub fn read_order(line: &[u8]) -> OrderRead
     let coverer = c.coverer;
     let cap = g.cap;
     let allowance = requests::allowance_of(a.value);
+    let aside = totals::none();
     let order = Order {
         number: 0,
         count: 0,
         steps: 0,
-        aside: 0,
+        aside,
         fast: word.value == 2,
         inner: word.value == 1,
         cell: g.cell,
@@ -203,13 +205,20 @@ pub fn read_head(line: &[u8]) -> Head
 
 // ---- what answers a night
 
-// The line of an order that is met: `ok BEGIN STEPS ASIDE COUNT ID...`.
-fn put_done(page: &mut [u8], form: Form, begin: u64, steps: u64, aside: u64, ids: &[u64]) -> usize
+// The line of an order that is met: `ok BEGIN STEPS ASIDE0 .. ASIDE5 COUNT ID...`.
+fn put_done(
+    page: &mut [u8],
+    form: Form,
+    begin: u64,
+    steps: u64,
+    aside: Totals,
+    ids: &[u64],
+) -> usize
     ensures { λ r. ⌜ Wrote 0 (doneText form begin steps aside (now (ids .entry))) (now (page .entry)) r (now (page .exit)) ⌝ }
 {
     let a = replies::put_number(page, 0, b"ok ", begin);
     let b = replies::put_number(page, a, b" ", steps);
-    let c = replies::put_number(page, b, b" ", aside);
+    let c = replies::put_totals(page, b, aside);
     let d = replies::put(page, c, b" ");
     replies::put_counted(page, d, form, ids)
 }
@@ -222,12 +231,13 @@ pub fn put_served(page: &mut [u8], form: Form, o: Order, begin: usize, out: &[u6
 {
     if o.number == 0 {
         let end = begin + o.count;
+        let aside = o.aside;
         return put_done(
             page,
             form,
             begin as u64,
             o.steps as u64,
-            o.aside,
+            aside,
             &out[begin..end],
         );
     }

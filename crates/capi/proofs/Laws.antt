@@ -9,30 +9,30 @@ use Rattle.region.specs.Region.{Area}
 use Rattle.run.specs.declared.RegionCoverer.{RegionCoverer}
 use Rattle.covering.specs.declared.Answer.{Answer}
 use Rattle.covering.specs.declared.Kind.{Kind}
-use Rattle.covering.specs.Covering.{Result, resultOf, Answered}
+use Rattle.covering.specs.Covering.{Result, resultOf, answerOf, Answered}
 use Rattle.ranges.specs.declared.Answer as ListAnswer
 use Rattle.ranges.specs.Ranges as Ranges
 use Rattle.tokens.specs.declared.Answer as Tokens
 use Rattle.tokens.specs.Tokens as Names
 use Rattle.capi.specs.Calls.{Told, Called, CalledBy, CalledOf, NamesTold, NamesCalled}
 
-module _ {R : Result} {number count steps aside : ℕ} {mem mem′ out out′ : List ℕ} where
+module _ {R : Result} {number count steps : ℕ} {mem mem′ out out′ aside : List ℕ} where
   -- an answer that is told is all that a call leaves
   pub answered-called : {a : Answer} → Answered R a mem mem′ out out′ → Told a number count steps aside → Called R number mem mem′ out out′ count steps aside
   answered-called A t = record { told = subst (λ (x : Answer). Told x number count steps aside) (A .answer) t; memory = A .memory; output = A .output }
 
   -- and what a call leaves is an answer: whatever is promised of public answers is promised of calls
-  pub called-answered : Called R number mem mem′ out out′ count steps aside → Answered R (record { number = number; count = count; steps = steps; aside = aside }) mem mem′ out out′
-  called-answered C = record { answer = rw (C .told .is, C .told .counted, C .told .taken, C .told .total); memory = C .memory; output = C .output }
+  pub called-answered : Called R number mem mem′ out out′ count steps aside → Answered R (record { number = number; count = count; steps = steps; aside = answerOf R .aside }) mem mem′ out out′
+  called-answered C = record { answer = rw (C .told .is, C .told .counted, C .told .taken); memory = C .memory; output = C .output }
 
 -- a call for c and A is one for the request and the area that its numbers make
-pub call-made : (k : Kind) (c c′ : RegionCoverer) (A A′ : Area) (allowance number : ℕ) (mem mem′ out out′ : List ℕ) (count steps aside : ℕ) → c ≡ c′ → A ≡ A′
+pub call-made : (k : Kind) (c c′ : RegionCoverer) (A A′ : Area) (allowance number : ℕ) (mem mem′ out out′ : List ℕ) (count steps : ℕ) (aside : List ℕ) → c ≡ c′ → A ≡ A′
     → Called (resultOf k c A allowance (length mem) (length out)) number mem mem′ out out′ count steps aside
     → Called (resultOf k c′ A′ allowance (length mem) (length out)) number mem mem′ out out′ count steps aside
 call-made k c c′ A A′ allowance number mem mem′ out out′ count steps aside p q = rw (p, q) (λ C. C)
 
 -- any two results that a contract allows are one
-pub determined : (R : Result) (n n′ : ℕ) (m m₁ m₂ o o₁ o₂ : List ℕ) (k k′ s s′ t t′ : ℕ) → Called R n m m₁ o o₁ k s t → Called R n′ m m₂ o o₂ k′ s′ t′
+pub determined : (R : Result) (n n′ : ℕ) (m m₁ m₂ o o₁ o₂ : List ℕ) (k k′ s s′ : ℕ) (t t′ : List ℕ) → Called R n m m₁ o o₁ k s t → Called R n′ m m₂ o o₂ k′ s′ t′
     → (n ≡ n′) × (m₁ ≡ m₂) × (o₁ ≡ o₂) × (k ≡ k′) × (s ≡ s′) × (t ≡ t′)
 determined R n n′ m m₁ m₂ o o₁ o₂ k k′ s s′ t t′ a b = (
   a .told .is ∙ sym (b .told .is),
@@ -40,17 +40,17 @@ determined R n n′ m m₁ m₂ o o₁ o₂ k k′ s s′ t t′ a b = (
   a .output ∙ sym (b .output),
   a .told .counted ∙ sym (b .told .counted),
   a .told .taken ∙ sym (b .told .taken),
-  a .told .total ∙ sym (b .told .total),
+  a .told .totals ∙ sym (b .told .totals),
 )
 
 -- ---- by either engine, or both
 
 -- an answer on which the engines agree, told
-pub tested-called : {R : Result} {a : Answer} {number count steps aside : ℕ} {mem mem′ out out′ : List ℕ} (agree : Bool) → Answered R a mem mem′ out out′ × (agree ≡ true) → Told a number count steps aside
+pub tested-called : {R : Result} {a : Answer} {number count steps : ℕ} {mem mem′ out out′ aside : List ℕ} (agree : Bool) → Answered R a mem mem′ out out′ × (agree ≡ true) → Told a number count steps aside
     → CalledBy R number mem mem′ out out′ count steps aside (boolByte agree)
 tested-called agree t told = record { called = answered-called (t .0) told; agreed = ap boolByte (t .1) }
 
-pub by-determined : (R : Result) (n n′ : ℕ) (m m₁ m₂ o o₁ o₂ : List ℕ) (k k′ s s′ t t′ g g′ : ℕ) → CalledBy R n m m₁ o o₁ k s t g → CalledBy R n′ m m₂ o o₂ k′ s′ t′ g′
+pub by-determined : (R : Result) (n n′ : ℕ) (m m₁ m₂ o o₁ o₂ : List ℕ) (k k′ s s′ : ℕ) (t t′ : List ℕ) (g g′ : ℕ) → CalledBy R n m m₁ o o₁ k s t g → CalledBy R n′ m m₂ o o₂ k′ s′ t′ g′
     → ((n ≡ n′) × (m₁ ≡ m₂) × (o₁ ≡ o₂) × (k ≡ k′) × (s ≡ s′) × (t ≡ t′)) × (g ≡ g′)
 by-determined R n n′ m m₁ m₂ o o₁ o₂ k k′ s s′ t t′ g g′ a b = (determined R n n′ m m₁ m₂ o o₁ o₂ k k′ s s′ t t′ (a .called) (b .called), a .agreed ∙ sym (b .agreed))
 

@@ -8,6 +8,7 @@ use Rattle.tokens.specs.declared.Answer as Tokens
 use Rattle.tokens.specs.Tokens as Names
 use Rattle.region.specs.Region.{Area, capArea}
 use Rattle.run.specs.declared.RegionCoverer.{RegionCoverer}
+use Rattle.totals.specs.Totals.{sixOf}
 use Rattle.covering.specs.declared.Answer.{Answer}
 use Rattle.covering.specs.Covering.{Result, answerOf, memoryAfter, outputAfter}
 
@@ -19,14 +20,14 @@ abbrev pub capGiven : Float → Float → Float → Float → Area
 capGiven x y z radius = capArea (record { center = record { x = x; y = y; z = z }; radius = radius })
 
 -- an answer's number and values
-pub record Told (a : Answer) (number count steps aside : ℕ) : Type 0 where
+pub record Told (a : Answer) (number count steps : ℕ) (aside : List ℕ) : Type 0 where
   pub is : number ≡ a .number
   pub counted : count ≡ a .count
   pub taken : steps ≡ a .steps
-  pub total : aside ≡ a .aside
+  pub totals : aside ≡ sixOf (a .aside)
 
 -- all that a call leaves: what was told, the working memory and the output
-pub record Called (R : Result) (number : ℕ) (mem mem′ out out′ : List ℕ) (count steps aside : ℕ) : Type 0 where
+pub record Called (R : Result) (number : ℕ) (mem mem′ out out′ : List ℕ) (count steps : ℕ) (aside : List ℕ) : Type 0 where
   pub told : Told (answerOf R) number count steps aside
   pub memory : mem′ ≡ memoryAfter R mem
   pub output : out′ ≡ outputAfter R out
@@ -34,7 +35,7 @@ pub record Called (R : Result) (number : ℕ) (mem mem′ out out′ : List ℕ)
 -- ---- by either engine, or both
 
 -- all that such a call leaves: what any call leaves, whichever engines were asked, and that they agree
-pub record CalledBy (R : Result) (number : ℕ) (mem mem′ out out′ : List ℕ) (count steps aside agree : ℕ) : Type 0 where
+pub record CalledBy (R : Result) (number : ℕ) (mem mem′ out out′ : List ℕ) (count steps : ℕ) (aside : List ℕ) (agree : ℕ) : Type 0 where
   pub called : Called R number mem mem′ out out′ count steps aside
   pub agreed : agree ≡ 1
 

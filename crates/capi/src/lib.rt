@@ -53,12 +53,13 @@ fn cell_region(id: u64) -> Region
 }
 
 // The number of an answer; its values go through the references.
-fn tell(a: Answer, count: &mut u64, steps: &mut u64, aside: &mut u64) -> u64
+fn tell(a: Answer, count: &mut u64, steps: &mut u64, aside: &mut [u64; 6]) -> u64
     ensures { λ r. ⌜ Told a r (now (count .exit)) (now (steps .exit)) (now (aside .exit)) ⌝ }
 {
     *count = a.count as u64;
     *steps = a.steps as u64;
-    *aside = a.aside;
+    let t = a.aside;
+    *aside = [t.at0, t.at1, t.at2, t.at3, t.at4, t.at5];
     a.number
 }
 
@@ -72,7 +73,7 @@ fn call(
     out: &mut [u64],
     count: &mut u64,
     steps: &mut u64,
-    aside: &mut u64,
+    aside: &mut [u64; 6],
 ) -> u64
     ensures { λ r. ⌜ Called (resultOf kind c (areaOf g []) allowance (length (now (mem .entry))) (length (now (out .entry)))) r (now (mem .entry)) (now (mem .exit)) (now (out .entry)) (now (out .exit)) (now (count .exit)) (now (steps .exit)) (now (aside .exit)) ⌝ }
 {
@@ -90,7 +91,7 @@ fn call_list(
     out: &mut [u64],
     count: &mut u64,
     steps: &mut u64,
-    aside: &mut u64,
+    aside: &mut [u64; 6],
 ) -> u64
     ensures { λ r. ⌜ Called (resultOf kind c (listArea (now (list .entry))) allowance (length (now (mem .entry))) (length (now (out .entry)))) r (now (mem .entry)) (now (mem .exit)) (now (out .entry)) (now (out .exit)) (now (count .exit)) (now (steps .exit)) (now (aside .exit)) ⌝ }
 {
@@ -123,7 +124,7 @@ pub extern "C" fn flaxbadger_covering_cap(
     out: &mut [u64],
     count: &mut u64,
     steps: &mut u64,
-    aside: &mut u64,
+    aside: &mut [u64; 6],
 ) -> u64
     ensures { λ r. ⌜ Called (resultOf (Kind.Outer Ending.Covering) (regionCoverer «min_level» «max_level» «level_mod» «max_cells») (capGiven x y z radius) allowance (length (now (mem .entry))) (length (now (out .entry)))) r (now (mem .entry)) (now (mem .exit)) (now (out .entry)) (now (out .exit)) (now (count .exit)) (now (steps .exit)) (now (aside .exit)) ⌝ }
 {
@@ -146,7 +147,7 @@ pub extern "C" fn flaxbadger_covering_cell(
     out: &mut [u64],
     count: &mut u64,
     steps: &mut u64,
-    aside: &mut u64,
+    aside: &mut [u64; 6],
 ) -> u64
     ensures { λ r. ⌜ Called (resultOf (Kind.Outer Ending.Covering) (regionCoverer «min_level» «max_level» «level_mod» «max_cells») (cellArea id) allowance (length (now (mem .entry))) (length (now (out .entry)))) r (now (mem .entry)) (now (mem .exit)) (now (out .entry)) (now (out .exit)) (now (count .exit)) (now (steps .exit)) (now (aside .exit)) ⌝ }
 {
@@ -169,7 +170,7 @@ pub extern "C" fn flaxbadger_covering_list(
     out: &mut [u64],
     count: &mut u64,
     steps: &mut u64,
-    aside: &mut u64,
+    aside: &mut [u64; 6],
 ) -> u64
     ensures { λ r. ⌜ Called (resultOf (Kind.Outer Ending.Covering) (regionCoverer «min_level» «max_level» «level_mod» «max_cells») (listArea (now (list .entry))) allowance (length (now (mem .entry))) (length (now (out .entry)))) r (now (mem .entry)) (now (mem .exit)) (now (out .entry)) (now (out .exit)) (now (count .exit)) (now (steps .exit)) (now (aside .exit)) ⌝ }
 {
@@ -194,7 +195,7 @@ pub extern "C" fn flaxbadger_cellunion_cap(
     out: &mut [u64],
     count: &mut u64,
     steps: &mut u64,
-    aside: &mut u64,
+    aside: &mut [u64; 6],
 ) -> u64
     ensures { λ r. ⌜ Called (resultOf (Kind.Outer Ending.CellUnion) (regionCoverer «min_level» «max_level» «level_mod» «max_cells») (capGiven x y z radius) allowance (length (now (mem .entry))) (length (now (out .entry)))) r (now (mem .entry)) (now (mem .exit)) (now (out .entry)) (now (out .exit)) (now (count .exit)) (now (steps .exit)) (now (aside .exit)) ⌝ }
 {
@@ -217,7 +218,7 @@ pub extern "C" fn flaxbadger_cellunion_cell(
     out: &mut [u64],
     count: &mut u64,
     steps: &mut u64,
-    aside: &mut u64,
+    aside: &mut [u64; 6],
 ) -> u64
     ensures { λ r. ⌜ Called (resultOf (Kind.Outer Ending.CellUnion) (regionCoverer «min_level» «max_level» «level_mod» «max_cells») (cellArea id) allowance (length (now (mem .entry))) (length (now (out .entry)))) r (now (mem .entry)) (now (mem .exit)) (now (out .entry)) (now (out .exit)) (now (count .exit)) (now (steps .exit)) (now (aside .exit)) ⌝ }
 {
@@ -240,7 +241,7 @@ pub extern "C" fn flaxbadger_cellunion_list(
     out: &mut [u64],
     count: &mut u64,
     steps: &mut u64,
-    aside: &mut u64,
+    aside: &mut [u64; 6],
 ) -> u64
     ensures { λ r. ⌜ Called (resultOf (Kind.Outer Ending.CellUnion) (regionCoverer «min_level» «max_level» «level_mod» «max_cells») (listArea (now (list .entry))) allowance (length (now (mem .entry))) (length (now (out .entry)))) r (now (mem .entry)) (now (mem .exit)) (now (out .entry)) (now (out .exit)) (now (count .exit)) (now (steps .exit)) (now (aside .exit)) ⌝ }
 {
@@ -265,7 +266,7 @@ pub extern "C" fn flaxbadger_raw_cap(
     out: &mut [u64],
     count: &mut u64,
     steps: &mut u64,
-    aside: &mut u64,
+    aside: &mut [u64; 6],
 ) -> u64
     ensures { λ r. ⌜ Called (resultOf (Kind.Outer Ending.Raw) (regionCoverer «min_level» «max_level» «level_mod» «max_cells») (capGiven x y z radius) allowance (length (now (mem .entry))) (length (now (out .entry)))) r (now (mem .entry)) (now (mem .exit)) (now (out .entry)) (now (out .exit)) (now (count .exit)) (now (steps .exit)) (now (aside .exit)) ⌝ }
 {
@@ -288,7 +289,7 @@ pub extern "C" fn flaxbadger_raw_cell(
     out: &mut [u64],
     count: &mut u64,
     steps: &mut u64,
-    aside: &mut u64,
+    aside: &mut [u64; 6],
 ) -> u64
     ensures { λ r. ⌜ Called (resultOf (Kind.Outer Ending.Raw) (regionCoverer «min_level» «max_level» «level_mod» «max_cells») (cellArea id) allowance (length (now (mem .entry))) (length (now (out .entry)))) r (now (mem .entry)) (now (mem .exit)) (now (out .entry)) (now (out .exit)) (now (count .exit)) (now (steps .exit)) (now (aside .exit)) ⌝ }
 {
@@ -311,7 +312,7 @@ pub extern "C" fn flaxbadger_raw_list(
     out: &mut [u64],
     count: &mut u64,
     steps: &mut u64,
-    aside: &mut u64,
+    aside: &mut [u64; 6],
 ) -> u64
     ensures { λ r. ⌜ Called (resultOf (Kind.Outer Ending.Raw) (regionCoverer «min_level» «max_level» «level_mod» «max_cells») (listArea (now (list .entry))) allowance (length (now (mem .entry))) (length (now (out .entry)))) r (now (mem .entry)) (now (mem .exit)) (now (out .entry)) (now (out .exit)) (now (count .exit)) (now (steps .exit)) (now (aside .exit)) ⌝ }
 {
@@ -336,7 +337,7 @@ pub extern "C" fn flaxbadger_interior_covering_cap(
     out: &mut [u64],
     count: &mut u64,
     steps: &mut u64,
-    aside: &mut u64,
+    aside: &mut [u64; 6],
 ) -> u64
     ensures { λ r. ⌜ Called (resultOf (Kind.Inner Ending.Covering) (regionCoverer «min_level» «max_level» «level_mod» «max_cells») (capGiven x y z radius) allowance (length (now (mem .entry))) (length (now (out .entry)))) r (now (mem .entry)) (now (mem .exit)) (now (out .entry)) (now (out .exit)) (now (count .exit)) (now (steps .exit)) (now (aside .exit)) ⌝ }
 {
@@ -359,7 +360,7 @@ pub extern "C" fn flaxbadger_interior_covering_cell(
     out: &mut [u64],
     count: &mut u64,
     steps: &mut u64,
-    aside: &mut u64,
+    aside: &mut [u64; 6],
 ) -> u64
     ensures { λ r. ⌜ Called (resultOf (Kind.Inner Ending.Covering) (regionCoverer «min_level» «max_level» «level_mod» «max_cells») (cellArea id) allowance (length (now (mem .entry))) (length (now (out .entry)))) r (now (mem .entry)) (now (mem .exit)) (now (out .entry)) (now (out .exit)) (now (count .exit)) (now (steps .exit)) (now (aside .exit)) ⌝ }
 {
@@ -382,7 +383,7 @@ pub extern "C" fn flaxbadger_interior_covering_list(
     out: &mut [u64],
     count: &mut u64,
     steps: &mut u64,
-    aside: &mut u64,
+    aside: &mut [u64; 6],
 ) -> u64
     ensures { λ r. ⌜ Called (resultOf (Kind.Inner Ending.Covering) (regionCoverer «min_level» «max_level» «level_mod» «max_cells») (listArea (now (list .entry))) allowance (length (now (mem .entry))) (length (now (out .entry)))) r (now (mem .entry)) (now (mem .exit)) (now (out .entry)) (now (out .exit)) (now (count .exit)) (now (steps .exit)) (now (aside .exit)) ⌝ }
 {
@@ -407,7 +408,7 @@ pub extern "C" fn flaxbadger_interior_cellunion_cap(
     out: &mut [u64],
     count: &mut u64,
     steps: &mut u64,
-    aside: &mut u64,
+    aside: &mut [u64; 6],
 ) -> u64
     ensures { λ r. ⌜ Called (resultOf (Kind.Inner Ending.CellUnion) (regionCoverer «min_level» «max_level» «level_mod» «max_cells») (capGiven x y z radius) allowance (length (now (mem .entry))) (length (now (out .entry)))) r (now (mem .entry)) (now (mem .exit)) (now (out .entry)) (now (out .exit)) (now (count .exit)) (now (steps .exit)) (now (aside .exit)) ⌝ }
 {
@@ -430,7 +431,7 @@ pub extern "C" fn flaxbadger_interior_cellunion_cell(
     out: &mut [u64],
     count: &mut u64,
     steps: &mut u64,
-    aside: &mut u64,
+    aside: &mut [u64; 6],
 ) -> u64
     ensures { λ r. ⌜ Called (resultOf (Kind.Inner Ending.CellUnion) (regionCoverer «min_level» «max_level» «level_mod» «max_cells») (cellArea id) allowance (length (now (mem .entry))) (length (now (out .entry)))) r (now (mem .entry)) (now (mem .exit)) (now (out .entry)) (now (out .exit)) (now (count .exit)) (now (steps .exit)) (now (aside .exit)) ⌝ }
 {
@@ -453,7 +454,7 @@ pub extern "C" fn flaxbadger_interior_cellunion_list(
     out: &mut [u64],
     count: &mut u64,
     steps: &mut u64,
-    aside: &mut u64,
+    aside: &mut [u64; 6],
 ) -> u64
     ensures { λ r. ⌜ Called (resultOf (Kind.Inner Ending.CellUnion) (regionCoverer «min_level» «max_level» «level_mod» «max_cells») (listArea (now (list .entry))) allowance (length (now (mem .entry))) (length (now (out .entry)))) r (now (mem .entry)) (now (mem .exit)) (now (out .entry)) (now (out .exit)) (now (count .exit)) (now (steps .exit)) (now (aside .exit)) ⌝ }
 {
@@ -478,7 +479,7 @@ pub extern "C" fn flaxbadger_interior_raw_cap(
     out: &mut [u64],
     count: &mut u64,
     steps: &mut u64,
-    aside: &mut u64,
+    aside: &mut [u64; 6],
 ) -> u64
     ensures { λ r. ⌜ Called (resultOf (Kind.Inner Ending.Raw) (regionCoverer «min_level» «max_level» «level_mod» «max_cells») (capGiven x y z radius) allowance (length (now (mem .entry))) (length (now (out .entry)))) r (now (mem .entry)) (now (mem .exit)) (now (out .entry)) (now (out .exit)) (now (count .exit)) (now (steps .exit)) (now (aside .exit)) ⌝ }
 {
@@ -501,7 +502,7 @@ pub extern "C" fn flaxbadger_interior_raw_cell(
     out: &mut [u64],
     count: &mut u64,
     steps: &mut u64,
-    aside: &mut u64,
+    aside: &mut [u64; 6],
 ) -> u64
     ensures { λ r. ⌜ Called (resultOf (Kind.Inner Ending.Raw) (regionCoverer «min_level» «max_level» «level_mod» «max_cells») (cellArea id) allowance (length (now (mem .entry))) (length (now (out .entry)))) r (now (mem .entry)) (now (mem .exit)) (now (out .entry)) (now (out .exit)) (now (count .exit)) (now (steps .exit)) (now (aside .exit)) ⌝ }
 {
@@ -524,7 +525,7 @@ pub extern "C" fn flaxbadger_interior_raw_list(
     out: &mut [u64],
     count: &mut u64,
     steps: &mut u64,
-    aside: &mut u64,
+    aside: &mut [u64; 6],
 ) -> u64
     ensures { λ r. ⌜ Called (resultOf (Kind.Inner Ending.Raw) (regionCoverer «min_level» «max_level» «level_mod» «max_cells») (listArea (now (list .entry))) allowance (length (now (mem .entry))) (length (now (out .entry)))) r (now (mem .entry)) (now (mem .exit)) (now (out .entry)) (now (out .exit)) (now (count .exit)) (now (steps .exit)) (now (aside .exit)) ⌝ }
 {
@@ -548,7 +549,7 @@ pub extern "C" fn flaxbadger_fast_covering_cap(
     out: &mut [u64],
     count: &mut u64,
     steps: &mut u64,
-    aside: &mut u64,
+    aside: &mut [u64; 6],
 ) -> u64
     ensures { λ r. ⌜ Called (resultOf Kind.Fast (regionCoverer «min_level» «max_level» «level_mod» «max_cells») (capGiven x y z radius) 0 (length (now (mem .entry))) (length (now (out .entry)))) r (now (mem .entry)) (now (mem .exit)) (now (out .entry)) (now (out .exit)) (now (count .exit)) (now (steps .exit)) (now (aside .exit)) ⌝ }
 {
@@ -569,7 +570,7 @@ pub extern "C" fn flaxbadger_fast_covering_cell(
     out: &mut [u64],
     count: &mut u64,
     steps: &mut u64,
-    aside: &mut u64,
+    aside: &mut [u64; 6],
 ) -> u64
     ensures { λ r. ⌜ Called (resultOf Kind.Fast (regionCoverer «min_level» «max_level» «level_mod» «max_cells») (cellArea id) 0 (length (now (mem .entry))) (length (now (out .entry)))) r (now (mem .entry)) (now (mem .exit)) (now (out .entry)) (now (out .exit)) (now (count .exit)) (now (steps .exit)) (now (aside .exit)) ⌝ }
 {
@@ -590,7 +591,7 @@ pub extern "C" fn flaxbadger_fast_covering_list(
     out: &mut [u64],
     count: &mut u64,
     steps: &mut u64,
-    aside: &mut u64,
+    aside: &mut [u64; 6],
 ) -> u64
     ensures { λ r. ⌜ Called (resultOf Kind.Fast (regionCoverer «min_level» «max_level» «level_mod» «max_cells») (listArea (now (list .entry))) 0 (length (now (mem .entry))) (length (now (out .entry)))) r (now (mem .entry)) (now (mem .exit)) (now (out .entry)) (now (out .exit)) (now (count .exit)) (now (steps .exit)) (now (aside .exit)) ⌝ }
 {
@@ -611,7 +612,7 @@ fn call_by(
     out: &mut [u64],
     count: &mut u64,
     steps: &mut u64,
-    aside: &mut u64,
+    aside: &mut [u64; 6],
     agree: &mut u64,
 ) -> u64
     ensures { λ r. ⌜ CalledBy (resultOf kind c (areaOf g (now (list .entry))) allowance (length (now (mem .entry))) (length (now (out .entry)))) r (now (mem .entry)) (now (mem .exit)) (now (out .entry)) (now (out .exit)) (now (count .exit)) (now (steps .exit)) (now (aside .exit)) (now (agree .exit)) ⌝ }
@@ -636,7 +637,7 @@ fn call_cap_by(
     out: &mut [u64],
     count: &mut u64,
     steps: &mut u64,
-    aside: &mut u64,
+    aside: &mut [u64; 6],
     agree: &mut u64,
 ) -> u64
     ensures { λ r. ⌜ CalledBy (resultOf kind c (capGiven x y z radius) allowance (length (now (mem .entry))) (length (now (out .entry)))) r (now (mem .entry)) (now (mem .exit)) (now (out .entry)) (now (out .exit)) (now (count .exit)) (now (steps .exit)) (now (aside .exit)) (now (agree .exit)) ⌝ }
@@ -671,7 +672,7 @@ fn call_cell_by(
     out: &mut [u64],
     count: &mut u64,
     steps: &mut u64,
-    aside: &mut u64,
+    aside: &mut [u64; 6],
     agree: &mut u64,
 ) -> u64
     ensures { λ r. ⌜ CalledBy (resultOf kind c (cellArea id) allowance (length (now (mem .entry))) (length (now (out .entry)))) r (now (mem .entry)) (now (mem .exit)) (now (out .entry)) (now (out .exit)) (now (count .exit)) (now (steps .exit)) (now (aside .exit)) (now (agree .exit)) ⌝ }
@@ -704,7 +705,7 @@ fn call_list_by(
     out: &mut [u64],
     count: &mut u64,
     steps: &mut u64,
-    aside: &mut u64,
+    aside: &mut [u64; 6],
     agree: &mut u64,
 ) -> u64
     ensures { λ r. ⌜ CalledBy (resultOf kind c (listArea (now (list .entry))) allowance (length (now (mem .entry))) (length (now (out .entry)))) r (now (mem .entry)) (now (mem .exit)) (now (out .entry)) (now (out .exit)) (now (count .exit)) (now (steps .exit)) (now (aside .exit)) (now (agree .exit)) ⌝ }
@@ -742,7 +743,7 @@ pub extern "C" fn flaxbadger_covering_cap_by(
     out: &mut [u64],
     count: &mut u64,
     steps: &mut u64,
-    aside: &mut u64,
+    aside: &mut [u64; 6],
     agree: &mut u64,
 ) -> u64
     ensures { λ r. ⌜ CalledBy (resultOf (Kind.Outer Ending.Covering) (regionCoverer «min_level» «max_level» «level_mod» «max_cells») (capGiven x y z radius) allowance (length (now (mem .entry))) (length (now (out .entry)))) r (now (mem .entry)) (now (mem .exit)) (now (out .entry)) (now (out .exit)) (now (count .exit)) (now (steps .exit)) (now (aside .exit)) (now (agree .exit)) ⌝ }
@@ -786,7 +787,7 @@ pub extern "C" fn flaxbadger_covering_cell_by(
     out: &mut [u64],
     count: &mut u64,
     steps: &mut u64,
-    aside: &mut u64,
+    aside: &mut [u64; 6],
     agree: &mut u64,
 ) -> u64
     ensures { λ r. ⌜ CalledBy (resultOf (Kind.Outer Ending.Covering) (regionCoverer «min_level» «max_level» «level_mod» «max_cells») (cellArea id) allowance (length (now (mem .entry))) (length (now (out .entry)))) r (now (mem .entry)) (now (mem .exit)) (now (out .entry)) (now (out .exit)) (now (count .exit)) (now (steps .exit)) (now (aside .exit)) (now (agree .exit)) ⌝ }
@@ -827,7 +828,7 @@ pub extern "C" fn flaxbadger_covering_list_by(
     out: &mut [u64],
     count: &mut u64,
     steps: &mut u64,
-    aside: &mut u64,
+    aside: &mut [u64; 6],
     agree: &mut u64,
 ) -> u64
     ensures { λ r. ⌜ CalledBy (resultOf (Kind.Outer Ending.Covering) (regionCoverer «min_level» «max_level» «level_mod» «max_cells») (listArea (now (list .entry))) allowance (length (now (mem .entry))) (length (now (out .entry)))) r (now (mem .entry)) (now (mem .exit)) (now (out .entry)) (now (out .exit)) (now (count .exit)) (now (steps .exit)) (now (aside .exit)) (now (agree .exit)) ⌝ }
@@ -871,7 +872,7 @@ pub extern "C" fn flaxbadger_cellunion_cap_by(
     out: &mut [u64],
     count: &mut u64,
     steps: &mut u64,
-    aside: &mut u64,
+    aside: &mut [u64; 6],
     agree: &mut u64,
 ) -> u64
     ensures { λ r. ⌜ CalledBy (resultOf (Kind.Outer Ending.CellUnion) (regionCoverer «min_level» «max_level» «level_mod» «max_cells») (capGiven x y z radius) allowance (length (now (mem .entry))) (length (now (out .entry)))) r (now (mem .entry)) (now (mem .exit)) (now (out .entry)) (now (out .exit)) (now (count .exit)) (now (steps .exit)) (now (aside .exit)) (now (agree .exit)) ⌝ }
@@ -915,7 +916,7 @@ pub extern "C" fn flaxbadger_cellunion_cell_by(
     out: &mut [u64],
     count: &mut u64,
     steps: &mut u64,
-    aside: &mut u64,
+    aside: &mut [u64; 6],
     agree: &mut u64,
 ) -> u64
     ensures { λ r. ⌜ CalledBy (resultOf (Kind.Outer Ending.CellUnion) (regionCoverer «min_level» «max_level» «level_mod» «max_cells») (cellArea id) allowance (length (now (mem .entry))) (length (now (out .entry)))) r (now (mem .entry)) (now (mem .exit)) (now (out .entry)) (now (out .exit)) (now (count .exit)) (now (steps .exit)) (now (aside .exit)) (now (agree .exit)) ⌝ }
@@ -956,7 +957,7 @@ pub extern "C" fn flaxbadger_cellunion_list_by(
     out: &mut [u64],
     count: &mut u64,
     steps: &mut u64,
-    aside: &mut u64,
+    aside: &mut [u64; 6],
     agree: &mut u64,
 ) -> u64
     ensures { λ r. ⌜ CalledBy (resultOf (Kind.Outer Ending.CellUnion) (regionCoverer «min_level» «max_level» «level_mod» «max_cells») (listArea (now (list .entry))) allowance (length (now (mem .entry))) (length (now (out .entry)))) r (now (mem .entry)) (now (mem .exit)) (now (out .entry)) (now (out .exit)) (now (count .exit)) (now (steps .exit)) (now (aside .exit)) (now (agree .exit)) ⌝ }
@@ -1000,7 +1001,7 @@ pub extern "C" fn flaxbadger_raw_cap_by(
     out: &mut [u64],
     count: &mut u64,
     steps: &mut u64,
-    aside: &mut u64,
+    aside: &mut [u64; 6],
     agree: &mut u64,
 ) -> u64
     ensures { λ r. ⌜ CalledBy (resultOf (Kind.Outer Ending.Raw) (regionCoverer «min_level» «max_level» «level_mod» «max_cells») (capGiven x y z radius) allowance (length (now (mem .entry))) (length (now (out .entry)))) r (now (mem .entry)) (now (mem .exit)) (now (out .entry)) (now (out .exit)) (now (count .exit)) (now (steps .exit)) (now (aside .exit)) (now (agree .exit)) ⌝ }
@@ -1044,7 +1045,7 @@ pub extern "C" fn flaxbadger_raw_cell_by(
     out: &mut [u64],
     count: &mut u64,
     steps: &mut u64,
-    aside: &mut u64,
+    aside: &mut [u64; 6],
     agree: &mut u64,
 ) -> u64
     ensures { λ r. ⌜ CalledBy (resultOf (Kind.Outer Ending.Raw) (regionCoverer «min_level» «max_level» «level_mod» «max_cells») (cellArea id) allowance (length (now (mem .entry))) (length (now (out .entry)))) r (now (mem .entry)) (now (mem .exit)) (now (out .entry)) (now (out .exit)) (now (count .exit)) (now (steps .exit)) (now (aside .exit)) (now (agree .exit)) ⌝ }
@@ -1085,7 +1086,7 @@ pub extern "C" fn flaxbadger_raw_list_by(
     out: &mut [u64],
     count: &mut u64,
     steps: &mut u64,
-    aside: &mut u64,
+    aside: &mut [u64; 6],
     agree: &mut u64,
 ) -> u64
     ensures { λ r. ⌜ CalledBy (resultOf (Kind.Outer Ending.Raw) (regionCoverer «min_level» «max_level» «level_mod» «max_cells») (listArea (now (list .entry))) allowance (length (now (mem .entry))) (length (now (out .entry)))) r (now (mem .entry)) (now (mem .exit)) (now (out .entry)) (now (out .exit)) (now (count .exit)) (now (steps .exit)) (now (aside .exit)) (now (agree .exit)) ⌝ }
@@ -1129,7 +1130,7 @@ pub extern "C" fn flaxbadger_interior_covering_cap_by(
     out: &mut [u64],
     count: &mut u64,
     steps: &mut u64,
-    aside: &mut u64,
+    aside: &mut [u64; 6],
     agree: &mut u64,
 ) -> u64
     ensures { λ r. ⌜ CalledBy (resultOf (Kind.Inner Ending.Covering) (regionCoverer «min_level» «max_level» «level_mod» «max_cells») (capGiven x y z radius) allowance (length (now (mem .entry))) (length (now (out .entry)))) r (now (mem .entry)) (now (mem .exit)) (now (out .entry)) (now (out .exit)) (now (count .exit)) (now (steps .exit)) (now (aside .exit)) (now (agree .exit)) ⌝ }
@@ -1173,7 +1174,7 @@ pub extern "C" fn flaxbadger_interior_covering_cell_by(
     out: &mut [u64],
     count: &mut u64,
     steps: &mut u64,
-    aside: &mut u64,
+    aside: &mut [u64; 6],
     agree: &mut u64,
 ) -> u64
     ensures { λ r. ⌜ CalledBy (resultOf (Kind.Inner Ending.Covering) (regionCoverer «min_level» «max_level» «level_mod» «max_cells») (cellArea id) allowance (length (now (mem .entry))) (length (now (out .entry)))) r (now (mem .entry)) (now (mem .exit)) (now (out .entry)) (now (out .exit)) (now (count .exit)) (now (steps .exit)) (now (aside .exit)) (now (agree .exit)) ⌝ }
@@ -1214,7 +1215,7 @@ pub extern "C" fn flaxbadger_interior_covering_list_by(
     out: &mut [u64],
     count: &mut u64,
     steps: &mut u64,
-    aside: &mut u64,
+    aside: &mut [u64; 6],
     agree: &mut u64,
 ) -> u64
     ensures { λ r. ⌜ CalledBy (resultOf (Kind.Inner Ending.Covering) (regionCoverer «min_level» «max_level» «level_mod» «max_cells») (listArea (now (list .entry))) allowance (length (now (mem .entry))) (length (now (out .entry)))) r (now (mem .entry)) (now (mem .exit)) (now (out .entry)) (now (out .exit)) (now (count .exit)) (now (steps .exit)) (now (aside .exit)) (now (agree .exit)) ⌝ }
@@ -1258,7 +1259,7 @@ pub extern "C" fn flaxbadger_interior_cellunion_cap_by(
     out: &mut [u64],
     count: &mut u64,
     steps: &mut u64,
-    aside: &mut u64,
+    aside: &mut [u64; 6],
     agree: &mut u64,
 ) -> u64
     ensures { λ r. ⌜ CalledBy (resultOf (Kind.Inner Ending.CellUnion) (regionCoverer «min_level» «max_level» «level_mod» «max_cells») (capGiven x y z radius) allowance (length (now (mem .entry))) (length (now (out .entry)))) r (now (mem .entry)) (now (mem .exit)) (now (out .entry)) (now (out .exit)) (now (count .exit)) (now (steps .exit)) (now (aside .exit)) (now (agree .exit)) ⌝ }
@@ -1302,7 +1303,7 @@ pub extern "C" fn flaxbadger_interior_cellunion_cell_by(
     out: &mut [u64],
     count: &mut u64,
     steps: &mut u64,
-    aside: &mut u64,
+    aside: &mut [u64; 6],
     agree: &mut u64,
 ) -> u64
     ensures { λ r. ⌜ CalledBy (resultOf (Kind.Inner Ending.CellUnion) (regionCoverer «min_level» «max_level» «level_mod» «max_cells») (cellArea id) allowance (length (now (mem .entry))) (length (now (out .entry)))) r (now (mem .entry)) (now (mem .exit)) (now (out .entry)) (now (out .exit)) (now (count .exit)) (now (steps .exit)) (now (aside .exit)) (now (agree .exit)) ⌝ }
@@ -1343,7 +1344,7 @@ pub extern "C" fn flaxbadger_interior_cellunion_list_by(
     out: &mut [u64],
     count: &mut u64,
     steps: &mut u64,
-    aside: &mut u64,
+    aside: &mut [u64; 6],
     agree: &mut u64,
 ) -> u64
     ensures { λ r. ⌜ CalledBy (resultOf (Kind.Inner Ending.CellUnion) (regionCoverer «min_level» «max_level» «level_mod» «max_cells») (listArea (now (list .entry))) allowance (length (now (mem .entry))) (length (now (out .entry)))) r (now (mem .entry)) (now (mem .exit)) (now (out .entry)) (now (out .exit)) (now (count .exit)) (now (steps .exit)) (now (aside .exit)) (now (agree .exit)) ⌝ }
@@ -1387,7 +1388,7 @@ pub extern "C" fn flaxbadger_interior_raw_cap_by(
     out: &mut [u64],
     count: &mut u64,
     steps: &mut u64,
-    aside: &mut u64,
+    aside: &mut [u64; 6],
     agree: &mut u64,
 ) -> u64
     ensures { λ r. ⌜ CalledBy (resultOf (Kind.Inner Ending.Raw) (regionCoverer «min_level» «max_level» «level_mod» «max_cells») (capGiven x y z radius) allowance (length (now (mem .entry))) (length (now (out .entry)))) r (now (mem .entry)) (now (mem .exit)) (now (out .entry)) (now (out .exit)) (now (count .exit)) (now (steps .exit)) (now (aside .exit)) (now (agree .exit)) ⌝ }
@@ -1431,7 +1432,7 @@ pub extern "C" fn flaxbadger_interior_raw_cell_by(
     out: &mut [u64],
     count: &mut u64,
     steps: &mut u64,
-    aside: &mut u64,
+    aside: &mut [u64; 6],
     agree: &mut u64,
 ) -> u64
     ensures { λ r. ⌜ CalledBy (resultOf (Kind.Inner Ending.Raw) (regionCoverer «min_level» «max_level» «level_mod» «max_cells») (cellArea id) allowance (length (now (mem .entry))) (length (now (out .entry)))) r (now (mem .entry)) (now (mem .exit)) (now (out .entry)) (now (out .exit)) (now (count .exit)) (now (steps .exit)) (now (aside .exit)) (now (agree .exit)) ⌝ }
@@ -1472,7 +1473,7 @@ pub extern "C" fn flaxbadger_interior_raw_list_by(
     out: &mut [u64],
     count: &mut u64,
     steps: &mut u64,
-    aside: &mut u64,
+    aside: &mut [u64; 6],
     agree: &mut u64,
 ) -> u64
     ensures { λ r. ⌜ CalledBy (resultOf (Kind.Inner Ending.Raw) (regionCoverer «min_level» «max_level» «level_mod» «max_cells») (listArea (now (list .entry))) allowance (length (now (mem .entry))) (length (now (out .entry)))) r (now (mem .entry)) (now (mem .exit)) (now (out .entry)) (now (out .exit)) (now (count .exit)) (now (steps .exit)) (now (aside .exit)) (now (agree .exit)) ⌝ }

@@ -1,6 +1,6 @@
-// Reads a line after another from standard input and writes an answer a line: `ok STEPS ASIDE COUNT ID...` to a request, `ok COUNT NUMBER...` to a question
-// about lists, `refused NUMBER` to either, or `error LINE-NUMBER WORD` to a line that is neither. The last line of a whole output is `end N`, the number of lines
-// answered. What a line asks and what is answered is the crate `lines`.
+// Reads a line after another from standard input and writes an answer a line: `ok STEPS ASIDE0 .. ASIDE5 COUNT ID...` to a request, `ok COUNT NUMBER...` to a
+// question about lists, `refused NUMBER` to either, or `error LINE-NUMBER WORD` to a line that is neither. The last line of a whole output is `end N`, the number
+// of lines answered. What a line asks and what is answered is the crate `lines`.
 ghost use mathlib.Core.Path.{_≡_};
 ghost use Prim.Native.Nat.{_+_, _*_, _≤_};
 ghost use lib.ListN.{length};

@@ -3,13 +3,12 @@ use mathlib.Core.Path.{_≡_, refl, sym, ap, ap₂, _∙_, subst}
 use mathlib.Core.Bool.{Bool, true, false, _&&_, not}
 use mathlib.Core.Logic.{⊎-elim}
 use mathlib.Core.List.{List, [], _∷_, _++_}
-use Prim.Native.Nat.{ℕ, suc, _+_, _-_, _*_, _/_, _%_, _^_, _≤_, _<_}
+use Prim.Native.Nat.{ℕ, suc, _+_, _-_, _/_, _%_, _^_, _≤_, _<_}
 use native.Mathlib.Numerals.{add-one}
 use native.Mathlib.Omega.{arith}
 use lib.Dec.{leb, ltb, eqb}
 use lib.Count.{ones}
 use lib.ListN.{length}
-use lib.Pow.{pow-mono}
 use borrow.Author.Tests.{ltb-true, ltb-false, eq-eqb, ne-eqb}
 use Rattle.cellid.specs.CellId.{Cell, IsCell, levelOf, placeOf, lowBit, leavesOf}
 use Rattle.cellid.proofs.Laws.{low-cell, cell-lt}
@@ -20,6 +19,7 @@ use Rattle.run.specs.declared.Request.{Request}
 use Rattle.run.specs.Run.{Child, State, going, then, divide, isEmpty, sumOf, full, depth, expansionOf, lifts, byId, keep, enqueue, setAside, isFull, add, addAll, Task, maxLevel, levelMod, minLevel, maxCells, memoryWords, byCost}
 use Rattle.run.specs.Masks.{consIf, childrenIn, found}
 use Rattle.run.specs.Ground.{Domain, lookFor, ChildOk, Queued}
+use Rattle.run.specs.Sixes.{placesMost}
 use Rattle.run.proofs.Lists.{if-ok, empty-nil, sum-append, all-back, rel-eq}
 use Rattle.run.proofs.Looks.{MeansBy, Means, look-means}
 use Rattle.run.proofs.Leaves.{leaves-add}
@@ -29,23 +29,17 @@ use Rattle.run.proofs.Counts.{found-counted, empty-set}
 use Rattle.run.proofs.Turns.{then-then, then-cong, then-going, add-none, add-lift, add-queue}
 use Rattle.run.specs.declared.Found.{Found}
 use Rattle.records.specs.declared.Rec.{Rec}
-use Rattle.queue.specs.declared.Setup.{Setup}
+use Rattle.records.specs.Records.{recordOf}
+use Rattle.queue.specs.declared.Engine.{Engine}
 use Rattle.candidate.specs.Candidate.{Asks}
 use Rattle.coverer.specs.declared.Counts.{Counts}
 use Rattle.coverer.specs.declared.Turn.{Turn}
 use Rattle.coverer.specs.declared.Brood.{Brood}
-use Rattle.coverer.specs.Engine.{isIn, childAt, childIf, childrenFrom, leavesIn, asideOf, AsideUpTo, grown, RuledBy, recOf, Ready, Stands, Gives, Does}
+use Rattle.coverer.specs.Engine.{isIn, childAt, childIf, childrenFrom, leavesIn, asideOf, AsideUpTo, grown, recOf, Stands, Gives, Does}
 use Rattle.coverer.proofs.Stands.{raw-length, sets-aside, does-as, does-nothing, aside-le, up-to}
 
 pub domain : (q : Request) (a : Area) → Asks q a → Domain q
 domain q a A = record { order = A .order; deep = A .deep }
-
--- 4 ^ level_mod is at most 64
-pub narrow : (q : Request) (a : Area) (w : Setup) → Ready q a w → w .rule .full ≤ 64
-unfolding full
-narrow q a w R =
-    let few : levelMod q ≤ 3 = R .asks .few in
-    omega (arith, R .rule, pow-mono {i = 2 * levelMod q} {j = 6} (omega arith))
 
 -- a cell's leaves are its lowest bit's weight
 pub low-leaves : (id : ℕ) → IsCell id (levelOf id) (placeOf id) → lowBit id ≡ leavesOf id
@@ -182,78 +176,78 @@ module _ (T : Task) (D : Domain (T .asked)) where
   unfolding addAll
   children-over b j h i s = rw (children-end b j h)
 
-module _ (w : Setup) (T : Task) (D : Domain (T .asked)) where
+module _ (E : Engine) (T : Task) (D : Domain (T .asked)) (i : ℕ) where
   -- ---- a candidate that is to be expanded: each way that it goes
 
   pub adds-none : (m : List ℕ) (t : Counts) (id n : ℕ) → Queued T id → found T (depth (T .asked) id) id .present ≡ 0 → n ≡ leavesOf id
-      → Does w T (λ i. add (byCost T) (grown i id) false) m t m (Turn.Going (asideOf (T .asked .inner) t n))
+      → Does E T i (add (byCost T) (grown i id) false) m t m (Turn.Going (asideOf (T .asked .inner) t n))
   unfolding Gives
   adds-none m t id n Q z e =
       let b : isEmpty (expansionOf T id .children) ≡ true = is-empty T D id ∙ eq-eqb _ 0 z in
       record {
-        gives = λ i s S. (
+        gives = λ v s S. (
           setAside (T .asked) i (expansionOf T id .failed) s,
           add-none T (byId T) (grown i id) s b,
-          sets-aside w T m t n i (expansionOf T id .failed) s (λ o. e ∙ none-failed T D id Q b o) S,
+          sets-aside E T i v m t n (expansionOf T id .failed) s (λ o. e ∙ none-failed T D id Q b o) S,
         );
         frame = refl;
       }
 
   module _ (m : List ℕ) (t : Counts) (m′ : List ℕ) (r : Turn) (id : ℕ) (some : found T (depth (T .asked) id) id .present ≡ 0 → ⊥) (lift : Bool)
       (is : lift ≡ (not (T .asked .inner) && (leb (minLevel (T .asked)) (levelOf id) && eqb (ones (found T (depth (T .asked) id) id .terminal)) (full (T .asked))))) where
-    pub adds-lifted : lift ≡ true → Does w T (λ i. keep (grown i id)) m t m′ r → Does w T (λ i. add (byCost T) (grown i id) false) m t m′ r
-    adds-lifted e = does-as w T (λ i. keep (grown i id)) (λ i. add (byCost T) (grown i id) false) m t m′ r
-        (λ i s S. add-lift T (byId T) (grown i id) s (is-empty T D id ∙ ne-eqb _ 0 some) (lifts-is T D id ∙ sym is ∙ e))
+    pub adds-lifted : lift ≡ true → Does E T i (keep (grown i id)) m t m′ r → Does E T i (add (byCost T) (grown i id) false) m t m′ r
+    adds-lifted e = does-as E T i (keep (grown i id)) (add (byCost T) (grown i id) false) m t m′ r
+        (λ v s S. add-lift T (byId T) (grown i id) s (is-empty T D id ∙ ne-eqb _ 0 some) (lifts-is T D id ∙ sym is ∙ e))
 
-    pub adds-queued : lift ≡ false → Does w T (λ i. enqueue (byId T) (grown i id)) m t m′ r
-        → Does w T (λ i. add (byCost T) (grown i id) false) m t m′ r
-    adds-queued e = does-as w T (λ i. enqueue (byId T) (grown i id)) (λ i. add (byCost T) (grown i id) false) m t m′ r
-        (λ i s S. add-queue T (byId T) (grown i id) s (is-empty T D id ∙ ne-eqb _ 0 some) (lifts-is T D id ∙ sym is ∙ e))
+    pub adds-queued : lift ≡ false → Does E T i (enqueue (byId T) (grown i id)) m t m′ r
+        → Does E T i (add (byCost T) (grown i id) false) m t m′ r
+    adds-queued e = does-as E T i (enqueue (byId T) (grown i id)) (add (byCost T) (grown i id) false) m t m′ r
+        (λ v s S. add-queue T (byId T) (grown i id) s (is-empty T D id ∙ ne-eqb _ 0 some) (lifts-is T D id ∙ sym is ∙ e))
 
-  pub adds-kept : (m : List ℕ) (t : Counts) (m′ : List ℕ) (r : Turn) (id : ℕ) (b : Bool) → b ≡ true → Does w T (λ i. keep (grown i id)) m t m′ r
-      → Does w T (λ i. add (byCost T) (grown i id) b) m t m′ r
+  pub adds-kept : (m : List ℕ) (t : Counts) (m′ : List ℕ) (r : Turn) (id : ℕ) (b : Bool) → b ≡ true → Does E T i (keep (grown i id)) m t m′ r
+      → Does E T i (add (byCost T) (grown i id) b) m t m′ r
   unfolding add
-  adds-kept m t m′ r id b e = does-as w T (λ i. keep (grown i id)) (λ i. add (byCost T) (grown i id) b) m t m′ r (λ i s S. rw (e, add))
+  adds-kept m t m′ r id b e = does-as E T i (keep (grown i id)) (add (byCost T) (grown i id) b) m t m′ r (λ v s S. rw (e, add))
 
   pub adds-open : (m : List ℕ) (t : Counts) (m′ : List ℕ) (r : Turn) (id : ℕ) (b : Bool) → b ≡ false
-      → Does w T (λ i. add (byCost T) (grown i id) false) m t m′ r → Does w T (λ i. add (byCost T) (grown i id) b) m t m′ r
+      → Does E T i (add (byCost T) (grown i id) false) m t m′ r → Does E T i (add (byCost T) (grown i id) b) m t m′ r
   adds-open m t m′ r id b e d = rw e d
 
   -- ---- a child, if there is one
 
   -- full: the state's results are as many as the counts say
-  pub full-is : (m : List ℕ) (t : Counts) (s : State) (f : Bool) → memoryWords ≤ length m → Stands w T m t s → f ≡ (T .asked .inner && leb (maxCells (T .asked)) (t .kept)) → isFull (T .asked) s ≡ f
+  pub full-is : (v : ℕ → ℕ) (m : List ℕ) (t : Counts) (s : State) (f : Bool) → memoryWords ≤ length m → Stands E T i v m t s → f ≡ (T .asked .inner && leb (maxCells (T .asked)) (t .kept)) → isFull (T .asked) s ≡ f
   unfolding isFull
-  full-is m t s f h S e = rw (raw-length w T h S) (sym e)
+  full-is v m t s f h S z = rw (raw-length E T i h S) (sym z)
 
   pub child-none : (m : List ℕ) (t : Counts) (b : Brood) (j : ℕ) → isIn (b .present) j ≡ false
-      → Does w T (λ i. addAll (byCost T) i (childIf b j)) m t m (Turn.Going t)
+      → Does E T i (addAll (byCost T) i (childIf b j)) m t m (Turn.Going t)
   unfolding addAll
-  child-none m t b j e = does-nothing w T (λ i. addAll (byCost T) i (childIf b j)) m t (λ i s S. rw (child-away b j e))
+  child-none m t b j e = does-nothing E T i (addAll (byCost T) i (childIf b j)) m t (λ v s S. rw (child-away b j e))
 
   pub child-full : (m : List ℕ) (t : Counts) (b : Brood) (j : ℕ) (f : Bool) → memoryWords ≤ length m → isIn (b .present) j ≡ true → f ≡ (T .asked .inner && leb (maxCells (T .asked)) (t .kept)) → f ≡ true
-      → Does w T (λ i. addAll (byCost T) i (childIf b j)) m t m (Turn.Going t)
+      → Does E T i (addAll (byCost T) i (childIf b j)) m t m (Turn.Going t)
   unfolding addAll
-  child-full m t b j f h e ef t′ = does-nothing w T (λ i. addAll (byCost T) i (childIf b j)) m t
-      (λ i s S. rw (child-there b j e, addAll, full-is m t s f h S ef ∙ t′))
+  child-full m t b j f h e ef t′ = does-nothing E T i (addAll (byCost T) i (childIf b j)) m t
+      (λ v s S. rw (child-there b j e, addAll, full-is v m t s f h S ef ∙ t′))
 
   pub child-added : (m : List ℕ) (t : Counts) (m′ : List ℕ) (r : Turn) (b : Brood) (j : ℕ) (f ends : Bool) → memoryWords ≤ length m → isIn (b .present) j ≡ true → f ≡ (T .asked .inner && leb (maxCells (T .asked)) (t .kept)) → f ≡ false
-      → ends ≡ isIn (b .terminal) j → Does w T (λ i. add (byCost T) (grown i (childAt b j)) ends) m t m′ r
-      → Does w T (λ i. addAll (byCost T) i (childIf b j)) m t m′ r
+      → ends ≡ isIn (b .terminal) j → Does E T i (add (byCost T) (grown i (childAt b j)) ends) m t m′ r
+      → Does E T i (addAll (byCost T) i (childIf b j)) m t m′ r
   unfolding addAll
-  child-added m t m′ r b j f ends h e ef t′ d = does-as w T (λ i. add (byCost T) (grown i (childAt b j)) ends)
-      (λ i. addAll (byCost T) i (childIf b j)) m t m′ r
-      (λ i s S. rw (child-there b j e, addAll, full-is m t s f h S ef ∙ t′, ← d) (then-going (add (byCost T) (grown i (childAt b j)) ends s)))
+  child-added m t m′ r b j f ends h e ef t′ d = does-as E T i (add (byCost T) (grown i (childAt b j)) ends)
+      (addAll (byCost T) i (childIf b j)) m t m′ r
+      (λ v s S. rw (child-there b j e, addAll, full-is v m t s f h S ef ∙ t′, ← d) (then-going (add (byCost T) (grown i (childAt b j)) ends s)))
 
   -- ---- adding a candidate, each way that the code goes
 
   module _ (m : List ℕ) (t : Counts) (id : ℕ) (b : Bool) (C : ChildOk T (record { id = id; ends = b })) where
-    pub add-kept : (m′ : List ℕ) (r : Turn) → b ≡ true → Does w T (λ i. keep (grown i id)) m t m′ r → AsideUpTo (t .aside) r
-        → Does w T (λ i. add (byCost T) (grown i id) b) m t m′ r × AsideUpTo (t .aside + leavesOf id) r
+    pub add-kept : (m′ : List ℕ) (r : Turn) → b ≡ true → Does E T i (keep (grown i id)) m t m′ r → AsideUpTo (t .aside) r
+        → Does E T i (add (byCost T) (grown i id) b) m t m′ r × AsideUpTo (t .aside + leavesOf id) r
     add-kept m′ r e d a = (adds-kept m t m′ r id b e d, up-to (t .aside) _ r (omega arith) a)
 
     pub add-empty : (f : Found) (n : ℕ) (u : Counts) → b ≡ false → f ≡ found T (depth (T .asked) id) id → f .present ≡ 0 → n ≡ lowBit id → u ≡ asideOf (T .asked .inner) t n
-        → Does w T (λ i. add (byCost T) (grown i id) b) m t m (Turn.Going u) × AsideUpTo (t .aside + leavesOf id) (Turn.Going u)
+        → Does E T i (add (byCost T) (grown i id) b) m t m (Turn.Going u) × AsideUpTo (t .aside + leavesOf id) (Turn.Going u)
     unfolding AsideUpTo
     add-empty f n u e ef z en eu =
         let Q = queued T D id b e C in
@@ -262,22 +256,24 @@ module _ (w : Setup) (T : Task) (D : Domain (T .asked)) where
           omega (arith, ap (λ (x : Counts). x .aside) eu, aside-le (T .asked .inner) t n),
         )
 
-    module _ (f : Found) (lift : Bool) (m′ : List ℕ) (r : Turn) (e : b ≡ false) (ef : f ≡ found T (depth (T .asked) id) id) (some : f .present ≡ 0 → ⊥) (ruled : RuledBy (T .asked) w)
-        (is : lift ≡ (not (T .asked .inner) && (leb (minLevel (T .asked)) (levelOf id) && eqb (ones (f .terminal)) (w .rule .full)))) where
+    module _ (f : Found) (lift : Bool) (n : ℕ) (m′ : List ℕ) (r : Turn) (e : b ≡ false) (ef : f ≡ found T (depth (T .asked) id) id) (some : f .present ≡ 0 → ⊥) (all : n ≡ full (T .asked))
+        (is : lift ≡ (not (T .asked .inner) && (leb (minLevel (T .asked)) (levelOf id) && eqb (ones (f .terminal)) n))) where
       some-is : found T (depth (T .asked) id) id .present ≡ 0 → ⊥
       some-is z = some (ap (λ (x : Found). x .present) ef ∙ z)
 
       lift-is : lift ≡ (not (T .asked .inner) && (leb (minLevel (T .asked)) (levelOf id) && eqb (ones (found T (depth (T .asked) id) id .terminal)) (full (T .asked))))
-      lift-is = is ∙ ap₂ (λ (x : Found) (y : ℕ). not (T .asked .inner) && (leb (minLevel (T .asked)) (levelOf id) && eqb (ones (x .terminal)) y)) ef ruled
+      lift-is = is ∙ ap₂ (λ (x : Found) (y : ℕ). not (T .asked .inner) && (leb (minLevel (T .asked)) (levelOf id) && eqb (ones (x .terminal)) y)) ef all
 
-      pub add-lifted : lift ≡ true → Does w T (λ i. keep (grown i id)) m t m′ r → AsideUpTo (t .aside) r
-          → Does w T (λ i. add (byCost T) (grown i id) b) m t m′ r × AsideUpTo (t .aside + leavesOf id) r
+      pub add-lifted : lift ≡ true → Does E T i (keep (grown i id)) m t m′ r → AsideUpTo (t .aside) r
+          → Does E T i (add (byCost T) (grown i id) b) m t m′ r × AsideUpTo (t .aside + leavesOf id) r
       add-lifted l d a = (adds-open m t m′ r id b e (adds-lifted m t m′ r id some-is lift lift-is l d), up-to (t .aside) _ r (omega arith) a)
 
-      pub add-queued : lift ≡ false
-          → (RuledBy (T .asked) w → record { id = id; present = f .present; terminal = f .terminal } ≡ recOf T (grown 0 id)
-          → Does w T (λ i. enqueue (byId T) (grown i id)) m t m′ r) → AsideUpTo (t .aside) r
-          → Does w T (λ i. add (byCost T) (grown i id) b) m t m′ r × AsideUpTo (t .aside + leavesOf id) r
-      add-queued l d a =
-          let rec : Found → Rec = λ x. record { id = id; present = x .present; terminal = x .terminal } in
-          (adds-open m t m′ r id b e (adds-queued m t m′ r id some-is lift lift-is l (d ruled (ap rec ef))), up-to (t .aside) _ r (omega arith) a)
+      pub add-queued : lift ≡ false → i < placesMost → (x : Rec) → x ≡ recordOf n i id (f .present) (f .terminal)
+          → ((T : Task) (j : ℕ) → j < placesMost → x ≡ recOf T (grown j (x .id)) → Does E T j (enqueue (byId T) (grown j (x .id))) m t m′ r) → AsideUpTo (t .aside) r
+          → Does E T i (add (byCost T) (grown i id) b) m t m′ r × AsideUpTo (t .aside + leavesOf id) r
+      unfolding recordOf
+      add-queued l placed x ex d a =
+          let own : x .id ≡ id = ap (λ (y : Rec). y .id) ex in
+          let is-rec : x ≡ recOf T (grown i id) = ex ∙ ap₂ (λ (y : Found) (k : ℕ). recordOf k i id (y .present) (y .terminal)) ef all in
+          let q : Does E T i (enqueue (byId T) (grown i id)) m t m′ r = subst (λ (k : ℕ). Does E T i (enqueue (byId T) (grown i k)) m t m′ r) own (d T i placed (is-rec ∙ ap (λ (k : ℕ). recOf T (grown i k)) (sym own))) in
+          (adds-open m t m′ r id b e (adds-queued m t m′ r id some-is lift lift-is l q), up-to (t .aside) _ r (omega arith) a)

@@ -5,17 +5,24 @@ use Prim.Native.Nat.{ℕ, _+_, _≤_, _<_}
 use native.Mathlib.Omega.{arith}
 use lib.ListN.{length}
 use Rattle.run.specs.Run.{State, Outcome, refused, going, then, after, run, rawIds, Task, byCost, rawMost, queueWords, memoryWords}
-use Rattle.queue.specs.declared.Setup.{Setup}
-use Rattle.coverer.specs.declared.Counts.{Counts}
-use Rattle.coverer.specs.declared.Turn.{Turn}
+use Rattle.totals.proofs.Laws.{totals-by}
+use Rattle.run.specs.Sixes.{asideFrom, asideSix}
+use Rattle.queue.specs.declared.Engine.{Engine}
+use Rattle.coverer.specs.declared.Tally.{Tally}
+use Rattle.coverer.specs.declared.Stage.{Stage}
 use Rattle.coverer.specs.declared.Ran.{Ran}
 use Rattle.coverer.specs.Coverer.{cleared, engineAnswer, engineMemory}
-use Rattle.coverer.specs.Engine.{Stands, Gives, Comes}
+use Rattle.coverer.specs.Engine.{Holds, Leads, Comes}
 use Rattle.coverer.proofs.Memory.{cleared-front, cleared-only}
 use Rattle.coverer.proofs.Stands.{raw-length}
 use Rattle.coverer.proofs.Runs.{waiting, idle, unlessQueued, run-after}
 
-module _ (w : Setup) (T : Task) (l : List ℕ) (k : ℕ) (m m₁ : List ℕ) (r : Turn) (C : Comes w T (after (byCost T) l k) m m₁ r) where
+-- the totals that are counted are the defined ones
+pub six-are : (E : Engine) (T : Task) {m : List ℕ} {t : Tally} {s : State} → Holds E T m t s → t .aside ≡ asideSix s
+unfolding asideSix
+six-are E T {m} {t} {s} H = totals-by (t .aside) (asideFrom s) (λ j. H .at j .aside)
+
+module _ (E : Engine) (T : Task) (l : List ℕ) (k : ℕ) (m m₁ : List ℕ) (r : Stage) (C : Comes E T (after (byCost T) l k) m m₁ r) where
   abbrev o : Outcome
   o = run (byCost T) l k
 
@@ -24,14 +31,14 @@ module _ (w : Setup) (T : Task) (l : List ℕ) (k : ℕ) (m m₁ : List ℕ) (r 
   unfolding engineAnswer engineMemory
   refuses n v m₂ e d = (rw e (d .0), rw e (d .1 ∙ cleared-front memoryWords m m₁ (C .frame)))
 
-  pub answer-refused : (n : ℕ) (v : Ran) (m₂ : List ℕ) → r ≡ Turn.Refused n → (v ≡ Ran.Refused n) × (m₂ ≡ cleared 0 memoryWords m₁) → (v ≡ engineAnswer o) × (m₂ ≡ engineMemory o m)
-  unfolding Gives then
-  answer-refused n v m₂ e = refuses n v m₂ (run-after (byCost T) l k ∙ ap (λ (x : Outcome). then x unlessQueued) (subst (λ (y : Turn). Gives w T m₁ y (after (byCost T) l k)) e (C .gives)))
+  pub answer-refused : (n : ℕ) (v : Ran) (m₂ : List ℕ) → r ≡ Stage.Refused n → (v ≡ Ran.Refused n) × (m₂ ≡ cleared 0 memoryWords m₁) → (v ≡ engineAnswer o) × (m₂ ≡ engineMemory o m)
+  unfolding Leads then
+  answer-refused n v m₂ e = refuses n v m₂ (run-after (byCost T) l k ∙ ap (λ (x : Outcome). then x unlessQueued) (subst (λ (y : Stage). Leads E T m₁ y (after (byCost T) l k)) e (C .gives)))
 
-  module _ (t : Counts) (e : r ≡ Turn.Going t) where
-    ended : (s : State) × (after (byCost T) l k ≡ going s) × Stands w T m₁ t s
-    unfolding Gives
-    ended = subst (λ (y : Turn). Gives w T m₁ y (after (byCost T) l k)) e (C .gives)
+  module _ (t : Tally) (e : r ≡ Stage.Going t) where
+    ended : (s : State) × (after (byCost T) l k ≡ going s) × Holds E T m₁ t s
+    unfolding Leads
+    ended = subst (λ (y : Stage). Leads E T m₁ y (after (byCost T) l k)) e (C .gives)
 
     comes-to : o ≡ unlessQueued (ended .0)
     unfolding then
@@ -39,18 +46,19 @@ module _ (w : Setup) (T : Task) (l : List ℕ) (k : ℕ) (m m₁ : List ℕ) (r 
 
     pub answer-spent : (v : Ran) (m₂ : List ℕ) → 0 < t .queued → (v ≡ Ran.Refused 9) × (m₂ ≡ cleared 0 memoryWords m₁) → (v ≡ engineAnswer o) × (m₂ ≡ engineMemory o m)
     unfolding unlessQueued
-    answer-spent v m₂ some = refuses 9 v m₂ (comes-to ∙ rw (waiting w T some (ended .2), unlessQueued))
+    answer-spent v m₂ some = refuses 9 v m₂ (comes-to ∙ rw (waiting E T some (ended .2), unlessQueued))
 
     pub answer-room : t .kept ≤ rawMost
-    answer-room = ended .2 .room
+    answer-room = ended .2 .at 0 .room
 
     pub answer-done : (v : Ran) (m₂ : List ℕ) → memoryWords ≤ length m₁ → t .queued ≤ 0 → (v ≡ Ran.Done (t .kept) (t .steps) (t .aside)) × (m₂ ≡ cleared (queueWords + t .kept) memoryWords (cleared 0 queueWords m₁)) → (v ≡ engineAnswer o) × (m₂ ≡ engineMemory o m)
     unfolding engineAnswer engineMemory unlessQueued
     answer-done v m₂ long none d =
         let S = ended .2 in
-        let g : o ≡ going (ended .0) = comes-to ∙ rw (idle w T none S, unlessQueued) in (
-          rw (g, raw-length w T long S, ← S .steps, ← S .aside) (d .0),
-          rw g (d .1 ∙ cleared-only queueWords memoryWords (t .kept) (rawIds (ended .0)) m m₁ (omega (arith, answer-room)) long (S .raw) (C .frame)),
+        let totals : t .aside ≡ asideSix (ended .0) = six-are E T S in
+        let g : o ≡ going (ended .0) = comes-to ∙ rw (idle E T none S, unlessQueued) in (
+          rw (g, raw-length E T 0 long (S .at 0), ← S .at 0 .steps, ← totals) (d .0),
+          rw g (d .1 ∙ cleared-only queueWords memoryWords (t .kept) (rawIds (ended .0)) m m₁ (omega (arith, answer-room)) long (S .at 0 .raw) (C .frame)),
         )
 
 -- any two results that the engine's contract allows are one: the answer, and the whole memory

@@ -13,8 +13,8 @@ use Rattle.run.specs.Run.{queueMost, rawMost, queueWords, memoryWords}
 use Rattle.coverer.specs.Coverer.{cleared, onlyWords}
 use Rattle.coverer.specs.Engine.{wordsAt, past}
 
--- the sizes fit together: three words for each record of the queue, and a word for each kept id
-pub sizes : (queueWords ≡ 3 * queueMost) × (memoryWords ≡ queueWords + rawMost)
+-- the sizes fit together: four words for each record of the queue, and a word for each kept id
+pub sizes : (queueWords ≡ 4 * queueMost) × (memoryWords ≡ queueWords + rawMost)
 sizes = (refl, refl)
 
 -- ---- words of a part

@@ -1,27 +1,30 @@
 -- Private contracts only; nothing here need be believed: what the engine promises is in specs/Coverer.
 -- How the working memory and the engine's counts stand for a state of the defined run, and what each part of the engine does in these words: whatever state
--- the memory stands for before, it stands for the defined next one afterwards. The start cells' places, `from`, are in no word of the memory: each statement
--- holds for every place i. Of the queue no more is said than that it is `InQueue`, for the setup w that it has.
+-- the memory stands for before, it stands for the defined next one afterwards. A part that works on the cells of the start cell i counts the leaves that are
+-- set aside under it and leaves the other totals alone. Of the queue no more is said than that it is `InQueue`, for the engine e.
 use mathlib.Core.Path.{_≡_}
+use mathlib.Core.Logic.{_≢_}
 use mathlib.Core.Bool.{Bool, true, false}
 use mathlib.Core.List.{List, [], _∷_, map}
-use Prim.Native.Nat.{ℕ, zero, suc, _+_, _-_, _*_, _/_, _%_, _^_, _≤_}
+use Prim.Native.Nat.{ℕ, _+_, _-_, _*_, _/_, _%_, _^_, _≤_, _<_}
 use lib.Dec.{eqb}
 use lib.ListN.{length, take, drop}
 use Rattle.cellid.specs.CellId.{lowBit, leavesOf}
 use Rattle.order.specs.Order.{All}
-use Rattle.region.specs.Region.{Area}
-use Rattle.run.specs.declared.Request.{Request}
-use Rattle.run.specs.Run.{queueMost, rawMost, Task, Course, Grown, Child, State, Outcome, refused, going, then, full, depth, sumOf, look, expansionOf, setAside, addAll, step, startAs, after, rawIds, asideTotal, queueWords, memoryWords, byCost}
+use Rattle.totals.specs.declared.Totals.{Totals}
+use Rattle.totals.specs.Totals.{totalAt, withTotal}
+use Rattle.run.specs.Run.{queueMost, rawMost, Task, Grown, Child, State, Outcome, refused, going, full, depth, sumOf, look, expansionOf, setAside, addAll, startAs, after, rawIds, queueWords, memoryWords, byCost}
 use Rattle.run.specs.Masks.{found, consIf, childrenIn}
-use Rattle.run.specs.Ground.{Fit}
+use Rattle.run.specs.Ground.{Fit, Queued}
+use Rattle.run.specs.Sixes.{placesMost, asideFrom}
 use Rattle.records.specs.declared.Rec.{Rec}
-use Rattle.records.specs.Records.{costR}
-use Rattle.queue.specs.declared.Setup.{Setup}
+use Rattle.records.specs.Records.{costR, fromR, recordOf}
+use Rattle.queue.specs.declared.Engine.{Engine}
 use Rattle.queue.specs.Queue.{InQueue}
-use Rattle.candidate.specs.Candidate.{taskOf, Asks}
 use Rattle.coverer.specs.declared.Counts.{Counts}
 use Rattle.coverer.specs.declared.Turn.{Turn}
+use Rattle.coverer.specs.declared.Tally.{Tally}
+use Rattle.coverer.specs.declared.Stage.{Stage}
 use Rattle.coverer.specs.declared.Brood.{Brood}
 
 -- the k words from the word a on
@@ -54,6 +57,7 @@ leavesIn l = sumOf (λ (k : Child). leavesOf (k .id)) l
 -- the brood of a record: its places are n levels down
 unfoldable pub broodOf : ℕ → Rec → Brood
 broodOf n r = record {
+  from = fromR r;
   base = r .id - lowBit (r .id);
   unit = lowBit (r .id) / 2 ^ (2 * n);
   places = 2 ^ (2 * n);
@@ -69,10 +73,10 @@ asideOf false t n = record { kept = t .kept; queued = t .queued; aside = t .asid
 abbrev pub grown : ℕ → ℕ → Grown
 grown i id = record { from = i; id = id }
 
--- records as they are listed: each one's id followed by its cost
-unfoldable pub listed : ℕ → List Rec → List ℕ
-listed full [] = []
-listed full (r ∷ l) = r .id ∷ costR full r ∷ listed full l
+-- records as they are listed: each one's id followed by its cost and its start cell's place
+unfoldable pub listed : List Rec → List ℕ
+listed [] = []
+listed (r ∷ l) = r .id ∷ costR r ∷ fromR r ∷ listed l
 
 -- a set-aside total of at most n
 unfoldable pub AsideUpTo : ℕ → Turn → Type 0
@@ -80,17 +84,15 @@ AsideUpTo n (Turn.Refused k) = Unit
 AsideUpTo n (Turn.Going t) = t .aside ≤ n
 
 module _ (T : Task) where
-  -- a queued cell's record: the cell and the two sets of its expansion
+  -- a queued cell's record: the cell, the two sets of its expansion, its cost and its start cell's place
   abbrev pub recOf : Grown → Rec
-  recOf c = record { id = c .id; present = found T (depth (T .asked) (c .id)) (c .id) .present; terminal = found T (depth (T .asked) (c .id)) (c .id) .terminal }
+  recOf c = let f = found T (depth (T .asked) (c .id)) (c .id) in recordOf (full (T .asked)) (c .from) (c .id) (f .present) (f .terminal)
 
-  -- a state that the defined run reaches
-  pub record Reached (s : State) : Type 0 where
-    pub starts : List ℕ
-    pub fit : All (Fit (T .asked)) starts
-    pub six : length starts ≤ 6
-    pub steps : ℕ
-    pub is : after (byCost T) starts steps ≡ going s
+  -- a record that was queued
+  pub record Taken (r : Rec) : Type 0 where
+    pub cell : Queued T (r .id)
+    pub place : fromR r < placesMost
+    pub is : r ≡ recOf (grown (fromR r) (r .id))
 
   -- the taken cell handed on to its children: what failed is set aside, then the children are added
   unfoldable pub handOn : Grown → State → Outcome
@@ -100,45 +102,57 @@ module _ (T : Task) where
   abbrev pub startOne : Grown → State → Outcome
   startOne c = startAs (byCost T) (look T (c .id)) c
 
--- n steps on from a state; with an empty queue there is no step
-unfoldable pub onward : Course → ℕ → State → Outcome
-onward C zero s = going s
-onward C (suc n) s = then (step C s) (onward C n)
+-- how far a run is, for work on the cells of the start cell i
+abbrev pub countsAt : ℕ → Tally → Counts
+countsAt i t = record { kept = t .kept; queued = t .queued; aside = totalAt (t .aside) i; steps = t .steps }
 
--- the queue goes by the rule for what is asked
-abbrev pub RuledBy : Request → Setup → Type 0
-RuledBy q w = w .rule .full ≡ full q
+-- what a turn of the start cell i comes to for the run, where the totals were x before
+unfoldable pub stageAfter : Turn → Totals → ℕ → Stage
+stageAfter (Turn.Refused n) x i = Stage.Refused n
+stageAfter (Turn.Going t) x i = Stage.Going (record { kept = t .kept; queued = t .queued; steps = t .steps; aside = withTotal x i (t .aside) })
 
-module _ (w : Setup) (T : Task) where
-  -- the memory m and the counts t stand for the state s
-  pub record Stands (m : List ℕ) (t : Counts) (s : State) : Type 0 where
-    pub queue : InQueue w m (t .queued) (map (recOf T) (s .queue))
+module _ (e : Engine) (T : Task) where
+  -- in a turn of the start cell i: the memory m and the counts t stand for the state s, where v tells the totals of the other start cells
+  pub record Stands (i : ℕ) (v : ℕ → ℕ) (m : List ℕ) (t : Counts) (s : State) : Type 0 where
+    pub queue : InQueue e m (t .queued) (map (recOf T) (s .queue))
     pub raw : wordsAt queueWords (t .kept) m ≡ rawIds s
     pub few : t .queued ≤ queueMost
     pub room : t .kept ≤ rawMost
-    pub aside : t .aside ≡ asideTotal s
+    pub places : All (λ (c : Grown). c .from < placesMost) (s .queue)
+    pub aside : t .aside ≡ asideFrom s i
+    pub others : (j : ℕ) → i ≢ j → v j ≡ asideFrom s j
     pub steps : t .steps ≡ s .steps
 
   -- the memory m and an answer stand for an outcome
-  unfoldable pub Gives : List ℕ → Turn → Outcome → Type 0
-  Gives m (Turn.Refused n) o = o ≡ refused n
-  Gives m (Turn.Going t) o = (s : State) × (o ≡ going s) × Stands m t s
+  unfoldable pub Gives : ℕ → (ℕ → ℕ) → List ℕ → Turn → Outcome → Type 0
+  Gives i v m (Turn.Refused n) o = o ≡ refused n
+  Gives i v m (Turn.Going t) o = (s : State) × (o ≡ going s) × Stands i v m t s
 
-  -- from m and t to m′ and r: the defined f, for every start place i; the words past a run's are left alone
-  pub record Does (f : ℕ → State → Outcome) (m : List ℕ) (t : Counts) (m′ : List ℕ) (r : Turn) : Type 0 where
-    pub gives : (i : ℕ) (s : State) → Stands m t s → Gives m′ r (f i s)
+  -- in a turn of the start cell i, from m and t to m′ and r: the defined f; the words past a run's are left alone
+  pub record Does (i : ℕ) (f : State → Outcome) (m : List ℕ) (t : Counts) (m′ : List ℕ) (r : Turn) : Type 0 where
+    pub gives : (v : ℕ → ℕ) (s : State) → Stands i v m t s → Gives i v m′ r (f s)
     pub frame : past memoryWords m′ ≡ past memoryWords m
 
-  -- from m, with nothing kept or queued, to m′ and r: the outcome o
-  pub record Comes (o : Outcome) (m m′ : List ℕ) (r : Turn) : Type 0 where
-    pub gives : Gives m′ r o
+  -- between turns: m and t stand for s, whichever start cell's turn comes
+  pub record Holds (m : List ℕ) (t : Tally) (s : State) : Type 0 where
+    pub at : (i : ℕ) → Stands i (totalAt (t .aside)) m (countsAt i t) s
+
+  -- the memory m and an answer stand for an outcome
+  unfoldable pub Leads : List ℕ → Stage → Outcome → Type 0
+  Leads m (Stage.Refused n) o = o ≡ refused n
+  Leads m (Stage.Going t) o = (s : State) × (o ≡ going s) × Holds m t s
+
+  -- from m to m′ and r: the outcome o
+  pub record Comes (o : Outcome) (m m′ : List ℕ) (r : Stage) : Type 0 where
+    pub gives : Leads m′ r o
     pub frame : past memoryWords m′ ≡ past memoryWords m
 
--- what is asked, and what the queue goes by for it
-pub record Ready (q : Request) (a : Area) (w : Setup) : Type 0 where
-  pub asks : Asks q a
-  pub rule : RuledBy q w
+  -- m and t stand for the state of the defined run from the start cells l after t's steps
+  pub record Reached (l : List ℕ) (m : List ℕ) (t : Tally) : Type 0 where
+    pub state : State
+    pub is : after (byCost T) l (t .steps) ≡ going state
+    pub holds : Holds m t state
 
--- m and t stand for a state that the defined run reaches
-abbrev pub Live : Setup → Request → Area → List ℕ → Counts → Type 0
-Live w q a m t = (s : State) × Reached (taskOf q a) s × Stands w (taskOf q a) m t s
+  -- the same, from some start cells
+  abbrev pub Live : List ℕ → Tally → Type 0
+  Live m t = (l : List ℕ) × All (Fit (T .asked)) l × (length l ≤ placesMost) × Reached l m t

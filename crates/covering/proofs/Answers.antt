@@ -18,8 +18,10 @@ use Rattle.cellunion.specs.Memory.{zeros, laid, normalised, roomFor, laidOver}
 use Rattle.cellunion.proofs.Memory.{laid-start, drop-more, length-zeros, zeros-add}
 use Rattle.cellunion.proofs.Norm.{normalise-normal}
 use Rattle.cellunion.proofs.Results.{take-normalised, drop-normalised, length-normal}
+use Rattle.totals.specs.declared.Totals.{Totals}
 use Rattle.run.specs.declared.RegionCoverer.{RegionCoverer}
-use Rattle.run.specs.Run.{rawMost, Outcome, State, Grown, rawIds, asideTotal, queueWords, memoryWords}
+use Rattle.run.specs.Run.{rawMost, Outcome, State, Grown, rawIds, queueWords, memoryWords}
+use Rattle.run.specs.Sixes.{asideSix}
 use Rattle.run.specs.Run as Run
 use Rattle.coverer.specs.declared.Ran.{Ran}
 use Rattle.coverer.specs.Coverer.{cleared, onlyWords, engineAnswer, engineMemory}
@@ -57,7 +59,7 @@ unfolding answerOf memoryAfter outputAfter
 answered-late n m o = record { answer = refl; memory = refl; output = refl }
 
 -- a finished list, laid over the output or with no room there
-pub answered-laid : (l m o : List ℕ) (steps aside : ℕ) → Answered (fitted (length o) l steps aside) (answerLaid (roomFor l o) steps aside) m (cleared 0 memoryWords m) o (laidOver l o)
+pub answered-laid : (l m o : List ℕ) (steps : ℕ) (aside : Totals) → Answered (fitted (length o) l steps aside) (answerLaid (roomFor l o) steps aside) m (cleared 0 memoryWords m) o (laidOver l o)
 unfolding fitted answerLaid roomFor laidOver answerOf memoryAfter outputAfter
 answered-laid l m o steps aside = by (leb (length l) (length o))
   where
@@ -66,7 +68,7 @@ answered-laid l m o steps aside = by (leb (length l) (length o))
     by false = record { answer = refl; memory = refl; output = refl }
 
 -- the words of a run make no difference to what is left
-pub fitted-front : (room : ℕ) (l : List ℕ) (steps aside : ℕ) (r : Answer) (m m₁ m₂ o o₂ : List ℕ) → past memoryWords m₁ ≡ past memoryWords m → Answered (fitted room l steps aside) r m₁ m₂ o o₂ → Answered (fitted room l steps aside) r m m₂ o o₂
+pub fitted-front : (room : ℕ) (l : List ℕ) (steps : ℕ) (aside : Totals) (r : Answer) (m m₁ m₂ o o₂ : List ℕ) → past memoryWords m₁ ≡ past memoryWords m → Answered (fitted room l steps aside) r m₁ m₂ o o₂ → Answered (fitted room l steps aside) r m m₂ o o₂
 unfolding fitted memoryAfter
 fitted-front room l steps aside r m m₁ m₂ o o₂ e A = record { answer = A .answer; memory = A .memory ∙ by (leb (length l) room); output = A .output }
   where
@@ -168,7 +170,7 @@ module _ (e : Ending) (c : RegionCoverer) (n : ℕ) (m : List ℕ) (P : (memoryW
   pub lay-asks : (n ≤ length ids) × All Cell (take n ids) × (c .«min_level» ≤ 30) × (0 < c .«level_mod»)
   lay-asks = (omega (arith, P .0, P .1, ap length (part queueWords (length m - queueWords) m refl), length-drop queueWords m), subst (All Cell) (sym words) (P .2), P .3, P .4)
 
-  pub finish-gives : m ≡ onlyWords queueWords memoryWords (wordsAt queueWords n m) m → (steps aside : ℕ) (o : List ℕ) (w : Laid) (r : Answer) (l m₂ o₂ : List ℕ)
+  pub finish-gives : m ≡ onlyWords queueWords memoryWords (wordsAt queueWords n m) m → (steps : ℕ) (aside : Totals) (o : List ℕ) (w : Laid) (r : Answer) (l m₂ o₂ : List ℕ)
       → (w ≡ roomFor (listOf e c (take n ids)) o) × (o₂ ≡ laidOver (listOf e c (take n ids)) o) × (l ≡ leftBy e n ids) → r ≡ answerLaid w steps aside
       → m₂ ≡ laid queueWords (zeros ((queueWords + n) - queueWords)) (take queueWords m ++ (l ++ drop (length m - queueWords) (drop queueWords m))) → Answered (fitted (length o) (listOf e c (wordsAt queueWords n m)) steps aside) r m m₂ o o₂
   finish-gives H steps aside o w r l m₂ o₂ L R M =
@@ -186,19 +188,19 @@ unfolding engineAnswer
 ran-refused (Run.refused k) n e = let z : k ≡ n = cc in ap Run.refused z
 ran-refused (Run.going s) n e = let z : _≡_ {A = ℕ} 0 1 = cc in absurd (omega arith)
 
-pub record RanDone (o : Outcome) (count steps aside : ℕ) : Type 0 where
+pub record RanDone (o : Outcome) (count steps : ℕ) (aside : Totals) : Type 0 where
   pub state : State
   pub is : o ≡ Run.going state
   pub counted : count ≡ length (rawIds state)
   pub taken : steps ≡ state .steps
-  pub total : aside ≡ asideTotal state
+  pub totals : aside ≡ asideSix state
 
-pub ran-done : (o : Outcome) (count steps aside : ℕ) → Ran.Done count steps aside ≡ engineAnswer o → RanDone o count steps aside
+pub ran-done : (o : Outcome) (count steps : ℕ) (aside : Totals) → Ran.Done count steps aside ≡ engineAnswer o → RanDone o count steps aside
 unfolding engineAnswer rawIds
 ran-done (Run.refused n) count steps aside e = let z : _≡_ {A = ℕ} 0 1 = cc in absurd (omega arith)
 ran-done (Run.going s) count steps aside e =
     let x : count ≡ length (s .raw) = cc in
-    record { state = s; is = refl; counted = x ∙ sym (length-map (s .raw) (λ (w : Grown). w .id)); taken = cc; total = cc }
+    record { state = s; is = refl; counted = x ∙ sym (length-map (s .raw) (λ (w : Grown). w .id)); taken = cc; totals = cc }
 
 module _ (e : Ending) (inner : Bool) (c : RegionCoverer) (a : Area) (allowance : ℕ) (m o : List ℕ) (none : barOf c a (length m) ≡ Bar.Open) (m₁ : List ℕ) (M : m₁ ≡ engineMemory (ranOf inner c a allowance) m) where
   -- 7, 8 or 9
@@ -208,7 +210,7 @@ module _ (e : Ending) (inner : Bool) (c : RegionCoverer) (a : Area) (allowance :
       let f : ranOf inner c a allowance ≡ Run.refused n = ran-refused _ n x in
       answered-as (ap (endedAs e c (length o)) f) (answered-late n m o) y (M ∙ ap (λ (w : Outcome). engineMemory w m) f) refl
 
-  module _ (count steps aside : ℕ) (D : RanDone (ranOf inner c a allowance) count steps aside) (same : length m₁ ≡ length m) where
+  module _ (count steps : ℕ) (aside : Totals) (D : RanDone (ranOf inner c a allowance) count steps aside) (same : length m₁ ≡ length m) where
     ended : m₁ ≡ onlyWords queueWords memoryWords (rawIds (D .state)) m
     unfolding engineMemory
     ended = M ∙ ap (λ (w : Outcome). engineMemory w m) (D .is)
@@ -241,5 +243,5 @@ module _ (e : Ending) (inner : Bool) (c : RegionCoverer) (a : Area) (allowance :
     unfolding endedAs past
     respond-done r m₂ o₂ A =
         let x : endedAs e c (length o) (ranOf inner c a allowance) ≡ fitted (length o) (listOf e c (wordsAt queueWords count m₁)) steps aside =
-        ap (endedAs e c (length o)) (D .is) ∙ sym (rw (kept-words, D .taken, D .total)) in
+        ap (endedAs e c (length o)) (D .is) ∙ sym (rw (kept-words, D .taken, D .totals)) in
         answered-as x (fitted-front (length o) (listOf e c (wordsAt queueWords count m₁)) steps aside r m m₁ m₂ o o₂ (ap (drop memoryWords) ended ∙ only-past queueWords memoryWords (rawIds (D .state)) m few) A) refl refl refl

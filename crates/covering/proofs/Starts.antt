@@ -39,7 +39,7 @@ unfolding past inPlace
 bound-past a l m m₁ h g s e =
     let n = length (boundOf a) in
     let room : length l ≤ n = omega (arith, bound-fits a h, s, ap length e ∙ length-append l (zeros (n - length l) ++ drop n m), length-append (zeros (n - length l)) (drop n m), length-zeros (n - length l), length-drop n m) in
-    drop-more n memoryWords m₁ m (bound-fits a h) (ap (drop n) e ∙ in-place-back n l m room)
+    drop-more n memoryWords m₁ m (omega (arith, bound-fits a h)) (ap (drop n) e ∙ in-place-back n l m room)
 
 -- what the engine leaves rests on these words alone
 engine-past : (o : Outcome) (m m₁ : List ℕ) → past memoryWords m₁ ≡ past memoryWords m → engineMemory o m₁ ≡ engineMemory o m

@@ -11,9 +11,12 @@ use lib.ListN.{length, take, drop, length-append}
 use lib.Seq.{take-at}
 use borrow.Author.Tests.{le-leb, lt-leb, leb-true, leb-false}
 use Rattle.region.specs.Region.{Area, boundOf}
+use Rattle.totals.specs.declared.Totals.{Totals}
+use Rattle.totals.specs.Totals.{noTotals}
 use Rattle.run.specs.declared.RegionCoverer.{RegionCoverer}
 use Rattle.fast.specs.Memory.{fastCoveringFor}
-use Rattle.run.specs.Run.{Outcome, State, rawIds, asideTotal, memoryWords}
+use Rattle.run.specs.Run.{Outcome, State, rawIds, memoryWords}
+use Rattle.run.specs.Sixes.{asideSix}
 use Rattle.run.specs.Run as Run
 use Rattle.run.proofs.Lists.{if-ok}
 use Rattle.run.proofs.Steps.{run-refuses}
@@ -58,7 +61,7 @@ module _ (c : RegionCoverer) (a : Area) (memory : ℕ) (R : Result) where
   first-passed E = ap (λ (b : Bar). checked b R) (early-given c a memory Bar.Open E)
 
 -- a finished list: 10 where it is longer than the output, else a success
-module _ (room : ℕ) (l : List ℕ) (steps aside : ℕ) where
+module _ (room : ℕ) (l : List ℕ) (steps : ℕ) (aside : Totals) where
   data Fitted : ℕ → Type 0 where
     long : room < length l → Fitted 10
     fits : length l ≤ room → Fitted 0
@@ -80,38 +83,38 @@ RunRefused (Kind.Outer e) c a allowance n = ranOf false c a allowance ≡ Run.re
 RunRefused (Kind.Inner e) c a allowance n = ranOf true c a allowance ≡ Run.refused n
 RunRefused Kind.Fast c a allowance n = ⊥
 
--- a run's finished list, with its steps and its set-aside total
-pub record RunFinished (e : Ending) (inner : Bool) (c : RegionCoverer) (a : Area) (allowance : ℕ) (l : List ℕ) (steps aside : ℕ) : Type 0 where
+-- a run's finished list, with its steps and its set-aside totals
+pub record RunFinished (e : Ending) (inner : Bool) (c : RegionCoverer) (a : Area) (allowance : ℕ) (l : List ℕ) (steps : ℕ) (aside : Totals) : Type 0 where
   pub state : State
   pub ran : ranOf inner c a allowance ≡ Run.going state
   pub list : l ≡ listOf e c (rawIds state)
   pub taken : steps ≡ state .steps
-  pub total : aside ≡ asideTotal state
+  pub totals : aside ≡ asideSix state
 
 -- the finished list of each kind
-unfoldable pub Finished : Kind → RegionCoverer → Area → ℕ → List ℕ → ℕ → ℕ → Type 0
+unfoldable pub Finished : Kind → RegionCoverer → Area → ℕ → List ℕ → ℕ → Totals → Type 0
 Finished (Kind.Outer e) c a allowance l steps aside = RunFinished e false c a allowance l steps aside
 Finished (Kind.Inner e) c a allowance l steps aside = RunFinished e true c a allowance l steps aside
-Finished Kind.Fast c a allowance l steps aside = (l ≡ fastCoveringFor c (boundOf a)) × (steps ≡ 0) × (aside ≡ 0)
+Finished Kind.Fast c a allowance l steps aside = (l ≡ fastCoveringFor c (boundOf a)) × (steps ≡ 0) × (aside ≡ noTotals)
 
 module _ (c : RegionCoverer) (a : Area) (allowance room : ℕ) where
   data Way (k : Kind) : Result → Type 0 where
     stopped : {n : ℕ} → RunRefused k c a allowance n → Way k (refused n)
-    finished : (l : List ℕ) (steps aside : ℕ) → Finished k c a allowance l steps aside → Way k (fitted room l steps aside)
+    finished : (l : List ℕ) (steps : ℕ) (aside : Totals) → Finished k c a allowance l steps aside → Way k (fitted room l steps aside)
 
   -- a run comes to a refusal or to a finished list
   module _ (e : Ending) (inner : Bool) (k : Kind) (late : (n : ℕ) → ranOf inner c a allowance ≡ Run.refused n → RunRefused k c a allowance n)
-      (end : (l : List ℕ) (steps aside : ℕ) → RunFinished e inner c a allowance l steps aside → Finished k c a allowance l steps aside) where
+      (end : (l : List ℕ) (steps : ℕ) (aside : Totals) → RunFinished e inner c a allowance l steps aside → Finished k c a allowance l steps aside) where
     run-comes : (o : Outcome) → ranOf inner c a allowance ≡ o → Way k (endedAs e c room o)
     unfolding endedAs
     run-comes (Run.refused n) f = stopped (late n f)
-    run-comes (Run.going s) f = finished _ _ _ (end _ _ _ (record { state = s; ran = f; list = refl; taken = refl; total = refl }))
+    run-comes (Run.going s) f = finished _ _ _ (end _ _ _ (record { state = s; ran = f; list = refl; taken = refl; totals = refl }))
 
   comes-is : (k : Kind) → Way k (comesTo k c a allowance room)
   unfolding comesTo RunRefused Finished
   comes-is (Kind.Outer e) = run-comes e false (Kind.Outer e) (λ n f. f) (λ l steps aside F. F) _ refl
   comes-is (Kind.Inner e) = run-comes e true (Kind.Inner e) (λ n f. f) (λ l steps aside F. F) _ refl
-  comes-is Kind.Fast = finished _ 0 0 (refl, refl, refl)
+  comes-is Kind.Fast = finished _ 0 noTotals (refl, refl, refl)
 
   stopped-comes : (k : Kind) (n : ℕ) → RunRefused k c a allowance n → comesTo k c a allowance room ≡ refused n
   unfolding comesTo RunRefused endedAs
@@ -119,11 +122,11 @@ module _ (c : RegionCoverer) (a : Area) (allowance room : ℕ) where
   stopped-comes (Kind.Inner e) n f = ap (endedAs e c room) f
   stopped-comes Kind.Fast n f = absurd f
 
-  run-finished : (e : Ending) (inner : Bool) (l : List ℕ) (steps aside : ℕ) → RunFinished e inner c a allowance l steps aside → endedAs e c room (ranOf inner c a allowance) ≡ fitted room l steps aside
+  run-finished : (e : Ending) (inner : Bool) (l : List ℕ) (steps : ℕ) (aside : Totals) → RunFinished e inner c a allowance l steps aside → endedAs e c room (ranOf inner c a allowance) ≡ fitted room l steps aside
   unfolding endedAs
-  run-finished e inner l steps aside F = ap (endedAs e c room) (F .ran) ∙ sym (rw (F .list, F .taken, F .total))
+  run-finished e inner l steps aside F = ap (endedAs e c room) (F .ran) ∙ sym (rw (F .list, F .taken, F .totals))
 
-  finished-comes : (k : Kind) (l : List ℕ) (steps aside : ℕ) → Finished k c a allowance l steps aside → comesTo k c a allowance room ≡ fitted room l steps aside
+  finished-comes : (k : Kind) (l : List ℕ) (steps : ℕ) (aside : Totals) → Finished k c a allowance l steps aside → comesTo k c a allowance room ≡ fitted room l steps aside
   unfolding comesTo Finished
   finished-comes (Kind.Outer e) l steps aside F = run-finished e false l steps aside F
   finished-comes (Kind.Inner e) l steps aside F = run-finished e true l steps aside F
@@ -146,7 +149,7 @@ module _ (k : Kind) (c : RegionCoverer) (a : Area) (allowance memory room : ℕ)
   data Given : ℕ → Type 0 where
     first : {n : ℕ} → Early c a memory (Bar.Barred n) → Given n
     late : {n : ℕ} → Early c a memory Bar.Open → RunRefused k c a allowance n → Given n
-    ended : {n : ℕ} {l : List ℕ} {steps aside : ℕ} → Early c a memory Bar.Open → Finished k c a allowance l steps aside → Fitted room l steps aside n → Given n
+    ended : {n : ℕ} {l : List ℕ} {steps : ℕ} {aside : Totals} → Early c a memory Bar.Open → Finished k c a allowance l steps aside → Fitted room l steps aside n → Given n
 
   given-is : Given number
   unfolding resultOf answerOf
@@ -187,9 +190,9 @@ module _ (k : Kind) (c : RegionCoverer) (a : Area) (allowance memory room : ℕ)
       of n h p (ended E F (long q)) = absurd (omega arith)
       of n h p (ended E F (fits q)) = absurd (omega arith)
 
-  -- a finished list, its steps and its set-aside total, of which Q is true
+  -- a finished list, its steps and its set-aside totals, of which Q is true
   abbrev pub FinishedWith : (List ℕ → Type 0) → Type 0
-  FinishedWith Q = Early c a memory Bar.Open × ((l : List ℕ) × (steps : ℕ) × (aside : ℕ) × Finished k c a allowance l steps aside × Q l)
+  FinishedWith Q = Early c a memory Bar.Open × ((l : List ℕ) × (steps : ℕ) × (aside : Totals) × Finished k c a allowance l steps aside × Q l)
 
   -- 10: the list is finished, and longer than the output
   pub when-long : (number ≡ 10) ↔ FinishedWith (λ l. room < length l)
@@ -233,7 +236,7 @@ Sound room (barred n) = 0 < n
 Sound room (refused n) = 0 < n
 Sound room (done l steps aside) = length l ≤ room
 
-fitted-sound : (room : ℕ) (l : List ℕ) (steps aside : ℕ) → Sound room (fitted room l steps aside)
+fitted-sound : (room : ℕ) (l : List ℕ) (steps : ℕ) (aside : Totals) → Sound room (fitted room l steps aside)
 unfolding fitted Sound
 fitted-sound room l steps aside = if-ok (Sound room) (leb (length l) room) _ _ (λ t. leb-true _ _ t) (λ t. omega arith)
 
@@ -261,7 +264,7 @@ refusal-values (refused n) out h = (refl, refl)
 refusal-values (done l steps aside) out h = absurd (omega arith)
 
 module _ (k : Kind) (c : RegionCoverer) (a : Area) (allowance memory room : ℕ) (m : List ℕ) where
-  fitted-cleared : (l : List ℕ) (steps aside : ℕ) → memoryAfter (fitted room l steps aside) m ≡ cleared 0 memoryWords m
+  fitted-cleared : (l : List ℕ) (steps : ℕ) (aside : Totals) → memoryAfter (fitted room l steps aside) m ≡ cleared 0 memoryWords m
   unfolding fitted memoryAfter
   fitted-cleared l steps aside = if-ok (λ (W : Result). memoryAfter W m ≡ cleared 0 memoryWords m) (leb (length l) room) _ _ (λ t. refl) (λ t. refl)
 
@@ -275,7 +278,7 @@ module _ (k : Kind) (c : RegionCoverer) (a : Area) (allowance memory room : ℕ)
   unfolding resultOf checked memoryAfter
   refusal-early n h p x = ap (λ (b : Bar). memoryAfter (checked b (comesTo k c a allowance room)) m) (early-given c a memory (Bar.Barred n) (when-early k c a allowance memory room n h p .0 x))
 
-  -- 7 to 10, and a success: "first 4,096 zero"
+  -- 7 to 10, and a success: the words of a run are zero
   pub refusal-late : Early c a memory Bar.Open → memoryAfter (resultOf k c a allowance memory room) m ≡ cleared 0 memoryWords m
   unfolding resultOf
   refusal-late E = ap (λ (R : Result). memoryAfter R m) (first-passed c a memory (comesTo k c a allowance room) E) ∙ comes-cleared (comes-is c a allowance room k)
@@ -300,12 +303,12 @@ pub record Done (k : Kind) (c : RegionCoverer) (a : Area) (allowance memory : �
   pub counted : r .count ≡ length (take (r .count) out)
   pub finished : Finished k c a allowance (take (r .count) out) (r .steps) (r .aside)
 
-fitted-done : (room : ℕ) (l : List ℕ) (steps aside : ℕ) (out : List ℕ) → length l ≤ room
+fitted-done : (room : ℕ) (l : List ℕ) (steps : ℕ) (aside : Totals) (out : List ℕ) → length l ≤ room
     → (answerOf (fitted room l steps aside) ≡ record { number = 0; count = length l; steps = steps; aside = aside }) × (take (length l) (outputAfter (fitted room l steps aside) out) ≡ l)
 unfolding fitted answerOf outputAfter
 fitted-done room l steps aside out h = rw (le-leb (length l) room h, fitted) (refl, take-at l (drop (length l) out) (length l) refl)
 
-finished-as : (k : Kind) (c : RegionCoverer) (a : Area) (allowance : ℕ) (l l′ : List ℕ) (steps steps′ aside aside′ : ℕ) → l ≡ l′ → steps ≡ steps′ → aside ≡ aside′
+finished-as : (k : Kind) (c : RegionCoverer) (a : Area) (allowance : ℕ) (l l′ : List ℕ) (steps steps′ : ℕ) (aside aside′ : Totals) → l ≡ l′ → steps ≡ steps′ → aside ≡ aside′
     → Finished k c a allowance l steps aside → Finished k c a allowance l′ steps′ aside′
 finished-as k c a allowance l l′ steps steps′ aside aside′ e d f F = rw (← e, ← d, ← f) F
 

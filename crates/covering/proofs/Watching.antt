@@ -6,6 +6,7 @@ use Prim.Native.Nat.{ℕ, _+_, _*_, _≤_}
 use native.Mathlib.Omega.{arith}
 use lib.ListN.{length, take}
 use Rattle.region.specs.Region.{Area, boundOf}
+use Rattle.totals.specs.declared.Totals.{Totals}
 use Rattle.run.specs.declared.RegionCoverer.{RegionCoverer}
 use Rattle.run.specs.Run.{Task, Outcome, after, memoryWords}
 use Rattle.candidate.specs.Candidate.{taskOf}
@@ -24,7 +25,7 @@ use Rattle.covering.specs.Watch.{afterOf, seenAs, outputSeen, memorySeen
 use Rattle.covering.proofs.Starts.{bound-past}
 
 -- how a run stands is told only where the output has room for it
-pub watched-room : (b : Bar) (T : Task) (room : ℕ) (o : Outcome) (kept queued steps aside : ℕ) → Seen.Standing kept queued steps aside ≡ seenAs b T room o → kept + 2 * queued ≤ room
+pub watched-room : (b : Bar) (T : Task) (room : ℕ) (o : Outcome) (kept queued steps : ℕ) (aside : Totals) → Seen.Standing kept queued steps aside ≡ seenAs b T room o → kept + 3 * queued ≤ room
 unfolding seenAs
 watched-room Bar.Open T room o kept queued steps aside e = seen-room T room o kept queued steps aside e
 watched-room (Bar.Barred n) T room o kept queued steps aside e = let z : _≡_ {A = ℕ} 0 1 = cc in absurd (omega arith)

@@ -12,7 +12,10 @@ use Rattle.denorm.specs.Denorm.{denormalise}
 use Rattle.run.specs.declared.RegionCoverer.{RegionCoverer}
 use Rattle.run.specs.declared.Request.{Request}
 use Rattle.fast.specs.Memory.{startsFor, fastCoveringFor}
-use Rattle.run.specs.Run.{Outcome, rawIds, asideTotal, memoryWords}
+use Rattle.totals.specs.declared.Totals.{Totals}
+use Rattle.totals.specs.Totals.{noTotals}
+use Rattle.run.specs.Run.{Outcome, rawIds, memoryWords}
+use Rattle.run.specs.Sixes.{asideSix}
 use Rattle.run.specs.Run as Run
 use Rattle.coverer.specs.Coverer.{outcomeOf, cleared}
 use Rattle.cellunion.specs.Memory.{normalised}
@@ -26,14 +29,14 @@ use Rattle.covering.specs.declared.Kind.{Kind}
 -- ---- what a request comes to
 
 -- barred with a number, before anything is touched; refused with a number, when the working memory has been used; or a list with the number of steps and the
--- set-aside total
+-- set-aside totals
 pub data Result : Type 0 where
   barred : ℕ → Result
   refused : ℕ → Result
-  done : List ℕ → ℕ → ℕ → Result
+  done : List ℕ → ℕ → Totals → Result
 
 -- 10: "the finished list is longer than the output"
-unfoldable pub fitted : ℕ → List ℕ → ℕ → ℕ → Result
+unfoldable pub fitted : ℕ → List ℕ → ℕ → Totals → Result
 fitted room l steps aside = elim (leb (length l) room) [ true ↦ done l steps aside | false ↦ refused 10 ]
 
 -- 1 to 6 come before anything else
@@ -50,7 +53,7 @@ listOf Ending.Covering c raw = denormalise (c .«min_level») (c .«level_mod»)
 -- 7, 8 and 9 "come as the run meets them"
 unfoldable pub endedAs : Ending → RegionCoverer → ℕ → Outcome → Result
 endedAs e c room (Run.refused n) = refused n
-endedAs e c room (Run.going s) = fitted room (listOf e c (rawIds s)) (s .steps) (asideTotal s)
+endedAs e c room (Run.going s) = fitted room (listOf e c (rawIds s)) (s .steps) (asideSix s)
 
 -- what is asked of the run
 abbrev pub askedOf : RegionCoverer → Bool → Request
@@ -64,7 +67,7 @@ ranOf inner c a allowance = outcomeOf (askedOf c inner) a (startsFor c (boundOf 
 unfoldable pub comesTo : Kind → RegionCoverer → Area → ℕ → ℕ → Result
 comesTo (Kind.Outer e) c a allowance room = endedAs e c room (ranOf false c a allowance)
 comesTo (Kind.Inner e) c a allowance room = endedAs e c room (ranOf true c a allowance)
-comesTo Kind.Fast c a allowance room = fitted room (fastCoveringFor c (boundOf a)) 0 0
+comesTo Kind.Fast c a allowance room = fitted room (fastCoveringFor c (boundOf a)) 0 noTotals
 
 -- a request of any kind, with the lengths of the working memory and of the output
 unfoldable pub resultOf : Kind → RegionCoverer → Area → ℕ → ℕ → ℕ → Result
@@ -72,9 +75,9 @@ resultOf k c a allowance memory room = checked (barOf c a memory) (comesTo k c a
 
 -- ---- what the caller sees
 
--- "Each refusal returns its number, count 0, steps 0, set-aside 0"
+-- "Each refusal returns its number, count 0, steps 0, set-aside 0": "six zeros"
 abbrev pub refusal : ℕ → Answer
-refusal n = record { number = n; count = 0; steps = 0; aside = 0 }
+refusal n = record { number = n; count = 0; steps = 0; aside = noTotals }
 
 -- "Success returns count, steps and set-aside"; its number is 0
 unfoldable pub answerOf : Result → Answer
@@ -88,7 +91,7 @@ outputAfter (barred n) out = out
 outputAfter (refused n) out = out
 outputAfter (done l steps aside) out = l ++ drop (length l) out
 
--- 1 to 6: "unchanged"; 7 to 10 and success: "first 4,096 zero". "Working memory past 4,096 never changes."
+-- 1 to 6: "unchanged"; 7 to 10 and success: the words of a run, 5,120, are zero; working memory past them "never changes"
 unfoldable pub memoryAfter : Result → List ℕ → List ℕ
 memoryAfter (barred n) mem = mem
 memoryAfter (refused n) mem = cleared 0 memoryWords mem
@@ -109,6 +112,6 @@ leftBy Ending.CellUnion count ids = normalised count ids
 leftBy Ending.Covering count ids = normalised count ids
 
 -- the answer to a list that was laid over the output, or had no room there
-unfoldable pub answerLaid : Laid → ℕ → ℕ → Answer
+unfoldable pub answerLaid : Laid → ℕ → Totals → Answer
 answerLaid (Laid.Done count) steps aside = record { number = 0; count = count; steps = steps; aside = aside }
 answerLaid Laid.NoRoom steps aside = refusal 10

@@ -14,6 +14,7 @@ ghost use Rattle.covering.specs.Covering.{refusal, fitted, listOf, ranOf
 ghost use Rattle.covering.specs.Watch.{Watched};
 ghost use Rattle.fast.specs.Memory.{fastCoveringFor};
 ghost use Rattle.region.specs.Region.{areaOf, boundOf};
+ghost use Rattle.totals.specs.Totals.{noTotals};
 ghost use Rattle.run.specs.Run.{rawMost, queueWords, memoryWords};
 ghost use Rattle.coverer.specs.Coverer.{cleared, onlyWords, engineAnswer, engineMemory};
 ghost use Rattle.coverer.specs.Engine.{wordsAt};
@@ -27,14 +28,15 @@ use run::MEMORY_WORDS;
 use run::QUEUE_WORDS;
 use run::RegionCoverer;
 use run::Request;
+use totals::Totals;
 
 // The answer's number and values: 0 for a success, else paper 01's number of the refusal; how many ids stand in the output's first places, how many steps the
-// run took, how many leaves it set aside. A refusal has zeros there.
+// run took, how many leaves it set aside under each start cell. A refusal has zeros there.
 pub struct Answer {
     pub number: u64,
     pub count: usize,
     pub steps: u32,
-    pub aside: u64,
+    pub aside: Totals,
 }
 
 // Which list of a run a request asks for: the raw one, in the order kept, the normalised one, or the final one.
@@ -55,11 +57,12 @@ pub enum Kind {
 fn refuse(number: u64) -> Answer
     ensures { λ r. ⌜ r ≡ refusal number ⌝ }
 {
+    let aside = totals::none();
     Answer {
         number,
         count: 0,
         steps: 0,
-        aside: 0,
+        aside,
     }
 }
 
@@ -90,7 +93,7 @@ fn clear_front(mem: &mut [u64])
 }
 
 // The answer to a list that was laid, or had no room.
-fn laid_answer(laid: Laid, steps: u32, aside: u64) -> Answer
+fn laid_answer(laid: Laid, steps: u32, aside: Totals) -> Answer
     ensures { λ r. ⌜ r ≡ answerLaid laid steps aside ⌝ }
 {
     match laid {
@@ -130,7 +133,7 @@ fn finish(
     c: RegionCoverer,
     count: usize,
     steps: u32,
-    aside: u64,
+    aside: Totals,
     mem: &mut [u64],
     out: &mut [u64],
 ) -> Answer
@@ -172,11 +175,11 @@ fn run_and_finish(
 // The quick covering of a request that is not barred.
 fn lay_fast(c: RegionCoverer, g: Region, list: &[u64], mem: &mut [u64], out: &mut [u64]) -> Answer
     requires { ⌜ barOf c (areaOf g (now list)) (length (now mem)) ≡ Bar.Open ⌝ }
-    ensures { λ r. ⌜ Answered (fitted (length (now (out .entry))) (fastCoveringFor c (boundOf (areaOf g (now (list .entry))))) 0 0) r (now (mem .entry)) (now (mem .exit)) (now (out .entry)) (now (out .exit)) ⌝ }
+    ensures { λ r. ⌜ Answered (fitted (length (now (out .entry))) (fastCoveringFor c (boundOf (areaOf g (now (list .entry))))) 0 noTotals) r (now (mem .entry)) (now (mem .exit)) (now (out .entry)) (now (out .exit)) ⌝ }
 {
     let laid = fast::fast_covering(c, g, list, mem, out);
     clear_front(mem);
-    laid_answer(laid, 0, 0)
+    laid_answer(laid, 0, totals::none())
 }
 
 // What a request that is not barred comes to, by its kind.
@@ -393,8 +396,8 @@ fn watch_from_starts(
 }
 
 // A request's run as it stands after so many steps, or where its queue is empty before, by either engine: in the output's first places the kept ids, in the
-// order kept, then the queued cells, the next one first, each id followed by its cost. Refused with 1 to 6 as any request; with 7 or 8 as the run meets them up to
-// there; with 10 where the output has no room for all that.
+// order kept, then the queued cells, the next one first, each id followed by its cost and its start cell's place. Refused with 1 to 6 as any request; with 7 or 8
+// as the run meets them up to there; with 10 where the output has no room for all that.
 pub fn watch(
     engine: Engine,
     inner: bool,

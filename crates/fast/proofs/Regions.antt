@@ -7,7 +7,7 @@ use native.Mathlib.Omega.{arith}
 use lib.ListN.{length, take, drop, length-append}
 use lib.Seq.{take-at, drop-at}
 use Rattle.region.specs.Region.{Area, inDomain, boundOf}
-use Rattle.region.proofs.Laws.{bound-cells}
+use Rattle.region.proofs.Laws.{bound-fits, bound-cells}
 use Rattle.cellid.specs.CellId.{Cell}
 use Rattle.order.specs.Order.{All}
 use Rattle.cellunion.specs.declared.Laid.{Laid}
@@ -33,13 +33,14 @@ pub record Bounded (bound m m₁ : List ℕ) (n : ℕ) : Type 0 where
   pub front : take n m₁ ≡ bound
   pub same : (l : List ℕ) → inPlace n l m₁ ≡ inPlace (length bound) l m
 
-pub bounded : (bound m m₁ : List ℕ) (n : ℕ) → length bound ≤ memoryWords → memoryWords ≤ length m → (n ≡ length bound) × (m₁ ≡ laid 0 bound m) → Bounded bound m m₁ n
+pub bounded : (a : Area) (m m₁ : List ℕ) (n : ℕ) → inDomain a ≡ true → memoryWords ≤ length m → (n ≡ length (boundOf a)) × (m₁ ≡ laid 0 (boundOf a) m) → Bounded (boundOf a) m m₁ n
 unfolding inPlace
-bounded bound m m₁ n h g e =
+bounded a m m₁ n h g e =
+    let bound = boundOf a in
     let f : m₁ ≡ bound ++ drop (length bound) m = e .1 ∙ laid-start bound m in
     let back : drop n m₁ ≡ drop (length bound) m = ap (drop n) f ∙ drop-at bound (drop (length bound) m) n (sym (e .0)) in
     record {
-      room = omega (arith, e .0, ap length f, length-append bound (drop (length bound) m));
+      room = omega (arith, bound-fits a h, e .0, ap length f, length-append bound (drop (length bound) m));
       front = ap (take n) f ∙ take-at bound (drop (length bound) m) n (sym (e .0));
       same = λ l. ap₂ (λ (k : ℕ) (t : List ℕ). l ++ (zeros (k - length l) ++ t)) (e .0) back;
     }

@@ -13,6 +13,7 @@ use borrow.Rule.Slice.PartAt.{part-to-end}
 use borrow.Rule.Slice.PartMut.{midOf, putMid}
 use Rattle.cellunion.proofs.Memory.{past-end}
 use Rattle.region.specs.Region.{Area}
+use Rattle.totals.specs.Totals.{noTotals}
 use Rattle.covering.specs.declared.Answer.{Answer}
 use Rattle.covering.specs.declared.Kind.{Kind}
 use Rattle.covering.specs.Covering.{Result, barred, refused, done, resultOf, answerOf, memoryAfter, outputAfter, Answered}
@@ -78,7 +79,7 @@ noOrder = record {
   number = 0;
   count = 0;
   steps = 0;
-  aside = 0;
+  aside = noTotals;
   fast = false;
   inner = false;
   cell = true;

@@ -4,6 +4,7 @@ use mathlib.Core.List.{List, [], _∷_, _++_}
 use mathlib.Core.Logic.{_↔_}
 use Prim.Native.Nat.{ℕ, _+_, _-_, _≤_, _<_}
 use lib.ListN.{length, getD, take, drop}
+use Rattle.totals.specs.Totals.{noTotals}
 use Rattle.covering.specs.declared.Answer.{Answer}
 use Rattle.covering.specs.Covering.{Answered}
 use Rattle.orders.specs.declared.Order.{Order}
@@ -46,7 +47,7 @@ pub record Alone (xs : List Order) (o : Order) (ys : List Order) (mem out : List
 pub record NoneTaken (xs : List Order) (o : Order) (mem out : List ℕ) (answer : Answer) : Type 0 where
   pub count : answer .count ≡ 0
   pub steps : answer .steps ≡ 0
-  pub aside : answer .aside ≡ 0
+  pub aside : answer .aside ≡ noTotals
   pub next : placesOf (through xs o mem out .orders) ≡ begins xs mem out
   pub output : through xs o mem out .output ≡ ahead xs mem out .output
 

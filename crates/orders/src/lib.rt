@@ -12,6 +12,7 @@ use covering::Kind;
 use queue::Engine;
 use region::Region;
 use run::RegionCoverer;
+use totals::Totals;
 
 // How many orders a night may have.
 pub const NIGHT_MOST: usize = 256;
@@ -23,7 +24,7 @@ pub struct Order {
     pub number: u64,
     pub count: usize,
     pub steps: u32,
-    pub aside: u64,
+    pub aside: Totals,
     pub fast: bool,
     pub inner: bool,
     pub cell: bool,

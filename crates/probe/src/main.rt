@@ -292,9 +292,14 @@ fn read_coverer(k: u64, line: &[u8], p: Place) -> CovererRead {
 
 // ---- questions about a region
 
-// Words for a list of a question, or for a region's bound.
+// Words for a list of a question.
 fn words() -> [u64; 4096] {
     [0; 4096]
+}
+
+// Words of working memory.
+fn memory() -> [u64; 5120] {
+    [0; 5120]
 }
 
 // Words for a region's list: more than the longest line can fill.
@@ -316,7 +321,7 @@ fn read_cell(k: u64, line: &[u8], p: Place) -> Read {
 fn put_bound(g: Region, list: &[u64], page: &mut Page) -> usize
     requires { ⌜ inDomain (areaOf g (now list)) ≡ true ⌝ }
 {
-    let mut mem = words();
+    let mut mem = memory();
     let count = region::cell_union_bound(g, list, &mut mem);
     put_list(page, &mem, count)
 }
@@ -324,7 +329,7 @@ fn put_bound(g: Region, list: &[u64], page: &mut Page) -> usize
 fn put_starts(c: RegionCoverer, g: Region, list: &[u64], page: &mut Page) -> usize
     requires { ⌜ NumbersFit c × (inDomain (areaOf g (now list)) ≡ true) ⌝ }
 {
-    let mut mem = words();
+    let mut mem = memory();
     let s = fast::starts(c, g, list, &mut mem);
     let ids = s.ids;
     put_list(page, &ids, s.count)

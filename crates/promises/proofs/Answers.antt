@@ -2,9 +2,9 @@
 use mathlib.Core.Path.{_≡_, refl, sym, ap, _∙_, subst}
 use mathlib.Core.Bool.{Bool, true, false}
 use mathlib.Core.List.{List, [], _∷_}
-use Prim.Native.Nat.{ℕ, zero, suc, _*_, _%_, _^_, _≤_, _<_}
+use Prim.Native.Nat.{ℕ, zero, suc, _+_, _*_, _%_, _^_, _≤_, _<_}
 use native.Mathlib.Omega.{arith}
-use lib.ListN.{length, take}
+use lib.ListN.{length, take, getD}
 use Rattle.cellid.specs.CellId.{levelOf}
 use Rattle.order.specs.Order.{All}
 use Rattle.cellunion.specs.CellUnion.{covers, Apart, SameLeaves}
@@ -14,11 +14,14 @@ use Rattle.region.proofs.Laws.{bound-cells}
 use Rattle.run.specs.declared.RegionCoverer.{RegionCoverer}
 use Rattle.fast.specs.Memory.{startsFor, fastCoveringFor}
 use Rattle.fast.proofs.Laws.{fast-apart, fast-leaves, fast-levels}
-use Rattle.run.specs.Run.{State, going, run, after, rawIds, sumOf, asideTotal}
-use Rattle.run.specs.Ground.{Fit, Disjoint}
-use Rattle.run.proofs.Steps.{run-ends, inner-aside}
+use Rattle.totals.specs.declared.Totals.{Totals}
+use Rattle.totals.specs.Totals.{noTotals, sixOf, totalAt}
+use Rattle.run.specs.Run.{State, going, run, after, rawIds, sumOf, leavesOf, asideTotal}
+use Rattle.run.specs.Ground.{Fit, Disjoint, grownFrom}
+use Rattle.run.specs.Sixes.{asideFrom, asideSix, sumOfSix}
+use Rattle.run.proofs.Steps.{run-ends}
 use Rattle.run.proofs.Demand3.{raw-disjoint}
-use Rattle.run.proofs.Totals.{leaves-most}
+use Rattle.run.proofs.Sixes.{six-add-up, six-at, six-fit, aside-and-raw, aside-no-start, inner-six}
 use Rattle.cellunion.proofs.Words.{apart-meets}
 use Rattle.coverer.specs.Coverer.{courseOf, outcomeOf}
 use Rattle.covering.specs.declared.Answer.{Answer}
@@ -87,12 +90,24 @@ module _ (inner : Bool) (c : RegionCoverer) (a : Area) (allowance memory : ℕ) 
     last : after (courseOf (askedOf c inner) a) (startsFor c (boundOf a)) (s .steps) ≡ going s
     last = run-ends _ _ (startsFor c (boundOf a)) allowance s run-is .last
 
-    none-aside : inner ≡ true → asideTotal s ≡ 0
-    unfolding asideTotal sumOf
-    none-aside i = ap (sumOf _) (inner-aside _ _ i (startsFor c (boundOf a)) (s .steps) s last)
+    none-aside : inner ≡ true → asideSix s ≡ noTotals
+    none-aside i = inner-six _ _ i (startsFor c (boundOf a)) (s .steps) s last
 
-    aside-most : asideTotal s ≤ 6 * 2 ^ 60
-    aside-most = omega (arith, begun .few, leaves-most _ (run-domain c a memory v inner) _ (startsFor c (boundOf a)) fit (s .steps) s last)
+    module _ (t : Totals) (is : t ≡ asideSix s) where
+      totals-sum : sumOfSix t ≡ asideTotal s
+      totals-sum = rw is (six-add-up _ (run-domain c a memory v inner) _ (startsFor c (boundOf a)) fit (s .steps) s last (begun .few))
+
+      total-at : (k : ℕ) → totalAt t k ≡ asideFrom s k
+      total-at k = ap (λ (x : Totals). totalAt x k) is ∙ six-at _ (run-domain c a memory v inner) _ (startsFor c (boundOf a)) fit (s .steps) s last (begun .few) k
+
+      totals-each : inner ≡ false → (k : ℕ) → k < length (startsFor c (boundOf a)) → totalAt t k + sumOf leavesOf (grownFrom k (s .raw)) ≡ leavesOf (getD (startsFor c (boundOf a)) k 0)
+      totals-each o k h = omega (arith, total-at k, aside-and-raw _ (run-domain c a memory v inner) _ (startsFor c (boundOf a)) fit o allowance s run-is k h)
+
+      totals-none : (k : ℕ) → length (startsFor c (boundOf a)) ≤ k → totalAt t k ≡ 0
+      totals-none k h = total-at k ∙ aside-no-start _ (run-domain c a memory v inner) _ (startsFor c (boundOf a)) fit (s .steps) s last k h
+
+      totals-most : All (λ n. n ≤ 2 ^ 60) (sixOf t) × (sumOfSix t ≤ 6 * 2 ^ 60)
+      totals-most = rw is (six-fit _ (run-domain c a memory v inner) _ (startsFor c (boundOf a)) fit (s .steps) s last)
 
     raw-once : c .«level_mod» ≤ 1 → Disjoint (rawIds s)
     raw-once m = raw-disjoint _ (run-domain c a memory v inner) _ (startsFor c (boundOf a)) fit (apart-disjoint (startsFor c (boundOf a)) (begun .apart m)) (s .steps) s last
@@ -105,8 +120,11 @@ module _ (c : RegionCoverer) (a : Area) (allowance memory : ℕ) (v : Valid c a 
     state = F .state;
     ran = F .ran;
     taken = F .taken;
-    total = F .total;
-    most = omega (arith, F .total, aside-most false c a allowance memory v (F .state) (F .ran));
+    totals = F .totals;
+    sum = totals-sum false c a allowance memory v (F .state) (F .ran) _ (F .totals);
+    each = totals-each false c a allowance memory v (F .state) (F .ran) _ (F .totals) refl;
+    none = totals-none false c a allowance memory v (F .state) (F .ran) _ (F .totals);
+    most = totals-most false c a allowance memory v (F .state) (F .ran) _ (F .totals);
     counted = counted;
     list = F .list;
     keeps = outer-list false c a allowance memory v (F .state) (F .ran) e _ (F .list) refl;
@@ -121,7 +139,7 @@ module _ (c : RegionCoverer) (a : Area) (allowance memory : ℕ) (v : Valid c a 
     state = F .state;
     ran = F .ran;
     taken = F .taken;
-    total = F .total ∙ none-aside true c a allowance memory v (F .state) (F .ran) refl;
+    totals = F .totals ∙ none-aside true c a allowance memory v (F .state) (F .ran) refl;
     counted = counted;
     list = F .list;
     keeps = inner-list true c a allowance memory v (F .state) (F .ran) e _ (F .list) refl;
@@ -131,12 +149,12 @@ module _ (c : RegionCoverer) (a : Area) (allowance memory : ℕ) (v : Valid c a 
         (inner-list true c a allowance memory v (F .state) (F .ran) e _ (F .list) refl);
   }
 
-  fast-done : take (r .count) out ≡ fastCoveringFor c (boundOf a) → r .steps ≡ 0 → r .aside ≡ 0 → FastDone c a r out
+  fast-done : take (r .count) out ≡ fastCoveringFor c (boundOf a) → r .steps ≡ 0 → r .aside ≡ noTotals → FastDone c a r out
   fast-done w t z =
       let C = bound-cells a (v .region) in
       record {
         taken = t;
-        total = z;
+        totals = z;
         counted = counted;
         list = w;
         missing = λ n h. subst (λ (l : List ℕ). covers l n ≡ true) (sym w) (fast-leaves (c .«min_level») (c .«max_level») (c .«level_mod») (c .«max_cells») (boundOf a) (v .order) C n h);

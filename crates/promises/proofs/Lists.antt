@@ -20,10 +20,12 @@ use Rattle.picklist.proofs.Laws.{pick-is, meets-leaf, holds-leaf}
 use Rattle.region.specs.Region.{Area, listArea, inDomain, intersectsCell, containsCell, boundOf}
 use Rattle.fast.specs.Fast.{startsOf, adjustedCells, keepStarts, fastCovering, mergedCovering, mergedIn}
 use Rattle.fast.specs.Memory.{startsFor}
+use Rattle.totals.specs.Totals.{noTotals}
 use Rattle.run.specs.declared.RegionCoverer.{RegionCoverer}
 use Rattle.run.specs.declared.Request.{Request}
-use Rattle.run.specs.Run.{maxLevel, Course, State, going, then, isEmpty, nothing, startAll, placed, after, loop, run, rawIds, sumOf, asideTotal}
-use Rattle.run.specs.Ground.{Passes}
+use Rattle.run.specs.Run.{maxLevel, Course, State, going, then, isEmpty, nothing, startAll, placed, after, loop, run, rawIds, sumOf}
+use Rattle.run.specs.Ground.{Passes, grownFrom}
+use Rattle.run.specs.Sixes.{asideFrom, asideSix}
 use Rattle.candidate.specs.Candidate.{taskOf}
 use Rattle.coverer.specs.Coverer.{courseOf, outcomeOf}
 use Rattle.bars.specs.declared.Bar.{Bar}
@@ -88,23 +90,23 @@ no-list Ending.Raw c = refl
 no-list Ending.CellUnion c = refl
 no-list Ending.Covering c = refl
 
-no-room : (room : ℕ) → fitted room [] 0 0 ≡ done [] 0 0
+no-room : (room : ℕ) → fitted room [] 0 noTotals ≡ done [] 0 noTotals
 unfolding fitted
 no-room room = rw (fitted, le-leb 0 room (omega arith))
 
 module _ (c : RegionCoverer) (allowance room : ℕ) where
-  no-end : (inner : Bool) (e : Ending) → endedAs e c room (ranOf inner c (listArea []) allowance) ≡ done [] 0 0
-  unfolding ranOf outcomeOf endedAs boundOf rawIds asideTotal sumOf
+  no-end : (inner : Bool) (e : Ending) → endedAs e c room (ranOf inner c (listArea []) allowance) ≡ done [] 0 noTotals
+  unfolding ranOf outcomeOf endedAs boundOf rawIds asideSix asideFrom grownFrom sumOf
   no-end inner e =
       ap (λ (l : List ℕ). endedAs e c room (run (courseOf (askedOf c inner) (listArea [])) l allowance)) (no-starts c)
-      ∙ ap (endedAs e c room) (no-run (courseOf (askedOf c inner) (listArea [])) allowance) ∙ ap (λ (l : List ℕ). fitted room l 0 0) (no-list e c) ∙ no-room room
+      ∙ ap (endedAs e c room) (no-run (courseOf (askedOf c inner) (listArea [])) allowance) ∙ ap (λ (l : List ℕ). fitted room l 0 noTotals) (no-list e c) ∙ no-room room
 
-  no-answer : (k : Kind) → comesTo k c (listArea []) allowance room ≡ done [] 0 0
+  no-answer : (k : Kind) → comesTo k c (listArea []) allowance room ≡ done [] 0 noTotals
   unfolding comesTo boundOf fastCovering mergedCovering mergedIn normalise sort pass rev denormalise
   no-answer (Kind.Outer e) = no-end false e
   no-answer (Kind.Inner e) = no-end true e
   no-answer Kind.Fast = no-room room
 
-pub empty-list : (k : Kind) (c : RegionCoverer) (allowance memory room : ℕ) → barOf c (listArea []) memory ≡ Bar.Open → resultOf k c (listArea []) allowance memory room ≡ done [] 0 0
+pub empty-list : (k : Kind) (c : RegionCoverer) (allowance memory room : ℕ) → barOf c (listArea []) memory ≡ Bar.Open → resultOf k c (listArea []) allowance memory room ≡ done [] 0 noTotals
 unfolding resultOf checked
 empty-list k c allowance memory room e = ap (λ (b : Bar). checked b (comesTo k c (listArea []) allowance room)) e ∙ no-answer c allowance room k

@@ -3,8 +3,8 @@
 use mathlib.Core.Path.{_≡_}
 use mathlib.Core.Bool.{true, false}
 use mathlib.Core.List.{List}
-use Prim.Native.Nat.{ℕ, _*_, _^_, _≤_}
-use lib.ListN.{length, take}
+use Prim.Native.Nat.{ℕ, _+_, _*_, _^_, _≤_, _<_}
+use lib.ListN.{length, take, getD}
 use Rattle.cellid.specs.CellId.{levelOf}
 use Rattle.order.specs.Order.{All}
 use Rattle.cellunion.specs.CellUnion.{covers, Apart}
@@ -12,8 +12,10 @@ use Rattle.denorm.specs.Denorm.{OnStep}
 use Rattle.region.specs.Region.{Area, listArea, boundOf}
 use Rattle.run.specs.declared.RegionCoverer.{RegionCoverer}
 use Rattle.fast.specs.Memory.{startsFor, fastCoveringFor}
-use Rattle.run.specs.Run.{State, going, rawIds, asideTotal}
-use Rattle.run.specs.Ground.{Disjoint}
+use Rattle.totals.specs.Totals.{noTotals, sixOf, totalAt}
+use Rattle.run.specs.Run.{State, going, rawIds, asideTotal, sumOf, leavesOf}
+use Rattle.run.specs.Ground.{Disjoint, grownFrom}
+use Rattle.run.specs.Sixes.{asideSix, sumOfSix}
 use Rattle.coverer.specs.Coverer.{courseOf}
 use Rattle.covering.specs.declared.Answer.{Answer}
 use Rattle.covering.specs.declared.Ending.{Ending}
@@ -30,8 +32,13 @@ pub record OuterDone (e : Ending) (c : RegionCoverer) (a : Area) (allowance : �
   pub state : State
   pub ran : ranOf false c a allowance ≡ going state  -- demand 2's run
   pub taken : r .steps ≡ state .steps
-  pub total : r .aside ≡ asideTotal state  -- "the reported set-aside total is theirs"
-  pub most : r .aside ≤ 6 * 2 ^ 60  -- a face's leaves for each of at most six start cells; what lies under two of them counts twice
+  pub totals : r .aside ≡ asideSix state  -- "the reported set-aside total is theirs", told by start cell
+  pub sum : sumOfSix (r .aside) ≡ asideTotal state  -- "Their sum is the old total"
+  -- the leaves set aside under the start cell k, and those of the raw cells that grew from it, are its leaves
+  pub each : (k : ℕ) → k < length (startsFor c (boundOf a)) → totalAt (r .aside) k + sumOf leavesOf (grownFrom k (state .raw)) ≡ leavesOf (getD (startsFor c (boundOf a)) k 0)
+  pub none : (k : ℕ) → length (startsFor c (boundOf a)) ≤ k → totalAt (r .aside) k ≡ 0  -- "zero where there is no such start cell"
+  -- each is at most a face's leaves, and all are at most six faces'; what lies under two start cells counts twice
+  pub most : All (λ n. n ≤ 2 ^ 60) (sixOf (r .aside)) × (sumOfSix (r .aside) ≤ 6 * 2 ^ 60)
   pub counted : r .count ≡ length (take (r .count) out)  -- the output has so many words
   pub list : take (r .count) out ≡ listOf e c (rawIds state)  -- the raw list in the order kept, or the one that is made of it
   pub keeps : Outer (courseOf (askedOf c false) a) (startsFor c (boundOf a)) state (take (r .count) out)
@@ -39,12 +46,12 @@ pub record OuterDone (e : Ending) (c : RegionCoverer) (a : Area) (allowance : �
   pub levels : e ≡ Ending.Covering → OnLevels (askedOf c false) (take (r .count) out)
   pub covered : (ids : List ℕ) → a ≡ listArea ids → CoversAll ids (take (r .count) out)  -- "covers every leaf of the list, with nothing asked about the tests"
 
--- an inner function: the set-aside total is 0
+-- an inner function: the set-aside totals are six zeros
 pub record InnerDone (e : Ending) (c : RegionCoverer) (a : Area) (allowance : ℕ) (r : Answer) (out : List ℕ) : Type 0 where
   pub state : State
   pub ran : ranOf true c a allowance ≡ going state
   pub taken : r .steps ≡ state .steps
-  pub total : r .aside ≡ 0
+  pub totals : r .aside ≡ noTotals
   pub counted : r .count ≡ length (take (r .count) out)
   pub list : take (r .count) out ≡ listOf e c (rawIds state)
   pub keeps : Inner (courseOf (askedOf c true) a) (startsFor c (boundOf a)) state (take (r .count) out)
@@ -55,7 +62,7 @@ pub record InnerDone (e : Ending) (c : RegionCoverer) (a : Area) (allowance : �
 -- the quick covering of the region's bound: its leaves are covered, by cells that don't overlap, of levels from min to max in whole steps
 pub record FastDone (c : RegionCoverer) (a : Area) (r : Answer) (out : List ℕ) : Type 0 where
   pub taken : r .steps ≡ 0
-  pub total : r .aside ≡ 0
+  pub totals : r .aside ≡ noTotals
   pub counted : r .count ≡ length (take (r .count) out)
   pub list : take (r .count) out ≡ fastCoveringFor c (boundOf a)
   pub missing : CoversAll (boundOf a) (take (r .count) out)

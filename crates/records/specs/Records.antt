@@ -1,38 +1,42 @@
--- The queue's records of three words in lent memory, their cost and their order. A record is a queued candidate: its cell, and its children as two
--- 64-bit sets by Hilbert place. Assumes nothing.
+-- The queue's records of four words in lent memory, their cost and their order. A record is a queued candidate: its cell, its children as two 64-bit sets by
+-- Hilbert place, and in one word its cost and the place of its start cell. Assumes nothing.
 use mathlib.Core.Bool.{Bool}
 use mathlib.Core.List.{List, [], _∷_}
-use Prim.Native.Nat.{ℕ, _+_, _*_, _/_}
+use Prim.Native.Nat.{ℕ, _+_, _*_, _/_, _%_}
 use lib.ListN.{length, getD, set}
 use lib.Count.{ones}
 use Rattle.cellid.specs.CellId.{levelOf}
 use Rattle.order.specs.Lex.{lexb}
 use Rattle.run.specs.Run.{costOf}
 use Rattle.records.specs.declared.Rec.{Rec}
-use Rattle.records.specs.declared.Rule.{Rule}
 
--- the cost of a record, with full = 4^level_mod
-abbrev pub costR : ℕ → Rec → ℕ
-costR full r = costOf full (levelOf (r .id)) (ones (r .present)) (ones (r .terminal))
+-- a record's cost, and the place of the start cell that its cell grew from
+abbrev pub costR : Rec → ℕ
+costR r = r .rank / 8
 
--- "A step takes the least cost; equal costs, the smaller id." The sets follow, so that the order decides every pair of records.
-abbrev pub keyAt : ℕ → Rec → List ℕ
-keyAt cost r = cost ∷ r .id ∷ r .present ∷ r .terminal ∷ []
+abbrev pub fromR : Rec → ℕ
+fromR r = r .rank % 8
 
-unfoldable pub key : Rule → Rec → List ℕ
-key w r = keyAt (costR (w .full) r) r
+-- the record of a cell with these children, with full = 4^level_mod
+unfoldable pub recordOf : ℕ → ℕ → ℕ → ℕ → ℕ → Rec
+recordOf full from id present terminal = record { id = id; present = present; terminal = terminal; rank = 8 * costOf full (levelOf id) (ones present) (ones terminal) + from }
 
--- whether x goes before y by the rule w
-unfoldable pub before : Rule → Rec → Rec → Bool
-before w x y = lexb (key w x) (key w y)
+-- "A step takes the least cost; equal costs, the smaller id"; the start cell's place, "smaller first at equal ids". The sets follow, so that the order decides
+-- every pair of records.
+unfoldable pub key : Rec → List ℕ
+key r = costR r ∷ r .id ∷ fromR r ∷ r .present ∷ r .terminal ∷ []
+
+-- whether x goes before y
+unfoldable pub before : Rec → Rec → Bool
+before x y = lexb (key x) (key y)
 
 -- the record at place i, and the memory with r there
 unfoldable pub getR : List ℕ → ℕ → Rec
-getR m i = record { id = getD m (3 * i) 0; present = getD m (3 * i + 1) 0; terminal = getD m (3 * i + 2) 0 }
+getR m i = record { id = getD m (4 * i) 0; present = getD m (4 * i + 1) 0; terminal = getD m (4 * i + 2) 0; rank = getD m (4 * i + 3) 0 }
 
 unfoldable pub putR : List ℕ → ℕ → Rec → List ℕ
-putR m i r = set (set (set m (3 * i) (r .id)) (3 * i + 1) (r .present)) (3 * i + 2) (r .terminal)
+putR m i r = set (set (set (set m (4 * i) (r .id)) (4 * i + 1) (r .present)) (4 * i + 2) (r .terminal)) (4 * i + 3) (r .rank)
 
 -- how many records a memory has room for
 abbrev pub capR : List ℕ → ℕ
-capR m = length m / 3
+capR m = length m / 4

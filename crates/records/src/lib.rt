@@ -1,21 +1,19 @@
-// Queued candidates as records of three words in lent memory, place i in the words from 3i on; what each costs, and which of two goes first: the one of the
-// lesser cost; of equal costs, the one of the smaller id. How a queue keeps them is the crates heap, plain and queue.
+// Queued candidates as records of four words in lent memory, place i in the words from 4i on; what each costs, and which of two goes first: the one of the
+// lesser cost; of equal costs, the one of the smaller id; of equal ids, the one that grew from the earlier start cell. How a queue keeps them is the crates
+// heap, plain and queue.
 ghost use mathlib.Core.Path.{_≡_};
 ghost use Prim.Native.Nat.{_+_, _*_, _/_, _<_, _≤_};
 ghost use lib.Count.{ones};
-ghost use Rattle.order.specs.Lex.{lexb};
-ghost use Rattle.records.specs.Records.{costR, keyAt, before, getR, putR, capR};
+ghost use Rattle.cellid.specs.CellId.{levelOf};
+ghost use Rattle.run.specs.Run.{costOf};
+ghost use Rattle.records.specs.Records.{costR, fromR, recordOf, before, getR, putR, capR};
 
-// A candidate: its cell, the Hilbert places of its children, and of those that are terminal.
+// A candidate: its cell, the Hilbert places of its children, and of those that are terminal; and its rank, eight times its cost and the place of its start cell.
 pub struct Rec {
     pub id: u64,
     pub present: u64,
     pub terminal: u64,
-}
-
-// What the order depends on: how many children a full set has, 4^level_mod.
-pub struct Rule {
-    pub full: u64,
+    pub rank: u64,
 }
 
 // How many places a set has. A set of four places is counted by a table of 16 digits.
@@ -29,37 +27,62 @@ pub fn count(x: u64) -> u64
     u64::count_ones(x) as u64
 }
 
-// Smaller cells, more children and more terminals cost more.
-pub fn cost(r: Rec, full: u64) -> u64
+// What a cell with these children costs: smaller cells, more children and more terminals cost more.
+fn cost_of(full: u64, id: u64, present: u64, terminal: u64) -> u64
     requires { ⌜ full ≤ 64 ⌝ }
-    ensures { λ c. ⌜ c ≡ costR full r ⌝ }
+    ensures { λ r. ⌜ (r ≡ costOf full (levelOf id) (ones present) (ones terminal)) × (r ≤ 130000) ⌝ }
 {
-    (cellid::level(r.id) * full + count(r.present)) * full + count(r.terminal)
+    (cellid::level(id) * full + count(present)) * full + count(terminal)
 }
 
-// Whether x, of the cost a, goes before y, of the cost b.
-pub fn less(a: u64, x: Rec, b: u64, y: Rec) -> bool
-    ensures { λ r. ⌜ r ≡ lexb (keyAt a x) (keyAt b y) ⌝ }
+// The record of a cell with these children that grew from the start cell at the place `from`.
+pub fn record_of(full: u64, from: u64, id: u64, present: u64, terminal: u64) -> Rec
+    requires { ⌜ (full ≤ 64) × (from < 8) ⌝ }
+    ensures { λ r. ⌜ r ≡ recordOf full from id present terminal ⌝ }
 {
+    Rec {
+        id,
+        present,
+        terminal,
+        rank: 8 * cost_of(full, id, present, terminal) + from,
+    }
+}
+
+// A record's cost.
+pub fn cost(r: Rec) -> u64
+    ensures { λ c. ⌜ c ≡ costR r ⌝ }
+{
+    r.rank / 8
+}
+
+// The place of the start cell that a record's cell grew from.
+pub fn from(r: Rec) -> u64
+    ensures { λ p. ⌜ p ≡ fromR r ⌝ }
+{
+    r.rank % 8
+}
+
+// Whether x goes before y.
+pub fn goes_first(x: Rec, y: Rec) -> bool
+    ensures { λ r. ⌜ r ≡ before x y ⌝ }
+{
+    let a = cost(x);
+    let b = cost(y);
     if a != b {
         return a < b;
     }
     if x.id != y.id {
         return x.id < y.id;
     }
+    let p = from(x);
+    let q = from(y);
+    if p != q {
+        return p < q;
+    }
     if x.present != y.present {
         return x.present < y.present;
     }
     x.terminal < y.terminal
-}
-
-// Whether x goes before y.
-pub fn goes_first(x: Rec, y: Rec, w: Rule) -> bool
-    requires { ⌜ w .full ≤ 64 ⌝ }
-    ensures { λ r. ⌜ r ≡ before w x y ⌝ }
-{
-    let full = w.full;
-    less(cost(x, full), x, cost(y, full), y)
 }
 
 // The record at the place i.
@@ -68,9 +91,10 @@ pub fn get(m: &[u64], i: usize) -> Rec
     ensures { λ r. ⌜ r ≡ getR (now (m .entry)) i ⌝ }
 {
     Rec {
-        id: m[3 * i],
-        present: m[3 * i + 1],
-        terminal: m[3 * i + 2],
+        id: m[4 * i],
+        present: m[4 * i + 1],
+        terminal: m[4 * i + 2],
+        rank: m[4 * i + 3],
     }
 }
 
@@ -79,7 +103,8 @@ pub fn put(m: &mut [u64], i: usize, r: Rec)
     requires { ⌜ i < capR (now m) ⌝ }
     ensures { λ _. ⌜ now (m .exit) ≡ putR (now (m .entry)) i r ⌝ }
 {
-    m[3 * i] = r.id;
-    m[3 * i + 1] = r.present;
-    m[3 * i + 2] = r.terminal;
+    m[4 * i] = r.id;
+    m[4 * i + 1] = r.present;
+    m[4 * i + 2] = r.terminal;
+    m[4 * i + 3] = r.rank;
 }

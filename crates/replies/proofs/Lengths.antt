@@ -16,7 +16,9 @@ use Rattle.text.specs.declared.Field.{Field}
 use Rattle.tokens.specs.declared.Form.{Form}
 use Rattle.tokens.specs.Tokens.{nameOf}
 use Rattle.tokens.proofs.Names.{name-short}
-use Rattle.replies.specs.Write.{Wrote, Whole, spelled, decimalText, idText, idsText, faultWords, faultNo, faultText, errorText, refusedText, endText, countedText, okText, listText}
+use Rattle.totals.specs.declared.Totals.{Totals}
+use Rattle.totals.specs.Totals.{sixOf}
+use Rattle.replies.specs.Write.{Wrote, Whole, spelled, decimalText, idText, idsText, faultWords, faultNo, faultText, errorText, refusedText, endText, countedText, numbersText, totalsText, okText, listText}
 
 pub wrote-whole : {s d : List ℕ} {r : ℕ} {d' : List ℕ} → length s ≤ length d → Wrote 0 s d r d' → Whole s d r d'
 wrote-whole {s} {d} h w = record { count = omega arith; bytes = w .bytes ∙ rw zero-add at (sets-eq s d 0 (omega arith)) }
@@ -67,9 +69,18 @@ pub counted-length : (form : Form) (ids : List ℕ) → length (countedText form
 unfolding countedText
 counted-length form ids = simp length-append (omega (arith, ids-length form ids, decimal-length (length ids)))
 
-pub ok-length : (form : Form) (steps aside : ℕ) (ids : List ℕ) → length (okText form steps aside ids) ≤ 17 * length ids + 66
+numbers-length : (l : List ℕ) → length (numbersText l) ≤ 21 * length l
+unfolding numbersText
+numbers-length [] = omega arith
+numbers-length (n ∷ l) = rw (numbersText, length-append (decimalText n) (numbersText l)) (omega (arith, decimal-length n, numbers-length l))
+
+pub totals-length : (t : Totals) → length (totalsText t) ≤ 126
+unfolding totalsText
+totals-length t = numbers-length (sixOf t)
+
+pub ok-length : (form : Form) (steps : ℕ) (aside : Totals) (ids : List ℕ) → length (okText form steps aside ids) ≤ 17 * length ids + 171
 unfolding okText ascii
-ok-length form steps aside ids = simp length-append (omega (arith, decimal-length steps, decimal-length aside, counted-length form ids))
+ok-length form steps aside ids = simp length-append (omega (arith, decimal-length steps, totals-length aside, counted-length form ids))
 
 pub list-length : (form : Form) (ids : List ℕ) → length (listText form ids) ≤ 17 * length ids + 24
 unfolding listText ascii

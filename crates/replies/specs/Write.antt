@@ -12,6 +12,8 @@ use Rattle.text.specs.declared.Fault.{Fault}
 use Rattle.io.specs.Digits.{glyph}
 use Rattle.tokens.specs.declared.Form.{Form}
 use Rattle.tokens.specs.Tokens.{nameOf}
+use Rattle.totals.specs.declared.Totals.{Totals}
+use Rattle.totals.specs.Totals.{sixOf}
 
 -- ---- writing
 
@@ -98,9 +100,18 @@ endText answered = ascii "end " ++ (decimalText answered ++ newline)
 unfoldable pub countedText : Form → List ℕ → List ℕ
 countedText form ids = decimalText (length ids) ++ (idsText form ids ++ newline)
 
--- ok STEPS ASIDE COUNT ID...
-unfoldable pub okText : Form → ℕ → ℕ → List ℕ → List ℕ
-okText form steps aside ids = ascii "ok " ++ (decimalText steps ++ (space ++ (decimalText aside ++ (space ++ countedText form ids))))
+-- numbers in decimal digits, with a space before each
+unfoldable pub numbersText : List ℕ → List ℕ
+numbersText [] = []
+numbersText (n ∷ l) = space ++ (decimalText n ++ numbersText l)
+
+-- ASIDE0 .. ASIDE5, with a space before each
+unfoldable pub totalsText : Totals → List ℕ
+totalsText t = numbersText (sixOf t)
+
+-- ok STEPS ASIDE0 .. ASIDE5 COUNT ID...
+unfoldable pub okText : Form → ℕ → Totals → List ℕ → List ℕ
+okText form steps aside ids = ascii "ok " ++ (decimalText steps ++ (totalsText aside ++ (space ++ countedText form ids)))
 
 -- ok COUNT ID...
 unfoldable pub listText : Form → List ℕ → List ℕ

@@ -3,9 +3,10 @@ ghost use mathlib.Core.Path.{_≡_};
 ghost use mathlib.Core.List.{_++_};
 ghost use Rattle.text.specs.Text.{bytesOf, fieldNo};
 ghost use Rattle.tokens.specs.Tokens.{nameOf};
-ghost use Rattle.replies.specs.Write.{Wrote, decimalText, idText, idsText, faultNo, faultText, errorText, refusedText, disagreeText, endText, countedText, okText, listText};
+ghost use Rattle.replies.specs.Write.{Wrote, decimalText, idText, idsText, faultNo, faultText, errorText, refusedText, disagreeText, endText, countedText, totalsText, okText, listText};
 use text::Fault;
 use tokens::Form;
+use totals::Totals;
 
 // Writes s.
 pub fn put(text: &mut [u8], at: usize, s: &[u8]) -> usize
@@ -162,12 +163,24 @@ pub fn put_counted(text: &mut [u8], at: usize, form: Form, ids: &[u64]) -> usize
     put(text, b, b"\n")
 }
 
-// The answer to a request that is met: `ok STEPS ASIDE COUNT ID...`.
-pub fn put_ok(text: &mut [u8], form: Form, steps: u64, aside: u64, ids: &[u64]) -> usize
+// Writes six totals, a space before each.
+pub fn put_totals(text: &mut [u8], at: usize, t: Totals) -> usize
+    ensures { λ r. ⌜ Wrote at (totalsText t) (now (text .entry)) r (now (text .exit)) ⌝ }
+{
+    let a = put_number(text, at, b" ", t.at0);
+    let b = put_number(text, a, b" ", t.at1);
+    let c = put_number(text, b, b" ", t.at2);
+    let d = put_number(text, c, b" ", t.at3);
+    let e = put_number(text, d, b" ", t.at4);
+    put_number(text, e, b" ", t.at5)
+}
+
+// The answer to a request that is met: `ok STEPS ASIDE0 .. ASIDE5 COUNT ID...`.
+pub fn put_ok(text: &mut [u8], form: Form, steps: u64, aside: Totals, ids: &[u64]) -> usize
     ensures { λ r. ⌜ Wrote 0 (okText form steps aside (now (ids .entry))) (now (text .entry)) r (now (text .exit)) ⌝ }
 {
     let a = put_number(text, 0, b"ok ", steps);
-    let b = put_number(text, a, b" ", aside);
+    let b = put_totals(text, a, aside);
     let c = put(text, b, b" ");
     put_counted(text, c, form, ids)
 }

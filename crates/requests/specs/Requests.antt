@@ -28,7 +28,7 @@ resultFor w memory room = resultOf (w .kind) (w .coverer) (w .area) (allowanceOf
 unfoldable pub resultIn : Wish → List ℕ → List ℕ → Result
 resultIn w mem out = resultFor w (min (w .mem) (length mem)) (min (w .out) (length out))
 
--- `ok STEPS ASIDE COUNT ID...` or `refused NUMBER`
+-- `ok STEPS ASIDE0 .. ASIDE5 COUNT ID...` or `refused NUMBER`
 unfoldable pub resultText : Form → Result → List ℕ
 resultText form (Covering.barred n) = refusedText n
 resultText form (Covering.refused n) = refusedText n

@@ -72,7 +72,8 @@ fn put_answer(form: Form, a: Answer, out: &[u64], page: &mut [u8]) -> usize
     ensures { λ r. ⌜ Wrote 0 (answerText form a (now (out .entry))) (now (page .entry)) r (now (page .exit)) ⌝ }
 {
     if a.number == 0 {
-        return replies::put_ok(page, form, a.steps as u64, a.aside, &out[..a.count]);
+        let aside = a.aside;
+        return replies::put_ok(page, form, a.steps as u64, aside, &out[..a.count]);
     }
     replies::put_refused(page, a.number)
 }

@@ -19,7 +19,7 @@ use Rattle.run.proofs.Lists.{Fares, sum-append, sum-map, all-map, all-b
 use Rattle.run.proofs.Steps.{run-ends}
 use Rattle.run.proofs.Ground.{Additive, Kept, Inv, after-ok}
 use Rattle.run.proofs.Leaves.{leaves-add, leaves-pos, has-leaf-add, one-true, disjoint-of, disjoint-once, parent-of-leaf}
-use Rattle.run.proofs.Starts.{sel, sel-add, sel-none, sel-zero, at-start, at-add, sum-from, sum-start, past-end, past-none, sum-placed, held-le, all-from}
+use Rattle.run.proofs.Starts.{sel, sel-add, sel-none, sel-zero, at-start, at-add, sum-from, sum-start, past-end, past-none, sum-placed, from-le, all-from}
 
 -- ---- one state
 
@@ -28,7 +28,8 @@ module _ (T : Task) (D : Domain (T .asked)) (lt : Grown → Grown → Bool) (sta
   unfolding Fares
   sums n s e F A = subst (Holds (Inv T D lt F A (sumOf (λ (c : Grown). F (c .from) (c .id)) (placed 0 starts)) 0)) e (after-ok T D lt F A starts ok n)
 
-  measure : (n : ℕ) (s : State) → after (T by lt) starts n ≡ going s → (f : ℕ → ℕ)
+  -- what grew from one start cell measures as the start cell does, in an inner run at most so much
+  pub measure : (n : ℕ) (s : State) → after (T by lt) starts n ≡ going s → (f : ℕ → ℕ)
       → ((id L p : ℕ) → IsCell id L p → L < 30 → f (childOf id 0) + (f (childOf id 1) + (f (childOf id 2) + f (childOf id 3))) ≡ f id)
       → (i : ℕ) → i < length starts → Rel (T .asked .inner) (sumOf f (grownFrom i (allCells s))) (f (getD starts i 0))
   unfolding allCells
@@ -145,7 +146,7 @@ module _ (T : Task) (D : Domain (T .asked)) (lt : Grown → Grown → Bool) (sta
 
   -- a leaf under a start cell, whose containing cells from that start cell's level to max pass, lies under a raw cell
   pub leaf-kept : T .asked .inner ≡ false → (i n : ℕ) → i < length starts → hasLeaf (getD starts i 0) n ≡ true → PassesFrom T (levelOf (getD starts i 0)) n → 0 < timesCovered (rawIds s) n
-  unfolding rawIds sumOf one
+  unfolding rawIds timesCovered sumOf one
   leaf-kept o i n h t passes =
       let E = run-ends T lt starts a s done in
       let f : ℕ → ℕ = λ id. one (hasLeaf id n) in
@@ -159,7 +160,7 @@ module _ (T : Task) (D : Domain (T .asked)) (lt : Grown → Grown → Bool) (sta
       let d : sumOf w (s .queue) ≡ 0 = ap (sumOf w) (E .empty) in
       let v : All (λ (c : Grown). Cell (c .id) × Aside T starts c) (s .aside) = all-with _ _ (s .aside) (all-weak _ _ (s .aside) (λ c k. (_, _, k .cell)) (I .aside)) (aside-after T D lt starts ok (s .steps) s (E .last)) in
       let g : sumOf w (s .aside) ≡ 0 = aside-none T starts ok i h n passes (s .aside) v in
-      omega (arith, held-le n i (s .raw))
+      omega (arith, sum-from i f (s .raw), from-le i f (s .raw), sum-map (λ (c : Grown). c .id) f (s .raw))
 
   -- the raw cells, as Ground knows them
   pub raw-kept : All (λ (c : Grown). Kept T (c .id)) (s .raw)

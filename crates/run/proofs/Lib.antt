@@ -10,4 +10,6 @@ pub mod Leaves
 pub mod Starts
 pub mod Demand3
 pub mod Totals
+pub mod Sixes
 pub mod Rows
+pub mod Places

@@ -27,6 +27,11 @@ sum-insert lt f x (y ∷ q) = ⊎-elim
     (λ (e : lt y x ≡ false). rw (insert-front lt x y q e))
     (which (lt y x))
 
+pub all-of : {A : Type 0} (P : A → Type 0) → ((x : A) → P x) → (l : List A) → All P l
+unfolding All
+all-of P f [] = tt
+all-of P f (x ∷ l) = (f x, all-of P f l)
+
 pub all-map : {A B : Type 0} (g : A → B) (P : B → Type 0) (l : List A) → All (λ x. P (g x)) l → All P (map g l)
 unfolding All
 all-map g P [] a = tt
@@ -61,6 +66,11 @@ then-ok P Q = then-fares P Q (λ n. Unit)
 pub if-ok : {X : Type 0} (P : X → Type 0) (b : Bool) (x y : X) → (b ≡ true → P x) → (b ≡ false → P y) → P (elim b [ true ↦ x | false ↦ y ])
 if-ok P true x y f g = f refl
 if-ok P false x y f g = g refl
+
+-- of one test on two sides
+pub if-two : {X Y : Type 0} {c : Bool} {x y : X} {u v : Y} (P : X → Y → Type 0) (b : Bool) → b ≡ c → (b ≡ true → P x u) → (b ≡ false → P y v)
+    → P (elim b [ true ↦ x | false ↦ y ]) (elim c [ true ↦ u | false ↦ v ])
+if-two {c} {x} {y} {u} {v} P b e f g = if-ok (λ z. P z (elim c [ true ↦ u | false ↦ v ])) b x y (λ t. rw (sym e ∙ t) (f t)) (λ t. rw (sym e ∙ t) (g t))
 
 pub empty-nil : {A : Type 0} (l : List A) → isEmpty l ≡ true → l ≡ []
 unfolding isEmpty

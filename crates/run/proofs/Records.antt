@@ -1,36 +1,37 @@
--- The queue in memory: three words a record, without the start cell's place. Inserting by the records' words is inserting by cost and id.
+-- The queue's order decides every pair of cells; and the queue in memory, a record for each cell: inserting by the records' words is inserting by that order.
 use mathlib.Core.Path.{_≡_, refl, sym, ap, _∙_}
 use mathlib.Core.Bool.{Bool, true, false}
 use mathlib.Core.Logic.{⊎-elim}
 use mathlib.Core.List.{List, [], _∷_, map}
-use Prim.Native.Nat.{ℕ, _+_, _*_, _≤_}
+use Prim.Native.Nat.{ℕ, _≤_}
 use native.Mathlib.Omega.{arith}
 use lib.Dec.{ltb}
 use lib.Count.{ones}
+use lib.ListN.{getD}
 use borrow.Author.Tests.{ltb-false}
 use Rattle.cellid.specs.CellId.{levelOf}
-use Rattle.order.specs.Order.{insert}
+use Rattle.order.specs.Order.{Order, All, insert}
 use Rattle.order.specs.Lex.{first, lexb}
-use Rattle.order.proofs.LexLaws.{first-eq}
+use Rattle.order.proofs.LexLaws.{first-eq, by-key}
 use Rattle.order.proofs.OrderLaws.{which, insert-past, insert-front}
 use Rattle.run.specs.Run.{costOf, Grown, full, depth, expansionOf, cost, byId, Task}
 use Rattle.run.specs.Masks.{found}
 use Rattle.run.proofs.Counts.{found-counted}
 
 -- a map that keeps the order carries insertion over
-map-insert : {A B : Type 0} (lt : A → A → Bool) (lt′ : B → B → Bool) (rec : A → B) (x : A) (l : List A) → ((y : A) → lt y x ≡ lt′ (rec y) (rec x))
+pub map-insert : {A B : Type 0} (lt : A → A → Bool) (lt′ : B → B → Bool) (rec : A → B) (x : A) (l : List A) → All (λ (y : A). lt y x ≡ lt′ (rec y) (rec x)) l
     → map rec (insert lt x l) ≡ insert lt′ (rec x) (map rec l)
-unfolding insert
+unfolding insert All
 map-insert lt lt′ rec x [] a = refl
 map-insert lt lt′ rec x (y ∷ l) a = ⊎-elim
-    (λ (e : lt y x ≡ true). ap (map rec) (insert-past lt x y l e) ∙ ap (λ t. rec y ∷ t) (map-insert lt lt′ rec x l a) ∙ sym (insert-past lt′ (rec x) (rec y) (map rec l) (sym (a y) ∙ e)))
-    (λ (e : lt y x ≡ false). ap (map rec) (insert-front lt x y l e) ∙ sym (insert-front lt′ (rec x) (rec y) (map rec l) (sym (a y) ∙ e)))
+    (λ (e : lt y x ≡ true). ap (map rec) (insert-past lt x y l e) ∙ ap (λ t. rec y ∷ t) (map-insert lt lt′ rec x l (a .1)) ∙ sym (insert-past lt′ (rec x) (rec y) (map rec l) (sym (a .0) ∙ e)))
+    (λ (e : lt y x ≡ false). ap (map rec) (insert-front lt x y l e) ∙ sym (insert-front lt′ (rec x) (rec y) (map rec l) (sym (a .0) ∙ e)))
     (which (lt y x))
 
--- what follows equal words makes no difference
-tail : (i j : ℕ) (r : Bool) → (i ≡ j → r ≡ false) → first i j false ≡ first i j r
+-- what follows equal ids and places makes no difference
+tail-two : (i j f g : ℕ) (r : Bool) → (i ≡ j → r ≡ false) → first i j (first f g false) ≡ first i j (first f g r)
 unfolding first
-tail i j r h = ⊎-elim
+tail-two i j f g r h = ⊎-elim
     (λ (e : ltb i j ≡ true). rw (e, first))
     (λ (e : ltb i j ≡ false). ⊎-elim
     (λ (d : ltb j i ≡ true). rw (e, d, first))
@@ -42,11 +43,15 @@ self : (p t : ℕ) → lexb (p ∷ t ∷ []) (p ∷ t ∷ []) ≡ false
 unfolding lexb
 self p t = first-eq p p _ (omega arith) (omega arith) ∙ first-eq t t false (omega arith) (omega arith)
 
--- the key of a record: its cost, then every word
-abbrev pub keyOf : ℕ → ℕ → ℕ → ℕ → List ℕ
-keyOf f i p t = ((levelOf i * f + ones p) * f + ones t) ∷ i ∷ p ∷ t ∷ []
-
 module _ (T : Task) where
+  -- "The order still decides every pair": of two cells that differ, one goes before the other
+  decides-inj : (a b : Grown) → cost T (a .id) ∷ a .id ∷ a .from ∷ [] ≡ cost T (b .id) ∷ b .id ∷ b .from ∷ [] → a ≡ b
+  decides-inj a b e = let part : ℕ → List ℕ → ℕ = λ n l. getD l n 0 in λ k. record { from = ap (part 2) e k; id = ap (part 1) e k }
+
+  pub by-id-decides : Order (byId T)
+  unfolding byId
+  by-id-decides = by-key (λ (c : Grown). cost T (c .id) ∷ c .id ∷ c .from ∷ []) decides-inj
+
   -- the two sets of a queued cell
   abbrev pub presentOf : ℕ → ℕ
   presentOf id = found T (depth (T .asked) id) id .present
@@ -55,26 +60,28 @@ module _ (T : Task) where
   terminalOf id = found T (depth (T .asked) id) id .terminal
 
   -- the cost is that of the sets' counts
-  pub cost-sets : (id : ℕ) → (levelOf id * full (T .asked) + ones (presentOf id)) * full (T .asked) + ones (terminalOf id) ≡ cost T id
-  unfolding cost costOf expansionOf
+  pub cost-sets : (id : ℕ) → costOf (full (T .asked)) (levelOf id) (ones (presentOf id)) (ones (terminalOf id)) ≡ cost T id
+  unfolding cost expansionOf
   cost-sets id = let k = found-counted T (depth (T .asked) id) id in rw (k .present, k .terminal)
 
   sets-same : (i j : ℕ) → i ≡ j → lexb (presentOf i ∷ terminalOf i ∷ []) (presentOf j ∷ terminalOf j ∷ []) ≡ false
   sets-same i j e = rw e (self (presentOf j) (terminalOf j))
 
-  -- by cost and id, or by the words of the records: the same
-  pub same-order : (y x : Grown) → byId T y x
-      ≡ lexb (keyOf (full (T .asked)) (y .id) (presentOf (y .id)) (terminalOf (y .id))) (keyOf (full (T .asked)) (x .id) (presentOf (x .id)) (terminalOf (x .id)))
+  -- what a record tells of a cell, in the order of its key
+  abbrev pub wordsOf : Grown → List ℕ
+  wordsOf c = cost T (c .id) ∷ c .id ∷ c .from ∷ presentOf (c .id) ∷ terminalOf (c .id) ∷ []
+
+  -- by cost, id and place, or by the words of the records: the same
+  same-order : (y x : Grown) → byId T y x ≡ lexb (wordsOf y) (wordsOf x)
   unfolding byId lexb
-  same-order y x =
-      rw (cost-sets (y .id), cost-sets (x .id)) (ap (first (cost T (y .id)) (cost T (x .id))) (tail (y .id) (x .id) _ (sets-same (y .id) (x .id))))
+  same-order y x = ap (first (cost T (y .id)) (cost T (x .id))) (tail-two (y .id) (x .id) (y .from) (x .from) _ (sets-same (y .id) (x .id)))
 
-  -- for any type R of records made of three words and any order on them by that key
-  module _ {R : Type 0} (mk : ℕ → ℕ → ℕ → R) (less : R → R → Bool)
-      (is : (i p t j r u : ℕ) → less (mk i p t) (mk j r u) ≡ lexb (keyOf (full (T .asked)) i p t) (keyOf (full (T .asked)) j r u)) where
-    abbrev pub recBy : Grown → R
-    recBy c = mk (c .id) (presentOf (c .id)) (terminalOf (c .id))
+  -- for any records of cells of which P holds, and any order of records by those words
+  module _ {R : Type 0} (rec : Grown → R) (less : R → R → Bool) (P : Grown → Type 0) (is : (y x : Grown) → P y → P x → less (rec y) (rec x) ≡ lexb (wordsOf y) (wordsOf x)) where
+    alike : (x : Grown) → P x → (l : List Grown) → All P l → All (λ (y : Grown). byId T y x ≡ less (rec y) (rec x)) l
+    unfolding All
+    alike x p [] a = tt
+    alike x p (y ∷ l) a = (same-order y x ∙ sym (is y x (a .0) p), alike x p l (a .1))
 
-    pub queue-more : (x : Grown) (l : List Grown) → map recBy (insert (byId T) x l) ≡ insert less (recBy x) (map recBy l)
-    queue-more x l = map-insert (byId T) less recBy x l
-        (λ y. same-order y x ∙ sym (is (y .id) (presentOf (y .id)) (terminalOf (y .id)) (x .id) (presentOf (x .id)) (terminalOf (x .id))))
+    pub queue-more : (x : Grown) (l : List Grown) → P x → All P l → map rec (insert (byId T) x l) ≡ insert less (rec x) (map rec l)
+    queue-more x l p a = map-insert (byId T) less rec x l (alike x p l a)

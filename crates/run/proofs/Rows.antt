@@ -17,7 +17,7 @@ pub record Row : Type 0 where
   pub steps : ℕ
   pub aside : ℕ
 
-pub rowOf : Outcome → Row
+unfoldable pub rowOf : Outcome → Row
 rowOf (refused n) = record { number = n; raw = []; steps = 0; aside = 0 }
 rowOf (going s) = record { number = 0; raw = rawIds s; steps = s .steps; aside = asideTotal s }
 

@@ -2,17 +2,17 @@
 use mathlib.Core.Path.{_≡_, refl, ap, _∙_}
 use mathlib.Core.Bool.{Bool, true, false}
 use mathlib.Core.Logic.{⊎-elim, _≢_}
-use mathlib.Core.List.{List, [], _∷_, map}
+use mathlib.Core.List.{List, [], _∷_}
 use Prim.Native.Nat.{ℕ, zero, suc, _+_, _≤_, _<_}
 use native.Mathlib.Omega.{arith}
 use lib.Dec.{leb, eqb}
 use lib.ListN.{length, getD}
 use borrow.Author.Tests.{lt-leb, eq-eqb, ne-eqb}
-use Rattle.cellid.specs.CellId.{IsCell, childOf, hasLeaf, one}
+use Rattle.cellid.specs.CellId.{IsCell, childOf}
 use Rattle.order.specs.Order.{All}
 use Rattle.order.proofs.OrderLaws.{which}
 use Rattle.run.specs.Run.{Grown, placed, sumOf}
-use Rattle.run.specs.Ground.{grownFrom, timesCovered}
+use Rattle.run.specs.Ground.{grownFrom}
 use Rattle.run.proofs.Lists.{if-ok}
 use Rattle.run.proofs.Ground.{Additive}
 
@@ -34,11 +34,6 @@ pub sel-zero : (b : Bool) → sel b 0 ≡ 0
 unfolding sel
 sel-zero true = refl
 sel-zero false = refl
-
-pub sel-le : (b : Bool) (n : ℕ) → sel b n ≤ n
-unfolding sel
-sel-le true n = omega arith
-sel-le false n = omega arith
 
 abbrev pub at-start : ℕ → (ℕ → ℕ) → ℕ → ℕ → ℕ
 at-start i f j id = sel (eqb j i) (f id)
@@ -87,11 +82,13 @@ unfolding sumOf placed
 sum-placed f k [] = refl
 sum-placed f k (x ∷ l) = ap (λ (n : ℕ). f x + n) (sum-placed f (suc k) l)
 
--- of one start cell's cells no more hold the leaf n than of all
-pub held-le : (n i : ℕ) (l : List Grown) → sumOf (λ (c : Grown). at-start i (λ id. one (hasLeaf id n)) (c .from) (c .id)) l ≤ timesCovered (map (λ (c : Grown). c .id) l) n
-unfolding timesCovered sumOf
-held-le n i [] = omega arith
-held-le n i (c ∷ l) = omega (arith, sel-le (eqb (c .from) i) (one (hasLeaf (c .id) n)), held-le n i l)
+-- those of one start cell measure no more than all
+pub from-le : (i : ℕ) (f : ℕ → ℕ) (l : List Grown) → sumOf f (grownFrom i l) ≤ sumOf (λ (c : Grown). f (c .id)) l
+unfolding sumOf grownFrom
+from-le i f [] = omega arith
+from-le i f (c ∷ l) = if-ok (λ (k : List ℕ). sumOf f k ≤ f (c .id) + sumOf (λ (c : Grown). f (c .id)) l) (eqb (c .from) i) _ _
+    (λ t. omega (arith, from-le i f l))
+    (λ t. omega (arith, from-le i f l))
 
 pub all-from : (P : ℕ → Type 0) (i : ℕ) (l : List Grown) → All (λ (c : Grown). P (c .id)) l → All P (grownFrom i l)
 unfolding All grownFrom

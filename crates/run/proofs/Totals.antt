@@ -1,7 +1,7 @@
--- The set-aside total: how it grows, what one expansion adds to it, and how large it may get.
-use mathlib.Core.Path.{_≡_, ap, _∙_, subst}
+-- The set-aside total: what one expansion adds to it, and how large it may get.
+use mathlib.Core.Path.{_≡_, _∙_, subst}
 use mathlib.Core.Bool.{Bool, false}
-use mathlib.Core.List.{List, [], _∷_, map}
+use mathlib.Core.List.{List, [], _∷_}
 use Prim.Native.Nat.{ℕ, zero, suc, _+_, _-_, _*_, _%_, _^_, _≤_, _<_}
 use native.Mathlib.Nat.{suc-mul}
 use native.Mathlib.Omega.{arith}
@@ -11,23 +11,14 @@ use Rattle.cellid.specs.CellId.{IsCell, childOf, levelOf}
 use Rattle.cellid.proofs.Laws.{level-cell}
 use Rattle.cellid.proofs.Leaves.{child-cell}
 use Rattle.order.specs.Order.{All}
-use Rattle.run.specs.Run.{Grown, Child, State, Expansion, Look, fails, none, terminal, divide, going, join, fourOf, reached, look, expand, setAside, after, asideTotal, sumOf, leavesOf, Task, minLevel, maxLevel, levelMod, part, _by_, failing}
-use Rattle.run.specs.declared.Request.{Request}
+use Rattle.run.specs.Run.{Grown, Child, State, Expansion, Look, fails, none, terminal, divide, going, join, fourOf, reached, look, expand, after, asideTotal, sumOf, leavesOf, Task, minLevel, maxLevel, levelMod, part, _by_, failing}
 use Rattle.run.specs.Ground.{Domain, Fit}
 use Rattle.order.proofs.OrderLaws.{all-append}
-use Rattle.run.proofs.Lists.{sum-append, sum-map, if-ok, rel-le, rel-eq}
+use Rattle.run.proofs.Lists.{if-ok, rel-le, rel-eq}
 use Rattle.run.proofs.Ground.{expand-ok}
 use Rattle.run.proofs.Leaves.{leaves-add}
 use Rattle.run.proofs.Demand3.{sums}
 use Rattle.run.proofs.Starts.{sum-placed}
-
--- the running total
-pub aside-more : (q : Request) (i : ℕ) (l : List ℕ) (s : State) → q .inner ≡ false
-    → asideTotal (setAside q i l s) ≡ asideTotal s + sumOf leavesOf l
-unfolding asideTotal setAside
-aside-more q i l s o = if-ok (λ (x : State). sumOf (λ (c : Grown). leavesOf (c .id)) (x .aside) ≡ sumOf (λ (c : Grown). leavesOf (c .id)) (s .aside) + sumOf leavesOf l) (q .inner) _ _
-    (λ t. let z : _≡_ {A = ℕ} 0 1 = cc in absurd (omega arith))
-    (λ t. let tag : ℕ → Grown = λ x. record { from = i; id = x } in sum-append (λ (c : Grown). leavesOf (c .id)) (s .aside) (map tag l) ∙ ap (λ (n : ℕ). sumOf (λ (c : Grown). leavesOf (c .id)) (s .aside) + n) (sum-map tag (λ (c : Grown). leavesOf (c .id)) l))
 
 pub leaves-le : (id : ℕ) → leavesOf id ≤ 2 ^ 60
 unfolding leavesOf

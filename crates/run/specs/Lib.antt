@@ -1,3 +1,5 @@
 pub mod Run
 pub mod Masks
 pub mod Ground
+pub mod Sixes
+pub mod Places

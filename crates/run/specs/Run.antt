@@ -33,12 +33,12 @@ queueMost = 1024
 abbrev pub rawMost : ℕ
 rawMost = 1024
 
--- words of working memory: the queue's, three a candidate; and all that a run uses, a word for each raw cell behind them
+-- words of working memory: the queue's, four a candidate; and all that a run uses, a word for each raw cell behind them
 abbrev pub queueWords : ℕ
-queueWords = 3072
+queueWords = 4096
 
 abbrev pub memoryWords : ℕ
-memoryWords = 4096
+memoryWords = 5120
 
 -- a cell of a run: the place of the start cell that it grew from, and its id
 pub record Grown : Type 0 where
@@ -177,9 +177,9 @@ module _ (T : Task) where
   unfoldable pub cost : ℕ → ℕ
   cost id = costOf (full (T .asked)) (levelOf id) (length (expansionOf id .children)) (ending (expansionOf id .children))
 
-  -- "the least cost; equal costs, the smaller id"
+  -- "the least cost; equal costs, the smaller id"; of start cells' places, paper 02, h: "smaller first at equal ids"
   unfoldable pub byId : Grown → Grown → Bool
-  byId a b = lexb (cost (a .id) ∷ a .id ∷ []) (cost (b .id) ∷ b .id ∷ [])
+  byId a b = lexb (cost (a .id) ∷ a .id ∷ a .from ∷ []) (cost (b .id) ∷ b .id ∷ b .from ∷ [])
 
   -- what the task's run goes by, in that order
   abbrev pub byCost : Course

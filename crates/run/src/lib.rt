@@ -1,15 +1,15 @@
 // The defined run of paper 01 and what follows from it: specs/ and proofs/. The code that follows it is in the crates candidate, queue and coverer;
 // here are only the types that it speaks of, what is asked and what an expansion answers with, and the sizes.
 
-// The most that the queue and the raw list hold, and where they stand in the working memory: the queue's records in the first words, three a record, the kept
+// The most that the queue and the raw list hold, and where they stand in the working memory: the queue's records in the first words, four a record, the kept
 // ids behind them.
 pub const QUEUE_MOST: usize = 1024;
 
 pub const RAW_MOST: usize = 1024;
 
-pub const QUEUE_WORDS: usize = 3072;
+pub const QUEUE_WORDS: usize = 4096;
 
-pub const MEMORY_WORDS: usize = 4096;
+pub const MEMORY_WORDS: usize = 5120;
 
 // The numbers of a request, region.rs's RegionCoverer.
 #[repr(C)]

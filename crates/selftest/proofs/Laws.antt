@@ -11,6 +11,7 @@ use borrow.Author.Tests.{eq-eqb, ne-eqb, eqb-true}
 use Rattle.cellunion.specs.Memory.{zeros, laid, laidOver}
 use Rattle.cellunion.proofs.Memory.{drop-more, laid-nil, laid-start, length-zeros, room-yes, next-word, no-more}
 use Rattle.region.specs.Region.{Area}
+use Rattle.totals.proofs.Laws.{both-true, totals-same, totals-are}
 use Rattle.run.specs.declared.RegionCoverer.{RegionCoverer}
 use Rattle.run.specs.Run.{memoryWords}
 use Rattle.coverer.proofs.Memory.{cleared-twice}
@@ -24,16 +25,12 @@ use Rattle.selftest.specs.Selftest.{sameAnswer, sameWords}
 
 pub answer-same : (a : Answer) → sameAnswer a a ≡ true
 unfolding sameAnswer
-answer-same a = rw (eq-eqb (a .number) (a .number) refl, eq-eqb (a .count) (a .count) refl, eq-eqb (a .steps) (a .steps) refl, eq-eqb (a .aside) (a .aside) refl)
+answer-same a = rw (eq-eqb (a .number) (a .number) refl, eq-eqb (a .count) (a .count) refl, eq-eqb (a .steps) (a .steps) refl, totals-same (a .aside))
 
 pub words-same : (l : List ℕ) → sameWords l l ≡ true
 unfolding sameWords
 words-same [] = refl
 words-same (x ∷ l) = rw (eq-eqb x x refl, words-same l)
-
-both-true : (a b : Bool) → (a && b) ≡ true → (a ≡ true) × (b ≡ true)
-both-true true b e = (refl, e)
-both-true false b e = absurd (true≢false (sym e))
 
 pub words-are : (a b : List ℕ) → sameWords a b ≡ true → a ≡ b
 unfolding sameWords
@@ -52,7 +49,7 @@ answers-are a b e =
       number = eqb-true (a .number) (b .number) (n .0) k;
       count = eqb-true (a .count) (b .count) (c .0) k;
       steps = eqb-true (a .steps) (b .steps) (s .0) k;
-      aside = eqb-true (a .aside) (b .aside) (s .1) k;
+      aside = totals-are (a .aside) (b .aside) (s .1) k;
     }
 
 -- ---- word after word: what is left to compare decides

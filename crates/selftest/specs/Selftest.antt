@@ -3,6 +3,7 @@ use mathlib.Core.Bool.{Bool, true, false, _&&_}
 use mathlib.Core.List.{List, [], _∷_}
 use Prim.Native.Nat.{ℕ}
 use lib.Dec.{eqb}
+use Rattle.totals.specs.Totals.{sameTotals}
 use Rattle.covering.specs.declared.Answer.{Answer}
 use Rattle.selftest.specs.declared.Engines.{Engines}
 
@@ -12,7 +13,7 @@ enginesOf n = elim (eqb n 0) [ true ↦ Engines.Quick | false ↦ elim (eqb n 1)
 
 -- the same number and values
 unfoldable pub sameAnswer : Answer → Answer → Bool
-sameAnswer a b = eqb (a .number) (b .number) && (eqb (a .count) (b .count) && (eqb (a .steps) (b .steps) && eqb (a .aside) (b .aside)))
+sameAnswer a b = eqb (a .number) (b .number) && (eqb (a .count) (b .count) && (eqb (a .steps) (b .steps) && sameTotals (a .aside) (b .aside)))
 
 -- the same words, one for one
 unfoldable pub sameWords : List ℕ → List ℕ → Bool

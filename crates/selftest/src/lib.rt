@@ -60,7 +60,9 @@ fn same_answer(a: Answer, b: Answer) -> bool
     if a.steps != b.steps {
         return false;
     }
-    a.aside == b.aside
+    let x = a.aside;
+    let y = b.aside;
+    totals::same(x, y)
 }
 
 // Whether the first n words of two slices are the same.

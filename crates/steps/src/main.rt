@@ -1,7 +1,8 @@
-// Reads a request a line from standard input, as `cover` does, and writes how the plain engine runs it, a line after each step: the cell that the step took and its
-// cost, what is kept then, what is queued, the leaves set aside, the kept ids, and the queued ones with their costs, the next one first. It is for people who follow
-// a run: what each step leaves is what `covering::watch` ensures, and of the lines nothing is promised. Every step is run anew from the start cells, so a run of n
-// steps costs what n * n / 2 steps cost. out= and tokens= make no difference: ids are always written as 16 digits.
+// Reads a request a line from standard input, as `cover` does, and writes how the plain engine runs it, a line after each step: the cell that the step took, its
+// cost and the place of its start cell, what is kept then, what is queued, the leaves set aside under each start cell, the kept ids, and the queued ones with
+// their costs and their start cells' places, the next one first. It is for people who follow a run: what each step leaves is what `covering::watch` ensures, and
+// of the lines nothing is promised. Every step is run anew from the start cells, so a run of n steps costs what n * n / 2 steps cost. out= and tokens= make no
+// difference: ids are always written as 16 digits.
 ghost use Prim.Native.Nat.{_+_, _*_, _≤_};
 ghost use lib.ListN.{length};
 ghost use Rattle.input.specs.Feed.{Ready};
@@ -17,17 +18,19 @@ use run::RegionCoverer;
 use text::Fault;
 use text::Place;
 use tokens::Form;
+use totals::Totals;
 
-// Room for the longest line: 1,024 ids of 17 bytes and 1,024 pairs of 38 at most, and what stands before them.
+// Room for the longest line: 1,024 ids of 17 bytes, 1,024 queued ones of 26 at most, and what stands before them.
 type Page = [u8; 65536];
 
-// Places for the most that a run keeps, and for the most that it queues, two each.
-type Places = [u64; 3072];
+// Places for the most that a run keeps, and for the most that it queues, three each.
+type Places = [u64; 4096];
 
-// The next cell of a queue, and its cost.
+// The next cell of a queue, its cost, and the place of its start cell.
 struct Ahead {
     id: u64,
     cost: u64,
+    from: u64,
 }
 
 // What a step leaves to do: nothing, with whether all is written, or a step more.
@@ -63,47 +66,48 @@ fn say_refused(number: u64, page: &mut Page) -> bool {
     tell(Found::Line, page, n)
 }
 
-// `done STEPS ASIDE KEPT`.
-fn say_done(steps: u32, aside: u64, kept: usize, page: &mut Page) -> bool {
+// `done STEPS ASIDE0 .. ASIDE5 KEPT`.
+fn say_done(steps: u32, aside: Totals, kept: usize, page: &mut Page) -> bool {
     let a = replies::put_number(page, 0, b"done ", steps as u64);
-    let b = replies::put_number(page, a, b" ", aside);
+    let b = replies::put_totals(page, a, aside);
     let c = replies::put_number(page, b, b" ", kept as u64);
     let n = replies::put(page, c, b"\n");
     tell(Found::Line, page, n)
 }
 
-// `step K TAKEN COST KEPT QUEUED ASIDE`.
+// `step K TAKEN COST FROM KEPT QUEUED ASIDE0 .. ASIDE5`.
 fn put_head(
     page: &mut Page,
     k: u32,
     taken: Ahead,
     kept: usize,
     queued: usize,
-    aside: u64,
+    aside: Totals,
 ) -> usize {
     let a = replies::put_number(page, 0, b"step ", k as u64);
     let b = replies::put(page, a, b" ");
     let c = replies::put_name(page, b, Form::Digits, taken.id);
     let d = replies::put_number(page, c, b" ", taken.cost);
-    let e = replies::put_number(page, d, b" ", kept as u64);
-    let f = replies::put_number(page, e, b" ", queued as u64);
-    replies::put_number(page, f, b" ", aside)
+    let e = replies::put_number(page, d, b" ", taken.from);
+    let f = replies::put_number(page, e, b" ", kept as u64);
+    let g = replies::put_number(page, f, b" ", queued as u64);
+    replies::put_totals(page, g, aside)
 }
 
-// The i-th word of a list of pairs: an id, or its cost.
+// The i-th word of a list of queued cells: an id, its cost, or its start cell's place.
 fn put_word(page: &mut Page, at: usize, i: usize, x: u64) -> usize {
     let n = replies::put(page, at, b" ");
-    if i % 2 == 0 {
+    if i % 3 == 0 {
         return replies::put_name(page, n, Form::Digits, x);
     }
     replies::put_decimal(page, n, x)
 }
 
-fn put_pairs(page: &mut Page, at: usize, pairs: &[u64]) -> usize {
+fn put_queued(page: &mut Page, at: usize, queued: &[u64]) -> usize {
     let mut n = at;
     let mut i = 0;
-    while i < pairs.len() {
-        n = put_word(page, n, i, pairs[i]);
+    while i < queued.len() {
+        n = put_word(page, n, i, queued[i]);
         i += 1;
     }
     n
@@ -114,16 +118,16 @@ fn say_step(
     taken: Ahead,
     kept: usize,
     queued: usize,
-    aside: u64,
+    aside: Totals,
     out: &[u64],
     page: &mut Page,
 ) -> bool
-    requires { ⌜ kept + 2 * queued ≤ length (now out) ⌝ }
+    requires { ⌜ kept + 3 * queued ≤ length (now out) ⌝ }
 {
-    let end = kept + 2 * queued;
+    let end = kept + 3 * queued;
     let a = put_head(page, k, taken, kept, queued, aside);
     let b = replies::put_ids(page, a, Form::Digits, &out[..kept]);
-    let c = put_pairs(page, b, &out[kept..end]);
+    let c = put_queued(page, b, &out[kept..end]);
     let n = replies::put(page, c, b"\n");
     tell(Found::Line, page, n)
 }
@@ -137,17 +141,18 @@ fn show(
     kept: usize,
     queued: usize,
     steps: u32,
-    aside: u64,
+    aside: Totals,
     out: &[u64],
     page: &mut Page,
 ) -> Shown
-    requires { ⌜ kept + 2 * queued ≤ length (now out) ⌝ }
+    requires { ⌜ kept + 3 * queued ≤ length (now out) ⌝ }
 {
     if say_step(k, taken, kept, queued, aside, out, page) {
         if 0 < queued {
             let id = out[kept];
             let cost = out[kept + 1];
-            return Shown::Next(Ahead { id, cost });
+            let from = out[kept + 2];
+            return Shown::Next(Ahead { id, cost, from });
         }
         return Shown::Ended(say_done(steps, aside, kept, page));
     }
@@ -189,7 +194,11 @@ fn follow(
     out: &mut Places,
     page: &mut Page,
 ) -> bool {
-    let mut taken = Ahead { id: 0, cost: 0 };
+    let mut taken = Ahead {
+        id: 0,
+        cost: 0,
+        from: 0,
+    };
     let mut k: u32 = 0;
     while k < allowance {
         let s = watch_step(inner, c, g, list, k, taken, mem, out, page);
@@ -343,12 +352,12 @@ fn list_words() -> [u64; 16384] {
     [0; 16384]
 }
 
-fn memory() -> [u64; 4096] {
-    [0; 4096]
+fn memory() -> [u64; 5120] {
+    [0; 5120]
 }
 
 fn places() -> Places {
-    [0; 3072]
+    [0; 4096]
 }
 
 fn blank_page() -> Page {

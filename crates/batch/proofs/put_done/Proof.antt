@@ -11,9 +11,9 @@ unfolding doneText ascii
 returns c =
     let put = c .before .before .before .before .before .before in
     let aside = put .before .before .before .before .before in
-    let steps = aside .before .before .before .before .before in
+    let steps = aside .before .before .before .before in
     let begin = steps .before .before .before .before .before in
-    wrote-then (begin .put-number .ensures) (wrote-then (steps .put-number2 .ensures) (wrote-then (aside .put-number3 .ensures) (wrote-then (put .put .ensures) (c .before .before .put-counted .ensures))))
+    wrote-then (begin .put-number .ensures) (wrote-then (steps .put-number2 .ensures) (wrote-then (aside .put-totals .ensures) (wrote-then (put .put .ensures) (c .before .before .put-counted .ensures))))
 
 pub put-done-spec : {M : Type 1} → statement M
 put-done-spec =
@@ -23,7 +23,6 @@ put-done-spec =
     (λ c κs. search needs)
     (λ c. search needs)
     (λ c κs. search needs)
-    (λ c. search needs)
     (λ c κs. search needs)
     (λ c. search needs)
     (λ c κs. search needs)

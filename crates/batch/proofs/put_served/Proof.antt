@@ -5,7 +5,7 @@ use Rattle.batch.proofs.put_served.Statement.{statement}
 use Rattle.batch.proofs.put_served.Tie as tie
 
 returns : tie.Need-returns
-returns c = served-whole _ _ _ _ _ _ _ (c .before .before .before .before .before .before .before .before .before .before .before .pre .1) (wrote-done _ _ _ _ _ _ _ (c .before .before .before .before .before .before .before .if1 .taken) (c .before .before .put-done .ensures))
+returns c = served-whole _ _ _ _ _ _ _ (c .before .before .before .before .before .before .before .before .before .before .before .before .pre .1) (wrote-done _ _ _ _ _ _ _ (c .before .before .before .before .before .before .before .before .if1 .taken) (c .before .before .put-done .ensures))
 
 returns-2 : tie.Need-returns-2
 returns-2 c = served-whole _ _ _ _ _ _ _ (c .before .before .before .before .before .before .before .before .pre .1) (wrote-refused _ _ _ _ _ _ _ (c .before .before .before .before .if1 .left) (c .before .before .put-refused .ensures))

@@ -39,14 +39,14 @@ add-candidate-requires : tie.Need-add-candidate-requires
 add-candidate-requires c κs =
     let at = c .before .before .before .before .before .before .before .before .before .before in
     let e = sym (c .before .before .before .before .before .before .before .is-in .ensures) ∙ c .before .before .before .before .before .before .if1 .taken in
-    (at .pre .0, (at .pre .1 .0, (child-ok _ _ _ _ e (c .before .before .before .is-in2 .ensures) (at .pre .1 .1 .1 .0), omega (arith, leaves-there (at .args .b) (at .args .j) e, at .pre .1 .1 .1 .1))))
+    (at .pre .0, (at .pre .1 .0, (at .pre .1 .1 .0 .1, (child-ok _ _ _ _ e (c .before .before .before .is-in2 .ensures) (at .pre .1 .1 .1 .0), omega (arith, leaves-there (at .args .b) (at .args .j) e, at .pre .1 .1 .1 .1)))))
 
 returns : tie.Need-returns
 unfolding AsideUpTo
 returns c =
     let at = c .before .before .before .before .before .before in
     let e = sym (c .before .before .before .is-in .ensures) ∙ c .before .before .if1 .taken in
-    (child-full _ _ (domain _ _ (at .pre .1 .0 .asks)) _ _ _ _ _ (at .pre .0) e (c .before .is-full .ensures) (c .if2 .taken), omega arith)
+    (child-full _ _ (domain _ _ (at .pre .1 .0)) _ _ _ _ _ _ (at .pre .0) e (c .before .is-full .ensures) (c .if2 .taken), omega arith)
 
 same-length : tie.Need-same-length
 same-length c = search needs
@@ -56,7 +56,7 @@ returns-2 c =
     let at = c .before .before .before .before .before .before .before .before .before .before .before .before .before in
     let go = c .before .before .before .before .before .before in
     let e = sym (go .before .before .before .before .is-in .ensures) ∙ go .before .before .before .if1 .taken in (
-      child-added _ _ (domain _ _ (at .pre .1 .0 .asks)) _ _ _ _ _ _ _ _ (at .pre .0) e (go .before .before .is-full .ensures) (go .before .if2 .left) (go .is-in2 .ensures) (c .before .before .add-candidate .ensures .0),
+      child-added _ _ (domain _ _ (at .pre .1 .0)) _ _ _ _ _ _ _ _ _ (at .pre .0) e (go .before .before .is-full .ensures) (go .before .if2 .left) (go .is-in2 .ensures) (c .before .before .add-candidate .ensures .0),
       up-to _ _ _ (omega (arith, leaves-there (at .args .b) (at .args .j) e)) (c .before .before .add-candidate .ensures .1),
     )
 
@@ -64,7 +64,7 @@ returns-3 : tie.Need-returns-3
 unfolding AsideUpTo
 returns-3 c =
     let at = c .before .before .before .before in
-    (child-none _ _ (domain _ _ (at .pre .1 .0 .asks)) _ _ _ _ (sym (c .before .is-in .ensures) ∙ c .if1 .left), omega arith)
+    (child-none _ _ (domain _ _ (at .pre .1 .0)) _ _ _ _ _ (sym (c .before .is-in .ensures) ∙ c .if1 .left), omega arith)
 
 pub add-child-spec : {M : Type 1} → statement M
 add-child-spec =

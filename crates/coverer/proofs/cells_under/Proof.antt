@@ -13,21 +13,24 @@ lsb-requires c κs = search needs
 mul-width : tie.Need-mul-width
 mul-width c = search needs
 
-sub-t5 : tie.Need-sub-t5
-sub-t5 c = omega (arith, c .before .lsb .ensures, low-le (c .before .before .args .r .id) (c .before .before .pre .0) (omega arith))
+from-requires : tie.Need-from-requires
+from-requires c κs = search needs
 
-shr-t6 : tie.Need-shr-t6
-shr-t6 c = search needs
+sub-t6 : tie.Need-sub-t6
+sub-t6 c = omega (arith, c .before .before .lsb .ensures, low-le (c .before .before .before .args .r .id) (c .before .before .before .pre .0) (omega arith))
 
-shl-t7 : tie.Need-shl-t7
-shl-t7 c = search needs
+shr-t7 : tie.Need-shr-t7
+shr-t7 c = search needs
+
+shl-t8 : tie.Need-shl-t8
+shl-t8 c = search needs
 
 returns : tie.Need-returns
 unfolding broodOf
 returns c =
-    let at = c .before .before in
+    let at = c .before .before .before in
     let few : at .args .n ≤ 3 = at .pre .1 in
-    rw (c .before .lsb .ensures, one-shl (2 * at .args .n) (omega arith))
+    rw (c .before .before .lsb .ensures, c .before .from .ensures, one-shl (2 * at .args .n) (omega arith))
 
 pub cells-under-spec : {M : Type 1} → statement M
-cells-under-spec = tie.close (tie.spec lsb-requires mul-width sub-t5 shr-t6 shl-t7 returns)
+cells-under-spec = tie.close (tie.spec lsb-requires mul-width from-requires sub-t6 shr-t7 shl-t8 returns)

@@ -23,11 +23,11 @@ same-length c = search needs
 
 returns : tie.Need-returns
 unfolding AsideUpTo
-returns c = (λ w T. keeps w T _ _ _ (c .before .before .before .before .pre) (omega (arith, c .before .before .if1 .taken)), omega arith)
+returns c = (λ e T i. keeps e T i _ _ _ (c .before .before .before .before .pre) (omega (arith, c .before .before .if1 .taken)), omega arith)
 
 returns-2 : tie.Need-returns-2
 unfolding AsideUpTo
-returns-2 c = (λ w T. keeps-not w T _ _ _ (c .before .before .pre) (omega (arith, c .if1 .left)), tt)
+returns-2 c = (λ e T i. keeps-not e T i _ _ _ (c .before .before .pre) (omega (arith, c .if1 .left)), tt)
 
 pub keep-spec : {M : Type 1} → statement M
 keep-spec = tie.close (tie.spec add-at mul-m slice-write-m add-t7 same-length returns returns-2)

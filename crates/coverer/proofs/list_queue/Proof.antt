@@ -1,5 +1,4 @@
 -- `coverer::list_queue` meets its contract. The invariant: what is left of the queue, listed over the output as it is now, makes the output that is wanted.
-use mathlib.Core.Path.{_≡_}
 use Rattle.coverer.proofs.Watching.{Listing, list-start, list-room, list-turn, list-end}
 use borrow.Author.Needs.{needs}
 use lib.ListN.{length-set}
@@ -8,45 +7,47 @@ use Rattle.coverer.proofs.list_queue.Statement.{statement}
 use Rattle.coverer.proofs.list_queue.Tie as tie
 
 abbrev Inv-loop : tie.InvT-loop
-Inv-loop m₀ n w out₀ at full left₀ i₀ m out left i = (full ≡ w .rule .full) × Listing w n at m₀ out₀ m out left i
+Inv-loop m₀ n e out₀ at left₀ i₀ m out left i = Listing e n at m₀ out₀ m out left i
 
 abbrev μ-loop : tie.MeasureT-loop
-μ-loop m₀ n w out₀ at full left₀ i₀ m out left i = left
-
-loop-holds : tie.Need-loop-holds Inv-loop μ-loop
-loop-holds c = (search needs, list-start _ _ _ _ _)
+μ-loop m₀ n e out₀ at left₀ i₀ m out left i = left
 
 take-requires : tie.Need-take-requires Inv-loop μ-loop
 take-requires c κs =
-    let P = c .before .before .before .before .before .before .pre in
-    let I = c .before .before .loop .inv .1 in
-    (omega (arith, P .0, P .1, I .within, I .long, c .before .loop-test .taken), P .2)
+    let P = c .before .before .before .before .before .pre in
+    let I = c .before .before .loop .inv in
+    omega (arith, P .0, P .1, I .within, I .long, c .before .loop-test .taken)
 
 slice-write-out : tie.Need-slice-write-out Inv-loop μ-loop
 slice-write-out c =
-    let P = c .before .before .before .before .before .before .before .before .before .pre in
-    omega (arith, list-room _ _ _ _ _ _ _ _ _ (P .0) (P .1) (P .3) (c .before .before .before .before .before .loop .inv .1) (c .before .before .before .before .loop-test .taken))
-
-cost-requires : tie.Need-cost-requires Inv-loop μ-loop
-cost-requires c κs = omega (arith, c .before .before .before .before .before .loop .inv .0, c .before .before .before .before .before .before .before .before .before .pre .2)
+    let test = c .before .before .before .before in
+    let P = test .before .before .before .before .pre in
+    omega (arith, list-room _ _ _ _ _ _ _ _ _ (P .0) (P .1) (P .2) (test .before .loop .inv) (test .loop-test .taken))
 
 slice-write-out-2 : tie.Need-slice-write-out-2 Inv-loop μ-loop
 slice-write-out-2 c =
-    let P = c .before .before .before .before .before .before .before .before .before .before .pre in
-    simp length-set (list-room _ _ _ _ _ _ _ _ _ (P .0) (P .1) (P .3) (c .before .before .before .before .before .before .loop .inv .1) (c .before .before .before .before .before .loop-test .taken))
+    let test = c .before .before .before .before .before in
+    let P = test .before .before .before .before .pre in
+    simp length-set (omega (arith, list-room _ _ _ _ _ _ _ _ _ (P .0) (P .1) (P .2) (test .before .loop .inv) (test .loop-test .taken)))
+
+slice-write-out-3 : tie.Need-slice-write-out-3 Inv-loop μ-loop
+slice-write-out-3 c =
+    let test = c .before .before .before .before .before .before in
+    let P = test .before .before .before .before .pre in
+    simp length-set (list-room _ _ _ _ _ _ _ _ _ (P .0) (P .1) (P .2) (test .before .loop .inv) (test .loop-test .taken))
 
 loop-again : tie.Need-loop-again Inv-loop μ-loop
 loop-again c =
-    let P = c .before .before .before .before .before .before .before .before .before .before .pre in
-    let I = c .before .before .before .before .before .before .loop .inv in
-    let p = c .before .before .before .take in
-    (I .0, rw (c .cost .ensures, I .0) (list-turn _ _ _ _ _ _ _ _ _ (P .0) (P .1) (P .3) (I .1) _ _ (c .before .before .before .before .before .loop-test .taken) (p .ensures .0) (p .ensures .1) (p .kept .0)))
+    let test = c .before .before .before .before .before .before in
+    let P = test .before .before .before .before .pre in
+    let p = c .before .before .before .before .take in
+    rw (c .before .cost .ensures, c .from .ensures) (list-turn _ _ _ _ _ _ _ _ _ (P .0) (P .1) (P .2) (test .before .loop .inv) _ _ (test .loop-test .taken) (p .ensures .0) (p .ensures .1) (p .kept .1 .0))
 
 returns : tie.Need-returns Inv-loop μ-loop
 returns c =
-    let P = c .before .before .before .before .before .pre in
-    let I = c .before .loop .inv .1 in
-    (list-end _ _ _ _ _ _ _ _ _ (P .0) (P .1) (P .3) I (c .loop-test .left), I .frame)
+    let P = c .before .before .before .before .pre in
+    let I = c .before .loop .inv in
+    (list-end _ _ _ _ _ _ _ _ _ (P .0) (P .1) (P .2) I (c .loop-test .left), I .frame)
 
 pub list-queue-spec : {M : Type 1} → statement M
 list-queue-spec =
@@ -54,18 +55,22 @@ list-queue-spec =
     (tie.spec
     Inv-loop
     μ-loop
-    loop-holds
+    (λ c. list-start _ _ _ _ _)
     (λ c. search needs)
     take-requires
     (λ c. search needs)
     slice-write-out
-    cost-requires
+    (λ c κs. search needs)
     (λ c. search needs)
     (λ c. search needs)
     slice-write-out-2
+    (λ c κs. search needs)
+    (λ c. search needs)
+    (λ c. search needs)
+    slice-write-out-3
     (λ c. search needs)
     (λ c. search needs)
     loop-again
-    (λ c. c .before .loop .inv .1 .long)
-    (λ c. c .before .loop .inv .1 .len)
+    (λ c. c .before .loop .inv .long)
+    (λ c. c .before .loop .inv .len)
     returns)

@@ -3,9 +3,8 @@ use Rattle.run.specs.declared.Request.{Request}
 use Prim.Native.Nat.{ℕ, _-_}
 use Rattle.candidate.specs.Candidate.{taskOf}
 use Rattle.coverer.proofs.Runs.{Going, going-spent, going-end, going-stop, going-turn}
-use Rattle.coverer.proofs.Stands.{goes-start}
-use Rattle.coverer.specs.declared.Counts.{Counts}
-use Rattle.queue.specs.declared.Setup.{Setup}
+use Rattle.coverer.specs.declared.Tally.{Tally}
+use Rattle.queue.specs.declared.Engine.{Engine}
 use Rattle.region.specs.Region.{Area, areaOf}
 use borrow.Author.Needs.{needs}
 use lib.ListN.{length}
@@ -15,21 +14,20 @@ use native.Mathlib.Omega.{arith}
 use Rattle.coverer.proofs.proceed.Statement.{statement}
 use Rattle.coverer.proofs.proceed.Tie as tie
 
-record Inv (w : Setup) (q : Request) (a : Area) (allowance : ℕ) (m₀ : List ℕ) (t₀ : Counts) (m : List ℕ) (t : Counts) : Type 0 where
+record Inv (e : Engine) (q : Request) (a : Area) (allowance : ℕ) (m₀ : List ℕ) (t₀ : Tally) (m : List ℕ) (t : Tally) : Type 0 where
   long : length m ≡ length m₀
-  going : Going w (taskOf q a) allowance m₀ t₀ m t
+  going : Going e (taskOf q a) allowance m₀ t₀ m t
 
 abbrev Inv-loop : tie.InvT-loop
-Inv-loop m₀ q g list w allowance t₀ m t = Inv w q (areaOf g list) allowance m₀ t₀ m t
+Inv-loop m₀ q g list e allowance t₀ m t = Inv e q (areaOf g list) allowance m₀ t₀ m t
 
 abbrev μ-loop : tie.MeasureT-loop
-μ-loop m₀ q g list w allowance t₀ m t = allowance - t .steps
+μ-loop m₀ q g list e allowance t₀ m t = allowance - t .steps
 
 loop-holds : tie.Need-loop-holds Inv-loop μ-loop
 loop-holds c =
     let z = c .before .before in
-    let L = z .pre .1 .1 .0 in
-    record { long = refl; going = record { state = L .0; reached = L .1; stands = L .2; left = z .pre .1 .1 .1; goes = goes-start _ _ _ _ _ } }
+    record { long = refl; going = record { live = z .pre .1 .1 .0; left = z .pre .1 .1 .1; goes = λ l R. R; frame = refl } }
 
 same-length : tie.Need-same-length Inv-loop μ-loop
 same-length c = c .before .before .before .before .loop .inv .long
@@ -41,7 +39,7 @@ step-requires : tie.Need-step-requires Inv-loop μ-loop
 step-requires c κs =
     let z = c .before .before .before .before .before .before .before .before in
     let I = c .before .before .before .before .before .loop .inv in
-    (omega (arith, z .pre .0, I .long), (z .pre .1 .0, ((I .going .state, I .going .reached, I .going .stands), (c .before .before .before .if1 .taken, omega (arith, I .going .left, c .before .if2 .left)))))
+    (omega (arith, z .pre .0, I .long), (z .pre .1 .0, (I .going .live, (c .before .before .before .if1 .taken, omega (arith, I .going .left, c .before .if2 .left)))))
 
 enum-known-r : tie.Need-enum-known-r Inv-loop μ-loop
 enum-known-r c = search needs

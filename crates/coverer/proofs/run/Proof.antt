@@ -1,6 +1,4 @@
 -- `coverer::run` meets its contract.
-use mathlib.Core.Path.{ap}
-use Rattle.queue.specs.declared.Setup.{Setup}
 use Rattle.coverer.proofs.Answers.{answer-room, answer-refused, answer-spent, answer-done}
 use Rattle.coverer.specs.Coverer.{outcomeOf}
 use borrow.Author.Needs.{needs}
@@ -8,15 +6,10 @@ use native.Mathlib.Omega.{arith}
 use Rattle.coverer.proofs.run.Statement.{statement}
 use Rattle.coverer.proofs.run.Tie as tie
 
-covering-internal-requires : tie.Need-covering-internal-requires
-covering-internal-requires c κs =
-    let P = c .before .before .before .before .pre in
-    (P .0, (record { asks = P .1 .0; rule = ap (λ (w : Setup). w .rule .full) (c .setup-of .ensures) }, (P .1 .1 .0, P .1 .1 .1)))
-
 finish-requires : tie.Need-finish-requires
 finish-requires c κs =
     let d = c .before .before .before .before .before .before .before .before .covering-internal in
-    (omega (arith, d .kept .0, c .before .before .before .before .before .before .before .before .before .before .before .before .before .pre .0), answer-room _ _ _ _ _ _ _ (d .ensures) _ (c .before .before .before .before .r2 .given .1))
+    (omega (arith, d .kept .0, c .before .before .before .before .before .before .before .before .before .before .before .before .pre .0), answer-room _ _ _ _ _ _ _ (d .ensures) _ (c .before .before .before .before .r2 .given .1))
 
 -- the allowance is used up
 returns : tie.Need-returns
@@ -32,14 +25,13 @@ returns-3 : tie.Need-returns-3
 unfolding outcomeOf
 returns-3 c =
     let d = c .before .before .before .before .before .before .before .before .before .before .before .covering-internal in
-    answer-done _ _ _ _ _ _ _ (d .ensures) _ (c .before .before .before .before .before .before .before .r2 .given .1) _ _ (omega (arith, d .kept .0, c .before .before .before .before .before .before .before .before .before .before .before .before .before .before .before .before .pre .0)) (c .before .before .before .before .if1 .left) (c .before .before .finish .ensures)
+    answer-done _ _ _ _ _ _ _ (d .ensures) _ (c .before .before .before .before .before .before .before .r2 .given .1) _ _ (omega (arith, d .kept .0, c .before .before .before .before .before .before .before .before .before .before .before .before .before .before .before .pre .0)) (c .before .before .before .before .if1 .left) (c .before .before .finish .ensures)
 
 pub run-spec : {M : Type 1} → statement M
 run-spec =
     tie.close
     (tie.spec
     (λ c κs. search needs)
-    covering-internal-requires
     (λ c. search needs)
     (λ c κs. search needs)
     (λ c. search needs)

@@ -16,7 +16,7 @@ enum-told c = search needs
 add-candidate-requires : tie.Need-add-candidate-requires
 add-candidate-requires c κs =
     let z = c .before .before .before .before .before .before in
-    (z .pre .0, (z .pre .1 .0, (start-kept-ok _ _ _ (c .before .before .before .new-candidate .ensures) (z .pre .1 .1 .0) (c .before .enum-told .given .1), z .pre .1 .1 .1)))
+    (z .pre .0, (z .pre .1 .0, (z .pre .1 .1 .0, (start-kept-ok _ _ _ (c .before .before .before .new-candidate .ensures) (z .pre .1 .1 .1 .0) (c .before .enum-told .given .1), z .pre .1 .1 .1 .1))))
 
 enum-told-2 : tie.Need-enum-told-2
 enum-told-2 c = search needs
@@ -24,18 +24,18 @@ enum-told-2 c = search needs
 add-candidate-requires-2 : tie.Need-add-candidate-requires-2
 add-candidate-requires-2 c κs =
     let z = c .before .before .before .before .before .before in
-    (z .pre .0, (z .pre .1 .0, (start-queued-ok _ _ _ (c .before .before .before .new-candidate .ensures) (z .pre .1 .1 .0) (c .before .enum-told2 .given .1), z .pre .1 .1 .1)))
+    (z .pre .0, (z .pre .1 .0, (z .pre .1 .1 .0, (start-queued-ok _ _ _ (c .before .before .before .new-candidate .ensures) (z .pre .1 .1 .1 .0) (c .before .enum-told2 .given .1), z .pre .1 .1 .1 .1))))
 
 enum-told-3 : tie.Need-enum-told-3
 enum-told-3 c = search needs
 
 lsb-requires : tie.Need-lsb-requires
-lsb-requires c κs = cell-pos _ _ _ (c .before .before .before .before .before .pre .1 .1 .0 .cell)
+lsb-requires c κs = cell-pos _ _ _ (c .before .before .before .before .before .pre .1 .1 .1 .0 .cell)
 
 set-aside-requires : tie.Need-set-aside-requires
 set-aside-requires c κs =
     let z = c .before .before .before .before .before .before in
-    omega (arith, c .lsb .ensures, low-leaves (z .args .id) (z .pre .1 .1 .0 .cell), z .pre .1 .1 .1)
+    omega (arith, c .lsb .ensures, low-leaves (z .args .id) (z .pre .1 .1 .1 .0 .cell), z .pre .1 .1 .1 .1)
 
 same-length : tie.Need-same-length
 same-length c = search needs
@@ -43,7 +43,7 @@ same-length c = search needs
 returns : tie.Need-returns
 returns c =
     let d = c .before .before .add-candidate in
-    (start-kept _ _ _ _ _ _ (c .before .before .before .before .before .before .new-candidate .ensures) _ _ (c .before .before .before .before .enum-told .given .1) (d .ensures .0), d .ensures .1)
+    start-kept _ _ _ _ _ _ _ (c .before .before .before .before .before .before .new-candidate .ensures) _ _ (c .before .before .before .before .enum-told .given .1) (d .ensures .0)
 
 same-length-2 : tie.Need-same-length-2
 same-length-2 c = search needs
@@ -51,12 +51,12 @@ same-length-2 c = search needs
 returns-2 : tie.Need-returns-2
 returns-2 c =
     let d = c .before .before .add-candidate2 in
-    (start-queued _ _ _ _ _ _ (c .before .before .before .before .before .before .new-candidate .ensures) _ _ (c .before .before .before .before .enum-told2 .given .1) (d .ensures .0), d .ensures .1)
+    start-queued _ _ _ _ _ _ _ (c .before .before .before .before .before .before .new-candidate .ensures) _ _ (c .before .before .before .before .enum-told2 .given .1) (d .ensures .0)
 
 returns-3 : tie.Need-returns-3
 returns-3 c =
     let z = c .before .before .before .before .before .before .before in
-    start-none _ _ _ _ _ _ _ _ (z .pre .1 .1 .0) (c .before .before .before .before .new-candidate .ensures) (c .before .before .enum-told3 .given .1) (c .before .lsb .ensures) (c .set-aside .ensures)
+    start-none _ _ _ _ _ _ _ _ _ (z .pre .1 .1 .1 .0) (c .before .before .before .before .new-candidate .ensures) (c .before .before .enum-told3 .given .1) (c .before .lsb .ensures) (c .set-aside .ensures)
 
 pub start-spec : {M : Type 1} → statement M
 start-spec =

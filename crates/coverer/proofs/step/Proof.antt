@@ -1,41 +1,67 @@
 -- `coverer::step` meets its contract.
+use mathlib.Core.Path.{ap, _∙_}
 use Rattle.run.specs.Run.{queueMost}
 use Prim.Native.Nat.{_≤_}
-use Rattle.coverer.proofs.Adds.{domain, narrow}
-use Rattle.coverer.proofs.Steps.{takes, steps}
+use Rattle.totals.specs.Totals.{totalAt}
+use Rattle.coverer.proofs.Adds.{domain}
+use Rattle.coverer.proofs.Runs.{takes, steps}
 use borrow.Author.Needs.{needs}
 use native.Mathlib.Omega.{arith}
 use Rattle.coverer.proofs.step.Statement.{statement}
 use Rattle.coverer.proofs.step.Tie as tie
 
-sub-n : tie.Need-sub-n
-sub-n c = search needs
-
 take-requires : tie.Need-take-requires
 take-requires c κs =
     let z = c .before .before .before .before in
-    let few : z .args .t .queued ≤ queueMost = z .pre .1 .1 .0 .2 .few in
-    (omega (arith, z .pre .0, z .pre .1 .1 .1 .0), narrow _ _ _ (z .pre .1 .0))
+    let few : z .args .t .queued ≤ queueMost = z .pre .1 .1 .0 .3 .holds .at 0 .few in
+    omega (arith, z .pre .0, z .pre .1 .1 .1 .0)
 
-add-t13 : tie.Need-add-t13
-add-t13 c = search needs
+get-requires : tie.Need-get-requires
+get-requires c κs =
+    let from = c .before .before in
+    let took = from .before .before .before in
+    let z = took .before .before .before .before .before in
+    let T = takes _ _ (domain _ _ (z .pre .1 .0)) _ _ _ (z .pre .0) (z .pre .1 .1 .1 .0) (took .take .ensures .0) (z .pre .1 .1 .0) in
+    omega (arith, from .from .ensures, T .taken .place)
 
 use-taken-requires : tie.Need-use-taken-requires
 use-taken-requires c κs =
-    let z = c .before .before .before .before .before .before .before .before .before in
-    let p = c .before .before .before .before .take in
-    let L = z .pre .1 .1 .0 in
-    let T = takes _ _ (domain _ _ (z .pre .1 .0 .asks)) _ _ _ _ (z .pre .0) (z .pre .1 .1 .1 .0) (p .ensures .0) (L .1) (L .2) in
-    (omega (arith, p .kept .0, z .pre .0), (z .pre .1 .0, ((T .kept, omega (arith, T .queued)), ((T .cell, T .sets), T .room))))
+    let got = c .before in
+    let from = got .before .before .before in
+    let took = from .before .before .before in
+    let z = took .before .before .before .before .before in
+    let T = takes _ _ (domain _ _ (z .pre .1 .0)) _ _ _ (z .pre .0) (z .pre .1 .1 .1 .0) (took .take .ensures .0) (z .pre .1 .1 .0) in
+    let total = got .get .ensures ∙ ap (totalAt (z .args .t .aside)) (from .from .ensures) in
+    (omega (arith, took .take .kept .1 .0, z .pre .0), (z .pre .1 .0, ((T .kept, omega (arith, T .queued)), (T .taken, omega (arith, total, T .room)))))
 
-same-length : tie.Need-same-length
-same-length c = search needs
+end-turn-requires : tie.Need-end-turn-requires
+end-turn-requires c κs =
+    let from = c .before .before .before .before .before .before .before in
+    let took = from .before .before .before in
+    let z = took .before .before .before .before .before in
+    let T = takes _ _ (domain _ _ (z .pre .1 .0)) _ _ _ (z .pre .0) (z .pre .1 .1 .1 .0) (took .take .ensures .0) (z .pre .1 .1 .0) in
+    omega (arith, from .from .ensures, T .taken .place)
 
 returns : tie.Need-returns
 returns c =
-    let z = c .before .before .before .before .before .before .before .before .before .before .before .before in
-    let p = c .before .before .before .before .before .before .before .take in
-    steps _ _ (domain _ _ (z .pre .1 .0 .asks)) _ _ _ _ _ _ (z .pre .0) (z .pre .1 .1 .1 .0) (z .pre .1 .1 .0 .2 .few) (p .ensures .0) (p .ensures .1) (c .before .before .use-taken .ensures)
+    let used = c .before .before .before in
+    let got = used .before .before in
+    let from = got .before .before .before in
+    let took = from .before .before .before in
+    let z = took .before .before .before .before .before in
+    let T = takes _ _ (domain _ _ (z .pre .1 .0)) _ _ _ (z .pre .0) (z .pre .1 .1 .1 .0) (took .take .ensures .0) (z .pre .1 .1 .0) in
+    steps _ _ _ _ _ _ _ _ _ (z .pre .0) (z .pre .1 .1 .1 .0) (z .pre .1 .1 .0 .3 .holds .at 0 .few) (T .taken .place) (took .take .ensures .0) (took .take .ensures .1) _ _ (from .from .ensures) (got .get .ensures) (used .use-taken .ensures) (c .end-turn .ensures)
 
 pub step-spec : {M : Type 1} → statement M
-step-spec = tie.close (tie.spec sub-n take-requires add-t13 use-taken-requires same-length returns)
+step-spec =
+    tie.close
+    (tie.spec
+    (λ c. search needs)
+    take-requires
+    (λ c κs. search needs)
+    get-requires
+    (λ c. search needs)
+    use-taken-requires
+    end-turn-requires
+    (λ c. search needs)
+    returns)

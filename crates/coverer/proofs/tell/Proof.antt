@@ -8,10 +8,10 @@ use Rattle.coverer.proofs.tell.Tie as tie
 returns : tie.Need-returns
 returns c =
     let q = c .before .before .before .before .list-queue in
-    (λ T s e S. told _ T _ _ s _ (c .before .before .before .before .before .before .before .before .before .before .before .before .before .before .before .pre .0) S _ _ e (c .before .before .before .before .before .before .before .before .before .before .before .before .if1 .taken) (c .before .before .before .before .before .before .before .before .before .lay-raw .ensures) (q .ensures .0), q .ensures .1)
+    (λ T s H. told _ T _ _ s _ (c .before .before .before .before .before .before .before .before .before .before .before .before .before .before .before .before .pre .0) H _ _ (c .before .before .before .before .before .before .before .before .before .before .before .before .before .if1 .taken) (c .before .before .before .before .before .before .before .before .before .lay-raw .ensures) (q .ensures .0), q .ensures .1)
 
 returns-2 : tie.Need-returns-2
-returns-2 c = (λ T s e S. told-not _ T _ _ s _ (c .before .before .before .pre .0) S (c .if1 .left), refl)
+returns-2 c = (λ T s H. told-not _ T _ _ s _ (c .before .before .before .pre .0) H (c .if1 .left), refl)
 
 pub tell-spec : {M : Type 1} → statement M
 tell-spec =

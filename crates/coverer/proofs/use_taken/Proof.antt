@@ -11,7 +11,7 @@ is-full-requires c κs = search needs
 returns : tie.Need-returns
 returns c =
     let z = c .before .before .before .before in
-    taken-full _ _ (domain _ _ (z .pre .1 .0 .asks)) _ _ (z .pre .0) _ (c .before .is-full .ensures) _ (c .if1 .taken)
+    taken-full _ _ (domain _ _ (z .pre .1 .0)) _ _ (z .pre .0) _ (c .before .is-full .ensures) _ _ (c .if1 .taken)
 
 count-requires : tie.Need-count-requires
 count-requires c κs = search needs
@@ -34,7 +34,7 @@ returns-2 : tie.Need-returns-2
 returns-2 c =
     let z = c .before .before .before .before .before .before .before .before .before .before .before in
     let go = c .before .before .before .before in
-    taken-handed _ _ (domain _ _ (z .pre .1 .0 .asks)) _ _ (z .pre .0) _ (go .before .before .before .before .is-full .ensures) _ (z .pre .1 .1 .1 .0 .1) _ (go .before .before .count .ensures .0) _ (go .before .is-handed-on .ensures) (go .before .before .before .if1 .left) _ _ (go .if2 .taken) (c .before .before .hand-on .ensures)
+    taken-handed _ _ (domain _ _ (z .pre .1 .0)) _ _ (z .pre .0) _ (go .before .before .before .before .is-full .ensures) _ (z .pre .1 .1 .1 .0) _ (go .before .before .count .ensures .0) _ (go .before .is-handed-on .ensures) (go .before .before .before .if1 .left) _ _ (go .if2 .taken) (c .before .before .hand-on .ensures)
 
 same-length-2 : tie.Need-same-length-2
 same-length-2 c = search needs
@@ -43,7 +43,7 @@ returns-3 : tie.Need-returns-3
 returns-3 c =
     let z = c .before .before .before .before .before .before .before .before .before .before .before in
     let go = c .before .before .before .before in
-    taken-kept _ _ (domain _ _ (z .pre .1 .0 .asks)) _ _ (z .pre .0) _ (go .before .before .before .before .is-full .ensures) _ (z .pre .1 .1 .1 .0 .1) _ (go .before .before .count .ensures .0) _ (go .before .is-handed-on .ensures) (go .before .before .before .if1 .left) _ _ (go .if2 .left) (c .before .before .keep .ensures .0 _ _)
+    taken-kept _ _ (domain _ _ (z .pre .1 .0)) _ _ (z .pre .0) _ (go .before .before .before .before .is-full .ensures) _ (z .pre .1 .1 .1 .0) _ (go .before .before .count .ensures .0) _ (go .before .is-handed-on .ensures) (go .before .before .before .if1 .left) _ _ (go .if2 .left) (c .before .before .keep .ensures .0 _ _ _)
 
 pub use-taken-spec : {M : Type 1} → statement M
 use-taken-spec =

@@ -8,33 +8,32 @@ use native.Mathlib.Omega.{arith}
 use lib.ListN.{length}
 use Rattle.order.proofs.HeapRun.{Down, Down-start, Down-turn, Down-leaf, Down-stop}
 use Rattle.records.specs.declared.Rec.{Rec}
-use Rattle.records.specs.declared.Rule.{Rule}
 use Rattle.records.specs.Records.{getR, putR, capR, before}
 use Rattle.heap.specs.Heap.{popR, lesserR}
-use Rattle.records.proofs.Mem.{length-putR, priced}
+use Rattle.records.proofs.Mem.{length-putR}
 use Rattle.heap.proofs.pop.Statement.{statement}
 use Rattle.heap.proofs.pop.Tie as tie
 
-record Inv (m₀ : List ℕ) (n : ℕ) (w : Rule) (a : Rec) (m : List ℕ) (i : ℕ) : Type 0 where
+record Inv (m₀ : List ℕ) (n : ℕ) (a : Rec) (m : List ℕ) (i : ℕ) : Type 0 where
   room : n < capR m₀
   within : i < capR m₀
   len : length m ≡ length m₀
-  run : Down getR putR (before w) (popR w m₀ n) n a m i
+  run : Down getR putR before (popR m₀ n) n a m i
 
-turn : (m₀ : List ℕ) (n : ℕ) (w : Rule) (a : Rec) (m : List ℕ) (i c : ℕ) (x : Rec) (m′ : List ℕ) → 2 * i + 1 < n
-    → c ≡ lesserR w m n i → i < c → c < n → x ≡ getR m c → before w x a ≡ true → m′ ≡ putR m i x → Inv m₀ n w a m i → Inv m₀ n w a m′ c
-turn m₀ n w a m i c x m′ p ec lo hi ex t em I = record {
+turn : (m₀ : List ℕ) (n : ℕ) (a : Rec) (m : List ℕ) (i c : ℕ) (x : Rec) (m′ : List ℕ) → 2 * i + 1 < n
+    → c ≡ lesserR m n i → i < c → c < n → x ≡ getR m c → before x a ≡ true → m′ ≡ putR m i x → Inv m₀ n a m i → Inv m₀ n a m′ c
+turn m₀ n a m i c x m′ p ec lo hi ex t em I = record {
   room = I .room;
   within = omega arith;
   len = ap length em ∙ length-putR m i x ∙ I .len;
-  run = rw (em, ex) (Down-turn getR putR (before w) ec p lo (ap (λ (y : Rec). before w y a) (sym ex) ∙ t) (I .run));
+  run = rw (em, ex) (Down-turn getR putR before ec p lo (ap (λ (y : Rec). before y a) (sym ex) ∙ t) (I .run));
 }
 
 abbrev Inv-loop : tie.InvT-loop
-Inv-loop m₀ n w full least a own i₀ m i = Inv m₀ n w a m i
+Inv-loop m₀ n least a i₀ m i = Inv m₀ n a m i
 
 abbrev μ-loop : tie.MeasureT-loop
-μ-loop m₀ n w full least a own i₀ m i = n - i
+μ-loop m₀ n least a i₀ m i = n - i
 
 get-requires : tie.Need-get-requires Inv-loop μ-loop
 get-requires c κs = omega arith
@@ -42,17 +41,14 @@ get-requires c κs = omega arith
 get-requires-2 : tie.Need-get-requires-2 Inv-loop μ-loop
 get-requires-2 c κs = omega arith
 
-cost-requires : tie.Need-cost-requires Inv-loop μ-loop
-cost-requires c κs = omega arith
-
 loop-holds : tie.Need-loop-holds Inv-loop μ-loop
-loop-holds c = record { room = omega arith; within = omega arith; len = refl; run = rw (c .before .get2 .ensures) (Down-start getR putR _ _ _) }
+loop-holds c = record { room = omega arith; within = omega arith; len = refl; run = rw (c .get2 .ensures) (Down-start getR putR _ _ _) }
 
 lesser-requires : tie.Need-lesser-requires Inv-loop μ-loop
 lesser-requires c κs = omega arith
 
-less-requires : tie.Need-less-requires Inv-loop μ-loop
-less-requires c κs = tt
+goes-first-requires : tie.Need-goes-first-requires Inv-loop μ-loop
+goes-first-requires c κs = tt
 
 put-requires : tie.Need-put-requires Inv-loop μ-loop
 put-requires c κs = omega arith
@@ -64,12 +60,11 @@ loop-again : tie.Need-loop-again Inv-loop μ-loop
 loop-again c =
     let after-put = c .before .before in
     let then = after-put .before .before in
-    let after-less = then .before in
-    let after-lesser = after-less .before .before in
+    let after-first = then .before in
+    let after-lesser = after-first .before .before in
     let in-loop = after-lesser .before .before in
-    let own = in-loop .before .before .cost .ensures in
     let l = after-lesser .lesser .ensures in
-    turn _ _ _ _ _ _ _ _ _ (omega arith) (l .0) (l .3) (l .4) (l .1) (priced _ _ _ _ _ _ _ (l .2) own (after-less .less .ensures) (then .if1 .taken)) (after-put .put .ensures) (in-loop .before .loop .inv)
+    turn _ _ _ _ _ _ _ _ (omega arith) (l .0) (l .2) (l .3) (l .1) (sym (after-first .goes-first .ensures) ∙ then .if1 .taken) (after-put .put .ensures) (in-loop .before .loop .inv)
 
 put-requires-2 : tie.Need-put-requires-2 Inv-loop μ-loop
 put-requires-2 c κs = omega arith
@@ -83,11 +78,10 @@ returns : tie.Need-returns Inv-loop μ-loop
 returns c =
     let after-put = c .before .before in
     let left = after-put .before .before in
-    let run = left .before .loop .inv .run in
-    let after-cost = left .before .before in (
-      after-cost .before .before .before .get .ensures,
+    let run = left .before .loop .inv .run in (
+      left .before .before .before .before .get .ensures,
       after-put .put2 .ensures ∙ ⊎-elim (λ w. Down-leaf getR putR _ (omega (arith, w .left)) run)
-          (λ w. Down-stop getR putR _ (w .2 .ensures .0) (ap (λ (y : Rec). before _ y _) (sym (w .2 .ensures .1)) ∙ priced _ _ _ _ _ _ _ (w .2 .ensures .2) (after-cost .cost .ensures) (w .4 .ensures) (w .5 .left)) run) (left .loop-test .came),
+          (λ w. Down-stop getR putR _ (w .2 .ensures .0) (ap (λ (y : Rec). before y _) (sym (w .2 .ensures .1)) ∙ sym (w .4 .ensures) ∙ w .5 .left) run) (left .loop-test .came),
     )
 
 pub pop-spec : {M : Type 1} → statement M
@@ -98,10 +92,9 @@ pop-spec =
     μ-loop
     get-requires
     get-requires-2
-    cost-requires
     loop-holds
     lesser-requires
-    less-requires
+    goes-first-requires
     put-requires
     loop-less
     loop-again

@@ -1,6 +1,6 @@
 -- `orders::night` meets its contract: a walk of its MIR, by hand, since records are lent. The borrow of the orders is opened once, before the loop, and closed once, after it. In a turn one order is taken out of the row and copied; the
 -- memory and the output are lent on to `serve`, for lifetimes that are made for the call, and come back at the lists that `serve` ensures; the four answers are written into the record, which is put back into the row.
--- All that the proof knows of `serve` is that it meets its contract. What a turn and the end come to is in `Laws.antt`; here is only where each thing lies. Of an order's fields only the answers are named. `walks/write` writes the steps.
+-- All that the proof knows of `serve` is that it meets its contract. What a turn and the end come to is in `Laws.antt`; here is only where each thing lies. Of an order's fields the answers come first, in the answer's order; no other is named. `walks/write` writes the steps.
 --     exits        from what is had at a return to the contract
 --     At t         what is had at the loop's head, where the loop stands at t.        goes-on, leaves      a turn that serves an order, and the one that leaves the loop
 --     tests        the test for more than 256 records, and the return there.        walk         the MIR up to the test
@@ -29,7 +29,7 @@ use ghost.Atoms.{Atoms}
 use contract.Monad.{Fun, fact}
 use contract.Running.{givenOf, tables, tablesOf}
 use types.Kit.{Given, Item, Sq, runs, ‵, raw, some, later, _⊛_, ⋆, anyQ, atRet, _$_, _∵_, !, qed, by, move, keep, drop, use1, use2, use3, group, split, join, pick, rewrite, fsplit, fjoin, feqL, suffices, frame, await, done}
-use types.Run.{look, look-raw, store, init, forget, stop, hop, fld, from, load, addr, lit, of-opd, bin, and-then, no-more, assigns, assigns-last, land, first, blocks, stays, leaves-loop, returns, returns-within, enter, alloc1, alloc0, params1, pass1, pass0, free1, free0, exec, Below, again, loops}
+use types.Run.{look, store, init, forget, stop, hop, fld, from, load, addr, lit, of-opd, bin, and-then, no-more, assigns, assigns-last, land, first, blocks, stays, leaves-loop, returns, returns-within, enter, alloc1, alloc0, params1, pass1, pass0, free1, free0, exec, Below, again, loops}
 use types.Part.{agg, whole, sub, look-in, store-in}
 use types.Tokens.{lft-new, lft-end}
 use sound.WpLaws.{FmC, fmOf, WpFn-mono}
@@ -201,20 +201,10 @@ module _ {M : Type 1} (𝓤 : URA M) (H : Heap 𝓤) (A : Atoms 𝓤) (W : Given
   abbrev new : Turns → Answer → Order
   new t r = withAnswer (at t) r
 
-  number-of : (r : Answer) (w : Val) → Is S.the-row r (w ∷ []) → r .number < 2 ^ 64
-  number-of r w is = LL.owed S.the-type S′.the-laws r _ is .0 .1
-
-  count-of : (r : Answer) (w : Val) → Is S.the-row r (w ∷ []) → r .count < 2 ^ 64
-  count-of r w is = LL.owed S.the-type S′.the-laws r _ is .1 .0 .1
-
-  steps-of : (r : Answer) (w : Val) → Is S.the-row r (w ∷ []) → r .steps < 2 ^ 32
-  steps-of r w is = LL.owed S.the-type S′.the-laws r _ is .1 .1 .0 .1
-
-  aside-of : (r : Answer) (w : Val) → Is S.the-row r (w ∷ []) → r .aside < 2 ^ 64
-  aside-of r w is = LL.owed S.the-type S′.the-laws r _ is .1 .1 .1 .0 .1
-
   new-is : (t : Turns) (r : Answer) (w : Val) → Is R (at t) (orderVals (at t)) → Is S.the-row r (w ∷ []) → Is R (new t r) (orderVals (new t r))
-  new-is t r w is ok = LL.owes T.the-type T′.the-laws (new t r) ((refl, number-of r w ok), ((refl, count-of r w ok), ((refl, steps-of r w ok), ((refl, aside-of r w ok), LL.owed T.the-type T′.the-laws (at t) _ is .1 .1 .1 .1))))
+  new-is t r w is ok =
+      let a = LL.owed S.the-type S′.the-laws r _ ok in
+      LL.owes T.the-type T′.the-laws (new t r) (a .0, (a .1 .0, (a .1 .1 .0, (a .1 .1 .1 .0, LL.owed T.the-type T′.the-laws (at t) _ is .1 .1 .1 .1))))
 
   -- ---- the call
   abbrev Given-to : Type 0
@@ -293,7 +283,8 @@ module _ {M : Type 1} (𝓤 : URA M) (H : Heap 𝓤) (A : Atoms 𝓤) (W : Given
         -- the order is taken out of the row, and copied
         move ! (0 ∷ []) $ elem-out ! R (Is R) (shows 𝓤 H A R) orderVals order-tells fullShare (t .orders) i noOrder b₁ o₁ inside (λ is.
         rewrite ! 0 (λ (k : ℕ). ‵ (cellAt fullShare (R .mir) (orderVals o) b₁ k)) (place-is (mem R .size) o₁ i) refl $
-        assigns ! (of-opd ! (load ! (from ! (hop ! (look ! 12 refl) (stop !))) (look-raw ! 0 refl))) (from ! (stop !)) (init ! 13 refl (order-typed o is)) $
+        use1 W (‵ (fat fullShare T′.mir b₁ there (only (orderVals o)))) (W .laws .raw-at fullShare T′.mir b₁ there (only (orderVals o))) $
+        assigns ! (of-opd ! (load ! (from ! (hop ! (look ! 12 refl) (stop !))) (look ! 0 refl))) (from ! (stop !)) (init ! 13 refl (order-typed o is)) $
         -- the memory and the output are lent on
         assigns ! (addr ! (from ! (fld ! refl (hop ! (look-in ! 23 (sub ! 0 refl (whole !))) (stop !))))) (from ! (stop !)) (init ! 14 refl (tt, tt)) $
         assigns ! (agg ! (and-then ! (var ! 14 refl) (and-then ! (load ! (from ! (fld ! refl (stop !))) (look-in ! 23 (sub ! 1 refl (whole !)))) (no-more !)))) (from ! (stop !)) (init ! 15 refl (tt, (tt, (record { fits = room₂ .0 }, tt)))) $
@@ -319,18 +310,19 @@ module _ {M : Type 1} (𝓤 : URA M) (H : Heap 𝓤) (A : Atoms 𝓤) (W : Given
         -- the record is written, and put back into the row
         assigns ! (bin ! (var ! 11 refl) (lit ! tt) (record { fits = at-fits })) (from ! (stop !)) (store ! 14 refl (tt, record { fits = at-fits })) $
         assigns ! (bin ! (load ! (from ! (fld ! refl (stop !))) (look-in ! 25 (sub ! 0 refl (whole !)))) (var ! 14 refl) tt) (from ! (stop !)) (init ! 21 refl (tt, tt)) $
-        assigns ! (of-opd ! (load ! (from ! (fld ! refl (stop !))) (look-in ! 12 (sub ! 0 refl (whole !))))) (from ! (hop ! (look ! 21 refl) (fld ! refl (stop !)))) (store-in ! 7 (sub ! 0 refl (whole !)) (tt, record { fits = number-of r w ok })) $
+        assigns ! (of-opd ! (load ! (from ! (fld ! refl (stop !))) (look-in ! 12 (sub ! 0 refl (whole !))))) (from ! (hop ! (look ! 21 refl) (fld ! refl (stop !)))) (store-in ! 7 (sub ! 0 refl (whole !)) (S′.the-laws .0 .lawful 𝓤 H A W .typed _ _ (LL.owed S.the-type S′.the-laws r _ ok .0) .0)) $
         assigns ! (bin ! (var ! 11 refl) (lit ! tt) (record { fits = at-fits })) (from ! (stop !)) (store ! 14 refl (tt, record { fits = at-fits })) $
         assigns ! (bin ! (load ! (from ! (fld ! refl (stop !))) (look-in ! 25 (sub ! 0 refl (whole !)))) (var ! 14 refl) tt) (from ! (stop !)) (init ! 22 refl (tt, tt)) $
-        assigns ! (of-opd ! (load ! (from ! (fld ! refl (stop !))) (look-in ! 12 (sub ! 1 refl (whole !))))) (from ! (hop ! (look ! 22 refl) (fld ! refl (stop !)))) (store-in ! 7 (sub ! 1 refl (whole !)) (tt, record { fits = count-of r w ok })) $
+        assigns ! (of-opd ! (load ! (from ! (fld ! refl (stop !))) (look-in ! 12 (sub ! 1 refl (whole !))))) (from ! (hop ! (look ! 22 refl) (fld ! refl (stop !)))) (store-in ! 7 (sub ! 1 refl (whole !)) (S′.the-laws .1 .0 .lawful 𝓤 H A W .typed _ _ (LL.owed S.the-type S′.the-laws r _ ok .1 .0) .0)) $
         assigns ! (bin ! (var ! 11 refl) (lit ! tt) (record { fits = at-fits })) (from ! (stop !)) (store ! 14 refl (tt, record { fits = at-fits })) $
         assigns ! (bin ! (load ! (from ! (fld ! refl (stop !))) (look-in ! 25 (sub ! 0 refl (whole !)))) (var ! 14 refl) tt) (from ! (stop !)) (init ! 23 refl (tt, tt)) $
-        assigns ! (of-opd ! (load ! (from ! (fld ! refl (stop !))) (look-in ! 12 (sub ! 2 refl (whole !))))) (from ! (hop ! (look ! 23 refl) (fld ! refl (stop !)))) (store-in ! 7 (sub ! 2 refl (whole !)) (tt, record { fits = steps-of r w ok })) $
+        assigns ! (of-opd ! (load ! (from ! (fld ! refl (stop !))) (look-in ! 12 (sub ! 2 refl (whole !))))) (from ! (hop ! (look ! 23 refl) (fld ! refl (stop !)))) (store-in ! 7 (sub ! 2 refl (whole !)) (S′.the-laws .1 .1 .0 .lawful 𝓤 H A W .typed _ _ (LL.owed S.the-type S′.the-laws r _ ok .1 .1 .0) .0)) $
         assigns ! (bin ! (var ! 11 refl) (lit ! tt) (record { fits = at-fits })) (from ! (stop !)) (store ! 14 refl (tt, record { fits = at-fits })) $
         assigns ! (bin ! (load ! (from ! (fld ! refl (stop !))) (look-in ! 25 (sub ! 0 refl (whole !)))) (var ! 14 refl) tt) (from ! (stop !)) (init ! 24 refl (tt, tt)) $
-        assigns ! (of-opd ! (load ! (from ! (fld ! refl (stop !))) (look-in ! 12 (sub ! 3 refl (whole !))))) (from ! (hop ! (look ! 24 refl) (fld ! refl (stop !)))) (store-in ! 7 (sub ! 3 refl (whole !)) (tt, record { fits = aside-of r w ok })) $
+        assigns ! (of-opd ! (load ! (from ! (fld ! refl (stop !))) (look-in ! 12 (sub ! 3 refl (whole !))))) (from ! (hop ! (look ! 24 refl) (fld ! refl (stop !)))) (store-in ! 7 (sub ! 3 refl (whole !)) (S′.the-laws .1 .1 .1 .0 .lawful 𝓤 H A W .typed _ _ (LL.owed S.the-type S′.the-laws r _ ok .1 .1 .1 .0) .0)) $
         assigns ! (bin ! (var ! 10 refl) (load ! (from ! (fld ! refl (stop !))) (look-in ! 12 (sub ! 1 refl (whole !)))) (record { fits = taken-fits t inside r (ls .1 .1 .0) (ls .1 .1 .1 .0) sv e₃ })) (from ! (stop !)) (store ! 10 refl (tt, record { fits = taken-fits t inside r (ls .1 .1 .0) (ls .1 .1 .1 .0) sv e₃ })) $
         assigns-last ! (bin ! (var ! 11 refl) (lit ! tt) (record { fits = next-fits })) (from ! (stop !)) (store ! 11 refl (tt, record { fits = next-fits })) $ move ! (7 ∷ []) $
+        use1 W (‵ (cellAt fullShare (R .mir) (orderVals (new t r)) b₁ there)) (W .laws .at-raw fullShare T′.mir b₁ there (only (orderVals (new t r)))) $
         rewrite ! 0 (λ (k : ℕ). ‵ (cellAt fullShare (R .mir) (orderVals (new t r)) b₁ k)) (sym (place-is (mem R .size) o₁ i)) refl $
         owned ! R (Is R) (LL.makes T.the-type T′.the-plain 𝓤 H A) (new t r) _ (new-is t r w is ok) $ move ! (1 ∷ 0 ∷ 10 ∷ []) $
         elem-put ! R fullShare (t .orders) i (new t r) (orderVals (new t r)) b₁ o₁ inside $ forget ! 11 refl $ forget ! 12 refl $ forget ! 13 refl $ forget ! 14 refl $ forget ! 15 refl $
@@ -344,6 +336,9 @@ module _ {M : Type 1} (𝓤 : URA M) (H : Heap 𝓤) (A : Atoms 𝓤) (W : Given
 
         o : Order
         o = at t
+
+        there : ℕ
+        there = i * mem R .size + o₁
 
         inside : i < length (t .orders)
         inside = omega (arith, t .long, small)

@@ -6,19 +6,18 @@ use Rattle.records.specs.declared.Rec.{Rec}
 use Rattle.records.specs.Records.{putR}
 use Rattle.heap.specs.Heap.{pushR}
 use Rattle.queue.specs.declared.Engine.{Engine}
-use Rattle.queue.specs.declared.Setup.{Setup}
-use Rattle.queue.specs.Queue.{addedBy, addR}
+use Rattle.queue.specs.Queue.{addR}
 use borrow.Author.Needs.{needs}
 use Rattle.queue.proofs.add.Statement.{statement}
 use Rattle.queue.proofs.add.Tie as tie
 
-quick : (w : Setup) (m : List ℕ) (n : ℕ) (r : Rec) (m′ : List ℕ) → w .engine ≡ Engine.Quick → m′ ≡ pushR (w .rule) m n r → m′ ≡ addR w m n r
-unfolding addR addedBy
-quick w m n r m′ e h = rw e h
+quick : (x : Engine) (m : List ℕ) (n : ℕ) (r : Rec) (m′ : List ℕ) → x ≡ Engine.Quick → m′ ≡ pushR m n r → m′ ≡ addR x m n r
+unfolding addR
+quick x m n r m′ e h = rw e h
 
-plainly : (w : Setup) (m : List ℕ) (n : ℕ) (r : Rec) (m′ : List ℕ) → w .engine ≡ Engine.Plain → m′ ≡ putR m n r → m′ ≡ addR w m n r
-unfolding addR addedBy
-plainly w m n r m′ e h = rw e h
+plainly : (x : Engine) (m : List ℕ) (n : ℕ) (r : Rec) (m′ : List ℕ) → x ≡ Engine.Plain → m′ ≡ putR m n r → m′ ≡ addR x m n r
+unfolding addR
+plainly x m n r m′ e h = rw e h
 
 returns : tie.Need-returns
 returns c = quick _ _ _ _ _ (c .before .before .before .before .enum-told .given .1) (c .before .before .push .ensures)

@@ -7,19 +7,18 @@ use Rattle.records.specs.Records.{getR}
 use Rattle.heap.specs.Heap.{popR}
 use Rattle.plain.specs.Plain.{leastR, takeR}
 use Rattle.queue.specs.declared.Engine.{Engine}
-use Rattle.queue.specs.declared.Setup.{Setup}
-use Rattle.queue.specs.Queue.{nextBy, restBy, nextR, restR}
+use Rattle.queue.specs.Queue.{nextR, restR}
 use borrow.Author.Needs.{needs}
 use Rattle.queue.proofs.take.Statement.{statement}
 use Rattle.queue.proofs.take.Tie as tie
 
-quick : (w : Setup) (m : List ℕ) (n : ℕ) (r : Rec) (m′ : List ℕ) → w .engine ≡ Engine.Quick → (r ≡ getR m 0) × (m′ ≡ popR (w .rule) m n) → (r ≡ nextR w m n) × (m′ ≡ restR w m n)
-unfolding nextR nextBy restR restBy
-quick w m n r m′ e h = rw e h
+quick : (x : Engine) (m : List ℕ) (n : ℕ) (r : Rec) (m′ : List ℕ) → x ≡ Engine.Quick → (r ≡ getR m 0) × (m′ ≡ popR m n) → (r ≡ nextR x m n) × (m′ ≡ restR x m n)
+unfolding nextR restR
+quick x m n r m′ e h = rw e h
 
-plainly : (w : Setup) (m : List ℕ) (n : ℕ) (r : Rec) (m′ : List ℕ) → w .engine ≡ Engine.Plain → (r ≡ getR m (leastR (w .rule) m n)) × (m′ ≡ takeR (w .rule) m n) → (r ≡ nextR w m n) × (m′ ≡ restR w m n)
-unfolding nextR nextBy restR restBy
-plainly w m n r m′ e h = rw e h
+plainly : (x : Engine) (m : List ℕ) (n : ℕ) (r : Rec) (m′ : List ℕ) → x ≡ Engine.Plain → (r ≡ getR m (leastR m n)) × (m′ ≡ takeR m n) → (r ≡ nextR x m n) × (m′ ≡ restR x m n)
+unfolding nextR restR
+plainly x m n r m′ e h = rw e h
 
 returns : tie.Need-returns
 returns c = quick _ _ _ _ _ (c .before .before .before .before .enum-told .given .1) (c .before .before .pop .ensures)

@@ -38,6 +38,18 @@ mul-t14 c = search needs
 shared-slice-read-t16 : tie.Need-shared-slice-read-t16
 shared-slice-read-t16 c = search needs
 
+mul-t17 : tie.Need-mul-t17
+mul-t17 c = search needs
+
+add-t18 : tie.Need-add-t18
+add-t18 c = search needs
+
+mul-t19 : tie.Need-mul-t19
+mul-t19 c = search needs
+
+shared-slice-read-t21 : tie.Need-shared-slice-read-t21
+shared-slice-read-t21 c = search needs
+
 returns : tie.Need-returns
 unfolding getR
 returns c = refl
@@ -57,4 +69,8 @@ get-spec =
     add-t13
     mul-t14
     shared-slice-read-t16
+    mul-t17
+    add-t18
+    mul-t19
+    shared-slice-read-t21
     returns)

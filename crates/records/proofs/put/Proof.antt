@@ -40,6 +40,18 @@ mul-m-6 c = search needs
 slice-write-m-3 : tie.Need-slice-write-m-3
 slice-write-m-3 c = simp length-set (omega arith)
 
+mul-m-7 : tie.Need-mul-m-7
+mul-m-7 c = search needs
+
+add-m-3 : tie.Need-add-m-3
+add-m-3 c = search needs
+
+mul-m-8 : tie.Need-mul-m-8
+mul-m-8 c = search needs
+
+slice-write-m-4 : tie.Need-slice-write-m-4
+slice-write-m-4 c = simp length-set (omega arith)
+
 same-length : tie.Need-same-length
 same-length c = search needs
 
@@ -62,5 +74,9 @@ put-spec =
     add-m-2
     mul-m-6
     slice-write-m-3
+    mul-m-7
+    add-m-3
+    mul-m-8
+    slice-write-m-4
     same-length
     returns)

@@ -8,7 +8,7 @@ use Rattle.replies.proofs.put_ok.Tie as tie
 
 returns : tie.Need-returns
 unfolding okText ascii
-returns c = wrote-then (c .before .before .before .before .before .before .before .before .before .before .before .before .before .before .before .before .put-number .ensures) (wrote-then (c .before .before .before .before .before .before .before .before .before .before .before .put-number2 .ensures) (wrote-then (c .before .before .before .before .before .before .put .ensures) (c .before .before .put-counted .ensures)))
+returns c = wrote-then (c .before .before .before .before .before .before .before .before .before .before .before .before .before .before .before .put-number .ensures) (wrote-then (c .before .before .before .before .before .before .before .before .before .before .before .put-totals .ensures) (wrote-then (c .before .before .before .before .before .before .put .ensures) (c .before .before .put-counted .ensures)))
 
 pub put-ok-spec : {M : Type 1} → statement M
 put-ok-spec =
@@ -16,7 +16,6 @@ put-ok-spec =
     (tie.spec
     (λ c. search needs)
     (λ c κs. search needs)
-    (λ c. search needs)
     (λ c κs. search needs)
     (λ c. search needs)
     (λ c κs. search needs)

@@ -7,10 +7,10 @@ use Rattle.requests.proofs.put_answer.Statement.{statement}
 use Rattle.requests.proofs.put_answer.Tie as tie
 
 slice-aggregate-put-ok : tie.Need-slice-aggregate-put-ok
-slice-aggregate-put-ok c = sym (length-take-le _ _ (c .before .before .before .before .before .before .before .pre))
+slice-aggregate-put-ok c = sym (length-take-le _ _ (c .before .before .before .before .before .before .before .before .pre))
 
 returns : tie.Need-returns
-returns c = wrote-done _ _ _ _ _ _ (c .before .before .before .before .before .before .if1 .taken) (c .before .before .put-ok .ensures)
+returns c = wrote-done _ _ _ _ _ _ (c .before .before .before .before .before .before .before .if1 .taken) (c .before .before .put-ok .ensures)
 
 returns-2 : tie.Need-returns-2
 returns-2 c = wrote-refused _ _ _ _ _ _ (c .before .before .before .before .if1 .left) (c .before .before .put-refused .ensures)

@@ -2,6 +2,7 @@
 use mathlib.Core.Path.{sym}
 use borrow.Author.Tests.{eq-eqb, ne-eqb}
 use Rattle.selftest.specs.Selftest.{sameAnswer}
+use borrow.Author.Needs.{needs}
 use Rattle.selftest.proofs.same_answer.Statement.{statement}
 use Rattle.selftest.proofs.same_answer.Tie as tie
 
@@ -19,7 +20,7 @@ returns-3 c = sym (rw (eq-eqb _ _ (c .before .before .before .before .before .be
 
 returns-4 : tie.Need-returns-4
 unfolding sameAnswer
-returns-4 c = sym (rw (eq-eqb _ _ (c .before .before .before .before .before .before .before .before .if1 .left), eq-eqb _ _ (c .before .before .before .before .before .if2 .left), eq-eqb _ _ (c .before .before .if3 .left)))
+returns-4 c = sym (rw (eq-eqb _ _ (c .before .before .before .before .before .before .before .before .before .if1 .left), eq-eqb _ _ (c .before .before .before .before .before .before .if2 .left), eq-eqb _ _ (c .before .before .before .if3 .left)) (sym (c .same .ensures)))
 
 pub same-answer-spec : {M : Type 1} → statement M
-same-answer-spec = tie.close (tie.spec returns returns-2 returns-3 returns-4)
+same-answer-spec = tie.close (tie.spec returns returns-2 returns-3 (λ c κs. search needs) returns-4)

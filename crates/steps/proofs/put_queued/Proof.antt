@@ -1,18 +1,18 @@
--- `steps::put_pairs`: the place lies in the list.
+-- `steps::put_queued`: the place lies in the list.
 use Prim.Native.Nat.{_-_, _≤_}
 use lib.ListN.{length}
 use borrow.Author.Needs.{needs}
-use Rattle.steps.proofs.put_pairs.Statement.{statement}
-use Rattle.steps.proofs.put_pairs.Tie as tie
+use Rattle.steps.proofs.put_queued.Statement.{statement}
+use Rattle.steps.proofs.put_queued.Tie as tie
 
 abbrev Inv-loop : tie.InvT-loop
-Inv-loop page₀ at pairs n₀ i₀ page n i = i ≤ length pairs
+Inv-loop page₀ at queued n₀ i₀ page n i = i ≤ length queued
 
 abbrev μ-loop : tie.MeasureT-loop
-μ-loop page₀ at pairs n₀ i₀ page n i = length pairs - i
+μ-loop page₀ at queued n₀ i₀ page n i = length queued - i
 
-pub put-pairs-spec : {M : Type 1} → statement M
-put-pairs-spec =
+pub put-queued-spec : {M : Type 1} → statement M
+put-queued-spec =
     tie.close
     (tie.spec
     Inv-loop
