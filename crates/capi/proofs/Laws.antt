@@ -3,13 +3,9 @@ use mathlib.Core.Path.{_≡_, sym, ap, _∙_, subst}
 use mathlib.Core.Bool.{Bool, true}
 use mathlib.Core.List.{List}
 use Prim.Native.Nat.{ℕ}
-use lib.ListN.{length}
 use mir.Val.{boolByte}
-use Rattle.region.specs.Region.{Area}
-use Rattle.run.specs.declared.RegionCoverer.{RegionCoverer}
 use Rattle.covering.specs.declared.Answer.{Answer}
-use Rattle.covering.specs.declared.Kind.{Kind}
-use Rattle.covering.specs.Covering.{Result, resultOf, answerOf, Answered}
+use Rattle.covering.specs.Covering.{Result, answerOf, Answered}
 use Rattle.ranges.specs.declared.Answer as ListAnswer
 use Rattle.ranges.specs.Ranges as Ranges
 use Rattle.tokens.specs.declared.Answer as Tokens
@@ -21,15 +17,9 @@ module _ {R : Result} {number count steps : ℕ} {mem mem′ out out′ aside : 
   pub answered-called : {a : Answer} → Answered R a mem mem′ out out′ → Told a number count steps aside → Called R number mem mem′ out out′ count steps aside
   answered-called A t = record { told = subst (λ (x : Answer). Told x number count steps aside) (A .answer) t; memory = A .memory; output = A .output }
 
-  -- and what a call leaves is an answer: whatever is promised of public answers is promised of calls
+  -- and what a call leaves is an answer, with the totals that its six words are: whatever is promised of public answers is promised of calls
   pub called-answered : Called R number mem mem′ out out′ count steps aside → Answered R (record { number = number; count = count; steps = steps; aside = answerOf R .aside }) mem mem′ out out′
   called-answered C = record { answer = rw (C .told .is, C .told .counted, C .told .taken); memory = C .memory; output = C .output }
-
--- a call for c and A is one for the request and the area that its numbers make
-pub call-made : (k : Kind) (c c′ : RegionCoverer) (A A′ : Area) (allowance number : ℕ) (mem mem′ out out′ : List ℕ) (count steps : ℕ) (aside : List ℕ) → c ≡ c′ → A ≡ A′
-    → Called (resultOf k c A allowance (length mem) (length out)) number mem mem′ out out′ count steps aside
-    → Called (resultOf k c′ A′ allowance (length mem) (length out)) number mem mem′ out out′ count steps aside
-call-made k c c′ A A′ allowance number mem mem′ out out′ count steps aside p q = rw (p, q) (λ C. C)
 
 -- any two results that a contract allows are one
 pub determined : (R : Result) (n n′ : ℕ) (m m₁ m₂ o o₁ o₂ : List ℕ) (k k′ s s′ : ℕ) (t t′ : List ℕ) → Called R n m m₁ o o₁ k s t → Called R n′ m m₂ o o₂ k′ s′ t′

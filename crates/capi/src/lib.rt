@@ -1,8 +1,7 @@
 // The public answers for programs in C or Rust: functions on numbers and slices, under plain names, with no requirement on the caller. Each returns the
-// papers' number, 0 for success, and writes the values of the answer through `count`, `steps` and `aside`. Those whose names end in `_by` do the same by
-// the quick engine, by the plain one, or by both, and write through `agree` whether they agree.
+// papers' number, 0 for success, and writes the values of the answer through `count`, `steps` and `aside`, which takes six totals. Those whose names end in `_by`
+// do the same by the quick engine, by the plain one, or by both, and write through `agree` whether they agree.
 ghost use mathlib.Core.Path.{_≡_};
-ghost use mathlib.Core.List.{[]};
 ghost use lib.ListN.{length};
 ghost use Rattle.covering.specs.declared.Ending.{Ending};
 ghost use Rattle.covering.specs.declared.Kind.{Kind};
@@ -27,31 +26,6 @@ use run::RegionCoverer;
 use sets::Op;
 use tokens::Form;
 
-fn region_coverer(min_level: u64, max_level: u64, level_mod: u64, max_cells: u64) -> RegionCoverer
-    ensures { λ r. ⌜ r ≡ regionCoverer «min_level» «max_level» «level_mod» «max_cells» ⌝ }
-{
-    RegionCoverer {
-        min_level,
-        max_level,
-        level_mod,
-        max_cells,
-    }
-}
-
-fn cap_region(x: f64, y: f64, z: f64, radius: f64) -> Region
-    ensures { λ r. ⌜ areaOf r [] ≡ capGiven x y z radius ⌝ }
-{
-    let center = Point { x, y, z };
-    let cap = Cap { center, radius };
-    Region::Cap(cap)
-}
-
-fn cell_region(id: u64) -> Region
-    ensures { λ r. ⌜ areaOf r [] ≡ cellArea id ⌝ }
-{
-    Region::Cell(id)
-}
-
 // The number of an answer; its values go through the references.
 fn tell(a: Answer, count: &mut u64, steps: &mut u64, aside: &mut [u64; 6]) -> u64
     ensures { λ r. ⌜ Told a r (now (count .exit)) (now (steps .exit)) (now (aside .exit)) ⌝ }
@@ -63,10 +37,13 @@ fn tell(a: Answer, count: &mut u64, steps: &mut u64, aside: &mut [u64; 6]) -> u6
     a.number
 }
 
-// A request of any kind for a cap or a cell, which need no list: the functions below are its cases.
-fn call(
+// A request of any kind for a cap: the functions below that take one are its cases.
+fn call_cap(
     kind: Kind,
-    g: Region,
+    x: f64,
+    y: f64,
+    z: f64,
+    radius: f64,
     c: RegionCoverer,
     allowance: u32,
     mem: &mut [u64],
@@ -75,8 +52,30 @@ fn call(
     steps: &mut u64,
     aside: &mut [u64; 6],
 ) -> u64
-    ensures { λ r. ⌜ Called (resultOf kind c (areaOf g []) allowance (length (now (mem .entry))) (length (now (out .entry)))) r (now (mem .entry)) (now (mem .exit)) (now (out .entry)) (now (out .exit)) (now (count .exit)) (now (steps .exit)) (now (aside .exit)) ⌝ }
+    ensures { λ r. ⌜ Called (resultOf kind c (capGiven x y z radius) allowance (length (now (mem .entry))) (length (now (out .entry)))) r (now (mem .entry)) (now (mem .exit)) (now (out .entry)) (now (out .exit)) (now (count .exit)) (now (steps .exit)) (now (aside .exit)) ⌝ }
 {
+    let center = Point { x, y, z };
+    let cap = Cap { center, radius };
+    let g = Region::Cap(cap);
+    let a = covering::respond(Engine::Quick, kind, c, g, &[], allowance, mem, out);
+    tell(a, count, steps, aside)
+}
+
+// A request of any kind for a cell: the functions below that take one are its cases.
+fn call_cell(
+    kind: Kind,
+    id: u64,
+    c: RegionCoverer,
+    allowance: u32,
+    mem: &mut [u64],
+    out: &mut [u64],
+    count: &mut u64,
+    steps: &mut u64,
+    aside: &mut [u64; 6],
+) -> u64
+    ensures { λ r. ⌜ Called (resultOf kind c (cellArea id) allowance (length (now (mem .entry))) (length (now (out .entry)))) r (now (mem .entry)) (now (mem .exit)) (now (out .entry)) (now (out .exit)) (now (count .exit)) (now (steps .exit)) (now (aside .exit)) ⌝ }
+{
+    let g = Region::Cell(id);
     let a = covering::respond(Engine::Quick, kind, c, g, &[], allowance, mem, out);
     tell(a, count, steps, aside)
 }
@@ -128,10 +127,27 @@ pub extern "C" fn flaxbadger_covering_cap(
 ) -> u64
     ensures { λ r. ⌜ Called (resultOf (Kind.Outer Ending.Covering) (regionCoverer «min_level» «max_level» «level_mod» «max_cells») (capGiven x y z radius) allowance (length (now (mem .entry))) (length (now (out .entry)))) r (now (mem .entry)) (now (mem .exit)) (now (out .entry)) (now (out .exit)) (now (count .exit)) (now (steps .exit)) (now (aside .exit)) ⌝ }
 {
-    let c = region_coverer(min_level, max_level, level_mod, max_cells);
-    let g = cap_region(x, y, z, radius);
+    let c = RegionCoverer {
+        min_level,
+        max_level,
+        level_mod,
+        max_cells,
+    };
     let kind = Kind::Outer(Ending::Covering);
-    call(kind, g, c, allowance, mem, out, count, steps, aside)
+    call_cap(
+        kind,
+        x,
+        y,
+        z,
+        radius,
+        c,
+        allowance,
+        mem,
+        out,
+        count,
+        steps,
+        aside,
+    )
 }
 
 // The covering: cells of levels min_level to max_level, in whole steps of level_mod, that cover the region as the outer run does. Of a cell.
@@ -151,10 +167,14 @@ pub extern "C" fn flaxbadger_covering_cell(
 ) -> u64
     ensures { λ r. ⌜ Called (resultOf (Kind.Outer Ending.Covering) (regionCoverer «min_level» «max_level» «level_mod» «max_cells») (cellArea id) allowance (length (now (mem .entry))) (length (now (out .entry)))) r (now (mem .entry)) (now (mem .exit)) (now (out .entry)) (now (out .exit)) (now (count .exit)) (now (steps .exit)) (now (aside .exit)) ⌝ }
 {
-    let c = region_coverer(min_level, max_level, level_mod, max_cells);
-    let g = cell_region(id);
+    let c = RegionCoverer {
+        min_level,
+        max_level,
+        level_mod,
+        max_cells,
+    };
     let kind = Kind::Outer(Ending::Covering);
-    call(kind, g, c, allowance, mem, out, count, steps, aside)
+    call_cell(kind, id, c, allowance, mem, out, count, steps, aside)
 }
 
 // The covering: cells of levels min_level to max_level, in whole steps of level_mod, that cover the region as the outer run does. Of a list.
@@ -174,7 +194,12 @@ pub extern "C" fn flaxbadger_covering_list(
 ) -> u64
     ensures { λ r. ⌜ Called (resultOf (Kind.Outer Ending.Covering) (regionCoverer «min_level» «max_level» «level_mod» «max_cells») (listArea (now (list .entry))) allowance (length (now (mem .entry))) (length (now (out .entry)))) r (now (mem .entry)) (now (mem .exit)) (now (out .entry)) (now (out .exit)) (now (count .exit)) (now (steps .exit)) (now (aside .exit)) ⌝ }
 {
-    let c = region_coverer(min_level, max_level, level_mod, max_cells);
+    let c = RegionCoverer {
+        min_level,
+        max_level,
+        level_mod,
+        max_cells,
+    };
     let kind = Kind::Outer(Ending::Covering);
     call_list(kind, list, c, allowance, mem, out, count, steps, aside)
 }
@@ -199,10 +224,27 @@ pub extern "C" fn flaxbadger_cellunion_cap(
 ) -> u64
     ensures { λ r. ⌜ Called (resultOf (Kind.Outer Ending.CellUnion) (regionCoverer «min_level» «max_level» «level_mod» «max_cells») (capGiven x y z radius) allowance (length (now (mem .entry))) (length (now (out .entry)))) r (now (mem .entry)) (now (mem .exit)) (now (out .entry)) (now (out .exit)) (now (count .exit)) (now (steps .exit)) (now (aside .exit)) ⌝ }
 {
-    let c = region_coverer(min_level, max_level, level_mod, max_cells);
-    let g = cap_region(x, y, z, radius);
+    let c = RegionCoverer {
+        min_level,
+        max_level,
+        level_mod,
+        max_cells,
+    };
     let kind = Kind::Outer(Ending::CellUnion);
-    call(kind, g, c, allowance, mem, out, count, steps, aside)
+    call_cap(
+        kind,
+        x,
+        y,
+        z,
+        radius,
+        c,
+        allowance,
+        mem,
+        out,
+        count,
+        steps,
+        aside,
+    )
 }
 
 // The outer run's raw list, normalised; nothing is promised of levels. Of a cell.
@@ -222,10 +264,14 @@ pub extern "C" fn flaxbadger_cellunion_cell(
 ) -> u64
     ensures { λ r. ⌜ Called (resultOf (Kind.Outer Ending.CellUnion) (regionCoverer «min_level» «max_level» «level_mod» «max_cells») (cellArea id) allowance (length (now (mem .entry))) (length (now (out .entry)))) r (now (mem .entry)) (now (mem .exit)) (now (out .entry)) (now (out .exit)) (now (count .exit)) (now (steps .exit)) (now (aside .exit)) ⌝ }
 {
-    let c = region_coverer(min_level, max_level, level_mod, max_cells);
-    let g = cell_region(id);
+    let c = RegionCoverer {
+        min_level,
+        max_level,
+        level_mod,
+        max_cells,
+    };
     let kind = Kind::Outer(Ending::CellUnion);
-    call(kind, g, c, allowance, mem, out, count, steps, aside)
+    call_cell(kind, id, c, allowance, mem, out, count, steps, aside)
 }
 
 // The outer run's raw list, normalised; nothing is promised of levels. Of a list.
@@ -245,7 +291,12 @@ pub extern "C" fn flaxbadger_cellunion_list(
 ) -> u64
     ensures { λ r. ⌜ Called (resultOf (Kind.Outer Ending.CellUnion) (regionCoverer «min_level» «max_level» «level_mod» «max_cells») (listArea (now (list .entry))) allowance (length (now (mem .entry))) (length (now (out .entry)))) r (now (mem .entry)) (now (mem .exit)) (now (out .entry)) (now (out .exit)) (now (count .exit)) (now (steps .exit)) (now (aside .exit)) ⌝ }
 {
-    let c = region_coverer(min_level, max_level, level_mod, max_cells);
+    let c = RegionCoverer {
+        min_level,
+        max_level,
+        level_mod,
+        max_cells,
+    };
     let kind = Kind::Outer(Ending::CellUnion);
     call_list(kind, list, c, allowance, mem, out, count, steps, aside)
 }
@@ -270,10 +321,27 @@ pub extern "C" fn flaxbadger_raw_cap(
 ) -> u64
     ensures { λ r. ⌜ Called (resultOf (Kind.Outer Ending.Raw) (regionCoverer «min_level» «max_level» «level_mod» «max_cells») (capGiven x y z radius) allowance (length (now (mem .entry))) (length (now (out .entry)))) r (now (mem .entry)) (now (mem .exit)) (now (out .entry)) (now (out .exit)) (now (count .exit)) (now (steps .exit)) (now (aside .exit)) ⌝ }
 {
-    let c = region_coverer(min_level, max_level, level_mod, max_cells);
-    let g = cap_region(x, y, z, radius);
+    let c = RegionCoverer {
+        min_level,
+        max_level,
+        level_mod,
+        max_cells,
+    };
     let kind = Kind::Outer(Ending::Raw);
-    call(kind, g, c, allowance, mem, out, count, steps, aside)
+    call_cap(
+        kind,
+        x,
+        y,
+        z,
+        radius,
+        c,
+        allowance,
+        mem,
+        out,
+        count,
+        steps,
+        aside,
+    )
 }
 
 // The outer run's raw list, in the order kept. Of a cell.
@@ -293,10 +361,14 @@ pub extern "C" fn flaxbadger_raw_cell(
 ) -> u64
     ensures { λ r. ⌜ Called (resultOf (Kind.Outer Ending.Raw) (regionCoverer «min_level» «max_level» «level_mod» «max_cells») (cellArea id) allowance (length (now (mem .entry))) (length (now (out .entry)))) r (now (mem .entry)) (now (mem .exit)) (now (out .entry)) (now (out .exit)) (now (count .exit)) (now (steps .exit)) (now (aside .exit)) ⌝ }
 {
-    let c = region_coverer(min_level, max_level, level_mod, max_cells);
-    let g = cell_region(id);
+    let c = RegionCoverer {
+        min_level,
+        max_level,
+        level_mod,
+        max_cells,
+    };
     let kind = Kind::Outer(Ending::Raw);
-    call(kind, g, c, allowance, mem, out, count, steps, aside)
+    call_cell(kind, id, c, allowance, mem, out, count, steps, aside)
 }
 
 // The outer run's raw list, in the order kept. Of a list.
@@ -316,7 +388,12 @@ pub extern "C" fn flaxbadger_raw_list(
 ) -> u64
     ensures { λ r. ⌜ Called (resultOf (Kind.Outer Ending.Raw) (regionCoverer «min_level» «max_level» «level_mod» «max_cells») (listArea (now (list .entry))) allowance (length (now (mem .entry))) (length (now (out .entry)))) r (now (mem .entry)) (now (mem .exit)) (now (out .entry)) (now (out .exit)) (now (count .exit)) (now (steps .exit)) (now (aside .exit)) ⌝ }
 {
-    let c = region_coverer(min_level, max_level, level_mod, max_cells);
+    let c = RegionCoverer {
+        min_level,
+        max_level,
+        level_mod,
+        max_cells,
+    };
     let kind = Kind::Outer(Ending::Raw);
     call_list(kind, list, c, allowance, mem, out, count, steps, aside)
 }
@@ -341,10 +418,27 @@ pub extern "C" fn flaxbadger_interior_covering_cap(
 ) -> u64
     ensures { λ r. ⌜ Called (resultOf (Kind.Inner Ending.Covering) (regionCoverer «min_level» «max_level» «level_mod» «max_cells») (capGiven x y z radius) allowance (length (now (mem .entry))) (length (now (out .entry)))) r (now (mem .entry)) (now (mem .exit)) (now (out .entry)) (now (out .exit)) (now (count .exit)) (now (steps .exit)) (now (aside .exit)) ⌝ }
 {
-    let c = region_coverer(min_level, max_level, level_mod, max_cells);
-    let g = cap_region(x, y, z, radius);
+    let c = RegionCoverer {
+        min_level,
+        max_level,
+        level_mod,
+        max_cells,
+    };
     let kind = Kind::Inner(Ending::Covering);
-    call(kind, g, c, allowance, mem, out, count, steps, aside)
+    call_cap(
+        kind,
+        x,
+        y,
+        z,
+        radius,
+        c,
+        allowance,
+        mem,
+        out,
+        count,
+        steps,
+        aside,
+    )
 }
 
 // Cells inside the region, of levels min_level to max_level in whole steps of level_mod. Of a cell.
@@ -364,10 +458,14 @@ pub extern "C" fn flaxbadger_interior_covering_cell(
 ) -> u64
     ensures { λ r. ⌜ Called (resultOf (Kind.Inner Ending.Covering) (regionCoverer «min_level» «max_level» «level_mod» «max_cells») (cellArea id) allowance (length (now (mem .entry))) (length (now (out .entry)))) r (now (mem .entry)) (now (mem .exit)) (now (out .entry)) (now (out .exit)) (now (count .exit)) (now (steps .exit)) (now (aside .exit)) ⌝ }
 {
-    let c = region_coverer(min_level, max_level, level_mod, max_cells);
-    let g = cell_region(id);
+    let c = RegionCoverer {
+        min_level,
+        max_level,
+        level_mod,
+        max_cells,
+    };
     let kind = Kind::Inner(Ending::Covering);
-    call(kind, g, c, allowance, mem, out, count, steps, aside)
+    call_cell(kind, id, c, allowance, mem, out, count, steps, aside)
 }
 
 // Cells inside the region, of levels min_level to max_level in whole steps of level_mod. Of a list.
@@ -387,7 +485,12 @@ pub extern "C" fn flaxbadger_interior_covering_list(
 ) -> u64
     ensures { λ r. ⌜ Called (resultOf (Kind.Inner Ending.Covering) (regionCoverer «min_level» «max_level» «level_mod» «max_cells») (listArea (now (list .entry))) allowance (length (now (mem .entry))) (length (now (out .entry)))) r (now (mem .entry)) (now (mem .exit)) (now (out .entry)) (now (out .exit)) (now (count .exit)) (now (steps .exit)) (now (aside .exit)) ⌝ }
 {
-    let c = region_coverer(min_level, max_level, level_mod, max_cells);
+    let c = RegionCoverer {
+        min_level,
+        max_level,
+        level_mod,
+        max_cells,
+    };
     let kind = Kind::Inner(Ending::Covering);
     call_list(kind, list, c, allowance, mem, out, count, steps, aside)
 }
@@ -412,10 +515,27 @@ pub extern "C" fn flaxbadger_interior_cellunion_cap(
 ) -> u64
     ensures { λ r. ⌜ Called (resultOf (Kind.Inner Ending.CellUnion) (regionCoverer «min_level» «max_level» «level_mod» «max_cells») (capGiven x y z radius) allowance (length (now (mem .entry))) (length (now (out .entry)))) r (now (mem .entry)) (now (mem .exit)) (now (out .entry)) (now (out .exit)) (now (count .exit)) (now (steps .exit)) (now (aside .exit)) ⌝ }
 {
-    let c = region_coverer(min_level, max_level, level_mod, max_cells);
-    let g = cap_region(x, y, z, radius);
+    let c = RegionCoverer {
+        min_level,
+        max_level,
+        level_mod,
+        max_cells,
+    };
     let kind = Kind::Inner(Ending::CellUnion);
-    call(kind, g, c, allowance, mem, out, count, steps, aside)
+    call_cap(
+        kind,
+        x,
+        y,
+        z,
+        radius,
+        c,
+        allowance,
+        mem,
+        out,
+        count,
+        steps,
+        aside,
+    )
 }
 
 // The inner run's raw list, normalised; nothing is promised of levels. Of a cell.
@@ -435,10 +555,14 @@ pub extern "C" fn flaxbadger_interior_cellunion_cell(
 ) -> u64
     ensures { λ r. ⌜ Called (resultOf (Kind.Inner Ending.CellUnion) (regionCoverer «min_level» «max_level» «level_mod» «max_cells») (cellArea id) allowance (length (now (mem .entry))) (length (now (out .entry)))) r (now (mem .entry)) (now (mem .exit)) (now (out .entry)) (now (out .exit)) (now (count .exit)) (now (steps .exit)) (now (aside .exit)) ⌝ }
 {
-    let c = region_coverer(min_level, max_level, level_mod, max_cells);
-    let g = cell_region(id);
+    let c = RegionCoverer {
+        min_level,
+        max_level,
+        level_mod,
+        max_cells,
+    };
     let kind = Kind::Inner(Ending::CellUnion);
-    call(kind, g, c, allowance, mem, out, count, steps, aside)
+    call_cell(kind, id, c, allowance, mem, out, count, steps, aside)
 }
 
 // The inner run's raw list, normalised; nothing is promised of levels. Of a list.
@@ -458,7 +582,12 @@ pub extern "C" fn flaxbadger_interior_cellunion_list(
 ) -> u64
     ensures { λ r. ⌜ Called (resultOf (Kind.Inner Ending.CellUnion) (regionCoverer «min_level» «max_level» «level_mod» «max_cells») (listArea (now (list .entry))) allowance (length (now (mem .entry))) (length (now (out .entry)))) r (now (mem .entry)) (now (mem .exit)) (now (out .entry)) (now (out .exit)) (now (count .exit)) (now (steps .exit)) (now (aside .exit)) ⌝ }
 {
-    let c = region_coverer(min_level, max_level, level_mod, max_cells);
+    let c = RegionCoverer {
+        min_level,
+        max_level,
+        level_mod,
+        max_cells,
+    };
     let kind = Kind::Inner(Ending::CellUnion);
     call_list(kind, list, c, allowance, mem, out, count, steps, aside)
 }
@@ -483,10 +612,27 @@ pub extern "C" fn flaxbadger_interior_raw_cap(
 ) -> u64
     ensures { λ r. ⌜ Called (resultOf (Kind.Inner Ending.Raw) (regionCoverer «min_level» «max_level» «level_mod» «max_cells») (capGiven x y z radius) allowance (length (now (mem .entry))) (length (now (out .entry)))) r (now (mem .entry)) (now (mem .exit)) (now (out .entry)) (now (out .exit)) (now (count .exit)) (now (steps .exit)) (now (aside .exit)) ⌝ }
 {
-    let c = region_coverer(min_level, max_level, level_mod, max_cells);
-    let g = cap_region(x, y, z, radius);
+    let c = RegionCoverer {
+        min_level,
+        max_level,
+        level_mod,
+        max_cells,
+    };
     let kind = Kind::Inner(Ending::Raw);
-    call(kind, g, c, allowance, mem, out, count, steps, aside)
+    call_cap(
+        kind,
+        x,
+        y,
+        z,
+        radius,
+        c,
+        allowance,
+        mem,
+        out,
+        count,
+        steps,
+        aside,
+    )
 }
 
 // The inner run's raw list, in the order kept. Of a cell.
@@ -506,10 +652,14 @@ pub extern "C" fn flaxbadger_interior_raw_cell(
 ) -> u64
     ensures { λ r. ⌜ Called (resultOf (Kind.Inner Ending.Raw) (regionCoverer «min_level» «max_level» «level_mod» «max_cells») (cellArea id) allowance (length (now (mem .entry))) (length (now (out .entry)))) r (now (mem .entry)) (now (mem .exit)) (now (out .entry)) (now (out .exit)) (now (count .exit)) (now (steps .exit)) (now (aside .exit)) ⌝ }
 {
-    let c = region_coverer(min_level, max_level, level_mod, max_cells);
-    let g = cell_region(id);
+    let c = RegionCoverer {
+        min_level,
+        max_level,
+        level_mod,
+        max_cells,
+    };
     let kind = Kind::Inner(Ending::Raw);
-    call(kind, g, c, allowance, mem, out, count, steps, aside)
+    call_cell(kind, id, c, allowance, mem, out, count, steps, aside)
 }
 
 // The inner run's raw list, in the order kept. Of a list.
@@ -529,7 +679,12 @@ pub extern "C" fn flaxbadger_interior_raw_list(
 ) -> u64
     ensures { λ r. ⌜ Called (resultOf (Kind.Inner Ending.Raw) (regionCoverer «min_level» «max_level» «level_mod» «max_cells») (listArea (now (list .entry))) allowance (length (now (mem .entry))) (length (now (out .entry)))) r (now (mem .entry)) (now (mem .exit)) (now (out .entry)) (now (out .exit)) (now (count .exit)) (now (steps .exit)) (now (aside .exit)) ⌝ }
 {
-    let c = region_coverer(min_level, max_level, level_mod, max_cells);
+    let c = RegionCoverer {
+        min_level,
+        max_level,
+        level_mod,
+        max_cells,
+    };
     let kind = Kind::Inner(Ending::Raw);
     call_list(kind, list, c, allowance, mem, out, count, steps, aside)
 }
@@ -553,9 +708,26 @@ pub extern "C" fn flaxbadger_fast_covering_cap(
 ) -> u64
     ensures { λ r. ⌜ Called (resultOf Kind.Fast (regionCoverer «min_level» «max_level» «level_mod» «max_cells») (capGiven x y z radius) 0 (length (now (mem .entry))) (length (now (out .entry)))) r (now (mem .entry)) (now (mem .exit)) (now (out .entry)) (now (out .exit)) (now (count .exit)) (now (steps .exit)) (now (aside .exit)) ⌝ }
 {
-    let c = region_coverer(min_level, max_level, level_mod, max_cells);
-    let g = cap_region(x, y, z, radius);
-    call(Kind::Fast, g, c, 0, mem, out, count, steps, aside)
+    let c = RegionCoverer {
+        min_level,
+        max_level,
+        level_mod,
+        max_cells,
+    };
+    call_cap(
+        Kind::Fast,
+        x,
+        y,
+        z,
+        radius,
+        c,
+        0,
+        mem,
+        out,
+        count,
+        steps,
+        aside,
+    )
 }
 
 // The quick, coarse covering of the region's bound, with no run and 0 steps. Of a cell.
@@ -574,9 +746,13 @@ pub extern "C" fn flaxbadger_fast_covering_cell(
 ) -> u64
     ensures { λ r. ⌜ Called (resultOf Kind.Fast (regionCoverer «min_level» «max_level» «level_mod» «max_cells») (cellArea id) 0 (length (now (mem .entry))) (length (now (out .entry)))) r (now (mem .entry)) (now (mem .exit)) (now (out .entry)) (now (out .exit)) (now (count .exit)) (now (steps .exit)) (now (aside .exit)) ⌝ }
 {
-    let c = region_coverer(min_level, max_level, level_mod, max_cells);
-    let g = cell_region(id);
-    call(Kind::Fast, g, c, 0, mem, out, count, steps, aside)
+    let c = RegionCoverer {
+        min_level,
+        max_level,
+        level_mod,
+        max_cells,
+    };
+    call_cell(Kind::Fast, id, c, 0, mem, out, count, steps, aside)
 }
 
 // The quick, coarse covering of the region's bound, with no run and 0 steps. Of a list.
@@ -595,7 +771,12 @@ pub extern "C" fn flaxbadger_fast_covering_list(
 ) -> u64
     ensures { λ r. ⌜ Called (resultOf Kind.Fast (regionCoverer «min_level» «max_level» «level_mod» «max_cells») (listArea (now (list .entry))) 0 (length (now (mem .entry))) (length (now (out .entry)))) r (now (mem .entry)) (now (mem .exit)) (now (out .entry)) (now (out .exit)) (now (count .exit)) (now (steps .exit)) (now (aside .exit)) ⌝ }
 {
-    let c = region_coverer(min_level, max_level, level_mod, max_cells);
+    let c = RegionCoverer {
+        min_level,
+        max_level,
+        level_mod,
+        max_cells,
+    };
     call_list(Kind::Fast, list, c, 0, mem, out, count, steps, aside)
 }
 

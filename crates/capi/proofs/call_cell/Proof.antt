@@ -1,14 +1,16 @@
--- `capi::call` meets its contract: the answer is told. Assumes nothing.
+-- `capi::call_cell` meets its contract: the answer is told. Assumes nothing.
 use borrow.Author.Needs.{needs}
+use Rattle.region.specs.Region.{areaOf}
 use Rattle.capi.proofs.Laws.{answered-called}
-use Rattle.capi.proofs.call.Statement.{statement}
-use Rattle.capi.proofs.call.Tie as tie
+use Rattle.capi.proofs.call_cell.Statement.{statement}
+use Rattle.capi.proofs.call_cell.Tie as tie
 
 returns : tie.Need-returns
+unfolding areaOf
 returns c = answered-called (c .before .before .before .before .before .before .before .before .respond .ensures) (c .tell .ensures)
 
-pub call-spec : {M : Type 1} → statement M
-call-spec =
+pub call-cell-spec : {M : Type 1} → statement M
+call-cell-spec =
     tie.close
     (tie.spec
     (λ c. search needs)
