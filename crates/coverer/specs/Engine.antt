@@ -123,7 +123,7 @@ module _ (e : Engine) (T : Task) where
     pub others : (j : ℕ) → i ≢ j → v j ≡ asideFrom s j
     pub steps : t .steps ≡ s .steps
 
-  -- the memory m and an answer stand for an outcome
+  -- in such a turn: the memory m and an answer stand for an outcome
   unfoldable pub Gives : ℕ → (ℕ → ℕ) → List ℕ → Turn → Outcome → Type 0
   Gives i v m (Turn.Refused n) o = o ≡ refused n
   Gives i v m (Turn.Going t) o = (s : State) × (o ≡ going s) × Stands i v m t s
@@ -137,7 +137,7 @@ module _ (e : Engine) (T : Task) where
   pub record Holds (m : List ℕ) (t : Tally) (s : State) : Type 0 where
     pub at : (i : ℕ) → Stands i (totalAt (t .aside)) m (countsAt i t) s
 
-  -- the memory m and an answer stand for an outcome
+  -- between turns: the memory m and an answer stand for an outcome
   unfoldable pub Leads : List ℕ → Stage → Outcome → Type 0
   Leads m (Stage.Refused n) o = o ≡ refused n
   Leads m (Stage.Going t) o = (s : State) × (o ≡ going s) × Holds m t s

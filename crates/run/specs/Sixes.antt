@@ -14,10 +14,10 @@ placesMost = 6
 unfoldable pub asideFrom : State → ℕ → ℕ
 asideFrom s i = sumOf leavesOf (grownFrom i (s .aside))
 
+-- the six totals, of the start cells 0 to 5
+unfoldable pub asideSix : State → Totals
+asideSix s = totalsBy (asideFrom s)
+
 -- six totals together
 abbrev pub sumOfSix : Totals → ℕ
 sumOfSix t = sumOf (λ n. n) (sixOf t)
-
--- those of the start cells 0 to 5
-unfoldable pub asideSix : State → Totals
-asideSix s = totalsBy (asideFrom s)
