@@ -24,6 +24,7 @@ REFUSALS = {
     9: "the allowance of steps is used up",
     10: "the list is longer than the output",
     13: "more than 256 orders, nothing was run",
+    14: "the edition is not 1 or 2",
     15: "the first list is not valid, ascending and free of overlap, or has over 4,096 ids",
     16: "the second list is not valid, ascending and free of overlap, or has over 4,096 ids",
     17: "the answer is longer than the output",
@@ -54,6 +55,11 @@ PLACES = 6  # start cells of a run, at most, and totals of an answer
 def figures(words):
     """The words of an answer of a run after `ok`: its steps, the leaves set aside under each start cell, and the names of its cells."""
     return int(words[0]), [int(word) for word in words[1:1 + PLACES]], words[2 + PLACES:]
+
+
+def edition_of(words):
+    """The edition that the words of a request or an order name; 1 where they name none."""
+    return next((int(word.removeprefix("edition=")) for word in words if word.startswith("edition=")), 1)
 
 
 def words(who, line, answer):

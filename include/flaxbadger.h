@@ -33,6 +33,8 @@
  *    2  min_level is over max_level                              mem unchanged
  *    3  level_mod is not 1, 2 or 3                               mem unchanged
  *    4  max_cells is over 1,000                                  mem unchanged
+ *   14  edition is not 1 or 2, of functions that take one        mem unchanged
+ *       and of a night's orders
  *    5  the region is outside the domain: a centre that is not   mem unchanged
  *       finite or not of unit length, a radius that is not
  *       finite or over 4, an id that is not a cell, a list
@@ -42,9 +44,9 @@
  *    8  the run would keep a 1,025th raw cell                    first 5,120 words of mem zero
  *    9  the queue isn't empty and the allowance is used up       first 5,120 words of mem zero
  *   10  the answer is longer than out_len                        first 5,120 words of mem zero
- * 1 to 6 are tested in that order, before anything else; 7 to 9 come as the run meets them. A refusal leaves the output as it was
- * and writes 0 to count, to steps and to all six of aside. A success leaves the ids in the first `count` places of the output, the rest
- * of the output as it was, and the first 5,120 words of mem zero.
+ * 1 to 4, 14, 5 and 6 are tested in that order, before anything else; 7 to 9 come as the run meets them. A refusal leaves the output as
+ * it was and writes 0 to count, to steps and to all six of aside. A success leaves the ids in the first `count` places of the output, the
+ * rest of the output as it was, and the first 5,120 words of mem zero.
  */
 #ifndef FLAXBADGER_H
 #define FLAXBADGER_H
@@ -65,6 +67,7 @@ extern "C" {
 #define FLAXBADGER_CELL uint64_t id
 #define FLAXBADGER_LIST const uint64_t *list, size_t list_len
 #define FLAXBADGER_LEVELS uint64_t min_level, uint64_t max_level, uint64_t level_mod, uint64_t max_cells
+#define FLAXBADGER_NUMBERS FLAXBADGER_LEVELS, uint64_t edition
 #define FLAXBADGER_BUFFERS \
     uint64_t *mem, size_t mem_len, uint64_t *out, size_t out_len, uint64_t *count, uint64_t *steps, uint64_t aside[FLAXBADGER_STARTS]
 
@@ -101,42 +104,51 @@ uint64_t flaxbadger_fast_covering_cap(FLAXBADGER_CAP, FLAXBADGER_LEVELS, FLAXBAD
 uint64_t flaxbadger_fast_covering_cell(FLAXBADGER_CELL, FLAXBADGER_LEVELS, FLAXBADGER_BUFFERS);
 uint64_t flaxbadger_fast_covering_list(FLAXBADGER_LIST, FLAXBADGER_LEVELS, FLAXBADGER_BUFFERS);
 
-/* EITHER ENGINE, OR BOTH. A run always goes on with the first of the candidates that wait, in a fixed order. Two engines are here that
- * find it: the quick one keeps them in a heap; the plain one keeps them in a simple list, and looks through all of it at each step. They
- * are proved to agree: on every request both give the same number, count, steps and aside, the same ids in the output and the same words
- * in mem. So each function below does what the one of its name without _by does, whichever engine is asked. With both it is a self-test.
+/* EITHER EDITION, BY EITHER ENGINE OR BOTH. A run always goes on with the first of the candidates that wait. In which order they stand is
+ * said by the edition: the functions above are of edition 1, and each function below does what the one of its name without _by does, in the
+ * edition that it is given. Two engines are here that find the first: the quick one keeps the candidates in a heap; the plain one keeps them
+ * in a simple list, and looks through all of it at each step. They are proved to agree: on every request, in either edition, both give the
+ * same number, count, steps and aside, the same ids in the output and the same words in mem. So the answer is the same whichever engine is
+ * asked. With both it is a self-test.
  *
  *   engines   FLAXBADGER_QUICK for the quick engine, FLAXBADGER_PLAIN for the plain one; FLAXBADGER_BOTH, or any other number, for both,
  *             one after the other. No number is wrong
+ *   edition   1 or 2; any other number is refused with 14. What has to be cut again as it was is asked for in the edition that it was cut
+ *             in, and all that was cut before there were two is of edition 1
  *   agree     where it is written whether all engines that were asked gave the same answer: 1 if they did, which is proved. 0 tells of a
  *             fault of the machine, of its memory or its processor, and then the answer is not to be used
  *
+ * Edition 2 takes the larger cell first; of one level the one with fewer children to go on with; of these the one with fewer that would be
+ * kept as they are; then the smaller id; and of a cell that waits twice the one grown from the earlier start cell. Edition 1 does the same
+ * but for one pair: a cell with all 4^level_mod children, each of which would be kept as it is, and a cell one level deeper with a single
+ * child that would not. There it takes the smaller id, where edition 2 takes the larger cell.
+ *
  * The other arguments, the result and what is left in the buffers are as said above; agree may not overlap any of them. The quick, coarse
- * covering has no candidates that wait, and so no engine. */
+ * covering has no candidates that wait, and so neither engine nor edition. */
 #define FLAXBADGER_QUICK 0
 #define FLAXBADGER_PLAIN 1
 #define FLAXBADGER_BOTH 2
 
 #define FLAXBADGER_TESTED FLAXBADGER_BUFFERS, uint64_t *agree
 
-uint64_t flaxbadger_covering_cap_by(uint64_t engines, FLAXBADGER_CAP, FLAXBADGER_LEVELS, uint32_t allowance, FLAXBADGER_TESTED);
-uint64_t flaxbadger_covering_cell_by(uint64_t engines, FLAXBADGER_CELL, FLAXBADGER_LEVELS, uint32_t allowance, FLAXBADGER_TESTED);
-uint64_t flaxbadger_covering_list_by(uint64_t engines, FLAXBADGER_LIST, FLAXBADGER_LEVELS, uint32_t allowance, FLAXBADGER_TESTED);
-uint64_t flaxbadger_cellunion_cap_by(uint64_t engines, FLAXBADGER_CAP, FLAXBADGER_LEVELS, uint32_t allowance, FLAXBADGER_TESTED);
-uint64_t flaxbadger_cellunion_cell_by(uint64_t engines, FLAXBADGER_CELL, FLAXBADGER_LEVELS, uint32_t allowance, FLAXBADGER_TESTED);
-uint64_t flaxbadger_cellunion_list_by(uint64_t engines, FLAXBADGER_LIST, FLAXBADGER_LEVELS, uint32_t allowance, FLAXBADGER_TESTED);
-uint64_t flaxbadger_raw_cap_by(uint64_t engines, FLAXBADGER_CAP, FLAXBADGER_LEVELS, uint32_t allowance, FLAXBADGER_TESTED);
-uint64_t flaxbadger_raw_cell_by(uint64_t engines, FLAXBADGER_CELL, FLAXBADGER_LEVELS, uint32_t allowance, FLAXBADGER_TESTED);
-uint64_t flaxbadger_raw_list_by(uint64_t engines, FLAXBADGER_LIST, FLAXBADGER_LEVELS, uint32_t allowance, FLAXBADGER_TESTED);
-uint64_t flaxbadger_interior_covering_cap_by(uint64_t engines, FLAXBADGER_CAP, FLAXBADGER_LEVELS, uint32_t allowance, FLAXBADGER_TESTED);
-uint64_t flaxbadger_interior_covering_cell_by(uint64_t engines, FLAXBADGER_CELL, FLAXBADGER_LEVELS, uint32_t allowance, FLAXBADGER_TESTED);
-uint64_t flaxbadger_interior_covering_list_by(uint64_t engines, FLAXBADGER_LIST, FLAXBADGER_LEVELS, uint32_t allowance, FLAXBADGER_TESTED);
-uint64_t flaxbadger_interior_cellunion_cap_by(uint64_t engines, FLAXBADGER_CAP, FLAXBADGER_LEVELS, uint32_t allowance, FLAXBADGER_TESTED);
-uint64_t flaxbadger_interior_cellunion_cell_by(uint64_t engines, FLAXBADGER_CELL, FLAXBADGER_LEVELS, uint32_t allowance, FLAXBADGER_TESTED);
-uint64_t flaxbadger_interior_cellunion_list_by(uint64_t engines, FLAXBADGER_LIST, FLAXBADGER_LEVELS, uint32_t allowance, FLAXBADGER_TESTED);
-uint64_t flaxbadger_interior_raw_cap_by(uint64_t engines, FLAXBADGER_CAP, FLAXBADGER_LEVELS, uint32_t allowance, FLAXBADGER_TESTED);
-uint64_t flaxbadger_interior_raw_cell_by(uint64_t engines, FLAXBADGER_CELL, FLAXBADGER_LEVELS, uint32_t allowance, FLAXBADGER_TESTED);
-uint64_t flaxbadger_interior_raw_list_by(uint64_t engines, FLAXBADGER_LIST, FLAXBADGER_LEVELS, uint32_t allowance, FLAXBADGER_TESTED);
+uint64_t flaxbadger_covering_cap_by(uint64_t engines, FLAXBADGER_CAP, FLAXBADGER_NUMBERS, uint32_t allowance, FLAXBADGER_TESTED);
+uint64_t flaxbadger_covering_cell_by(uint64_t engines, FLAXBADGER_CELL, FLAXBADGER_NUMBERS, uint32_t allowance, FLAXBADGER_TESTED);
+uint64_t flaxbadger_covering_list_by(uint64_t engines, FLAXBADGER_LIST, FLAXBADGER_NUMBERS, uint32_t allowance, FLAXBADGER_TESTED);
+uint64_t flaxbadger_cellunion_cap_by(uint64_t engines, FLAXBADGER_CAP, FLAXBADGER_NUMBERS, uint32_t allowance, FLAXBADGER_TESTED);
+uint64_t flaxbadger_cellunion_cell_by(uint64_t engines, FLAXBADGER_CELL, FLAXBADGER_NUMBERS, uint32_t allowance, FLAXBADGER_TESTED);
+uint64_t flaxbadger_cellunion_list_by(uint64_t engines, FLAXBADGER_LIST, FLAXBADGER_NUMBERS, uint32_t allowance, FLAXBADGER_TESTED);
+uint64_t flaxbadger_raw_cap_by(uint64_t engines, FLAXBADGER_CAP, FLAXBADGER_NUMBERS, uint32_t allowance, FLAXBADGER_TESTED);
+uint64_t flaxbadger_raw_cell_by(uint64_t engines, FLAXBADGER_CELL, FLAXBADGER_NUMBERS, uint32_t allowance, FLAXBADGER_TESTED);
+uint64_t flaxbadger_raw_list_by(uint64_t engines, FLAXBADGER_LIST, FLAXBADGER_NUMBERS, uint32_t allowance, FLAXBADGER_TESTED);
+uint64_t flaxbadger_interior_covering_cap_by(uint64_t engines, FLAXBADGER_CAP, FLAXBADGER_NUMBERS, uint32_t allowance, FLAXBADGER_TESTED);
+uint64_t flaxbadger_interior_covering_cell_by(uint64_t engines, FLAXBADGER_CELL, FLAXBADGER_NUMBERS, uint32_t allowance, FLAXBADGER_TESTED);
+uint64_t flaxbadger_interior_covering_list_by(uint64_t engines, FLAXBADGER_LIST, FLAXBADGER_NUMBERS, uint32_t allowance, FLAXBADGER_TESTED);
+uint64_t flaxbadger_interior_cellunion_cap_by(uint64_t engines, FLAXBADGER_CAP, FLAXBADGER_NUMBERS, uint32_t allowance, FLAXBADGER_TESTED);
+uint64_t flaxbadger_interior_cellunion_cell_by(uint64_t engines, FLAXBADGER_CELL, FLAXBADGER_NUMBERS, uint32_t allowance, FLAXBADGER_TESTED);
+uint64_t flaxbadger_interior_cellunion_list_by(uint64_t engines, FLAXBADGER_LIST, FLAXBADGER_NUMBERS, uint32_t allowance, FLAXBADGER_TESTED);
+uint64_t flaxbadger_interior_raw_cap_by(uint64_t engines, FLAXBADGER_CAP, FLAXBADGER_NUMBERS, uint32_t allowance, FLAXBADGER_TESTED);
+uint64_t flaxbadger_interior_raw_cell_by(uint64_t engines, FLAXBADGER_CELL, FLAXBADGER_NUMBERS, uint32_t allowance, FLAXBADGER_TESTED);
+uint64_t flaxbadger_interior_raw_list_by(uint64_t engines, FLAXBADGER_LIST, FLAXBADGER_NUMBERS, uint32_t allowance, FLAXBADGER_TESTED);
 
 /* LISTS AS LEAF RANGES. Leaf cells (of level 30) have odd ids, and those under a cell are a stretch of them, so any list is a few pairs
  * of a first and a last leaf id: in an index sorted by leaf id each pair is one scan from its first to its last, both included.
@@ -196,10 +208,10 @@ uint64_t flaxbadger_read_tokens(const uint8_t *text, size_t text_len, uint64_t *
                                 uint64_t *count, uint64_t *first);
 
 /* A NIGHT'S ORDERS IN ONE CALL. Up to 256 orders, each a record with what it asks, are answered one after another; the lists stand one behind
- * another in the output's first places. Each order is answered as flaxbadger_covering_cap, flaxbadger_interior_covering_cap or
- * flaxbadger_fast_covering_cap, or its counterpart for a cell, answers it alone, called with mem and with the room that the orders before it
- * left in the output: refusals, count, steps, aside, mem and the ids in the output are the same. An order that is refused takes no room, and
- * the next one is answered.
+ * another in the output's first places. Each order is answered as flaxbadger_covering_cap_by or flaxbadger_interior_covering_cap_by in its
+ * edition, or flaxbadger_fast_covering_cap, or the counterpart for a cell, answers it alone, called with mem and with the room that the orders
+ * before it left in the output: refusals, count, steps, aside, mem and the ids in the output are the same. An order that is refused takes no
+ * room, and the next one is answered.
  *
  * Into each record the answer is written: number (0 for success, or the refusal's), count, steps and the six of aside. Nothing else in it is changed. The
  * list of the record orders[k] begins behind the counts of those before it, at out[orders[0].count + .. + orders[k - 1].count]; the counts
@@ -207,11 +219,12 @@ uint64_t flaxbadger_read_tokens(const uint8_t *text, size_t text_len, uint64_t *
  *
  *   fast, inner        the quick covering; or else cells inside the region; or else a covering. Where fast is true, inner says nothing
  *   cell, id, cap      the region is the cell id; or, where cell is false, the cap. The other of the two says nothing
- *   coverer            the levels, level_mod and max_cells of the order
+ *   coverer            the levels, level_mod, max_cells and edition of the order. Any edition but 1 and 2, such as a 0 that nobody set, is
+ *                      refused with 14, of a quick covering too, which is the same in both
  *   allowance          how many steps its run may take; of a quick covering it says nothing
  *
  * The result is 0; or 13, where orders_len is over 256: no order is looked at, and records, mem and out are as they were. The record is laid
- * out as C does it, in 160 bytes on x86-64 Linux. A bool is 0 or 1, as C makes it. orders may not overlap mem or out, nor they each other, and
+ * out as C does it, in 168 bytes on x86-64 Linux. A bool is 0 or 1, as C makes it. orders may not overlap mem or out, nor they each other, and
  * what is said of pointers above holds here too. */
 typedef struct {
     double x, y, z;
@@ -223,7 +236,7 @@ typedef struct {
 } flaxbadger_cap;
 
 typedef struct {
-    uint64_t min_level, max_level, level_mod, max_cells;
+    uint64_t min_level, max_level, level_mod, max_cells, edition;
 } flaxbadger_coverer;
 
 typedef struct {
@@ -237,7 +250,7 @@ typedef struct {
     uint64_t id;     /* 80 */
     flaxbadger_cap cap;         /* 88 */
     flaxbadger_coverer coverer; /* 120 */
-    uint32_t allowance;         /* 152 */
+    uint32_t allowance;         /* 160 */
 } flaxbadger_order;
 
 #define FLAXBADGER_ORDERS 256 /* orders that a night may have */

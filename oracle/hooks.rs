@@ -7,7 +7,7 @@
 //! each under the place of its start cell, paper 02's request h, or, in the build `total`, all under one.
 
 use crate::s2::cellid::{CellID, MAX_LEVEL};
-use std::cell::RefCell;
+use std::cell::{Cell, RefCell};
 
 /// The most places that the line program's output has.
 pub const ROOM: u128 = 65_536;
@@ -29,8 +29,10 @@ pub struct Run {
     pub refused: u8,
     pub starts: Vec<CellID>,
     pub raw: Vec<CellID>,
-    /// Cost, id and place, where it has one, of each candidate taken.
+    /// Published cost, id and place, where it has one, of each candidate taken.
     pub taken: Vec<String>,
+    /// Id, cost in the request's edition and place of the last.
+    pub last: String,
     /// What stands after each step, from that of the start cells on, in the words of the program `steps`.
     pub stood: Vec<String>,
     /// How often a cell was queued while the same cell was, from another start cell.
@@ -41,14 +43,29 @@ pub struct Run {
 
 thread_local! {
     static RUN: RefCell<Run> = RefCell::new(Run::default());
+    static EDITION: Cell<u64> = const { Cell::new(1) };
 }
 
 fn with<T>(f: impl FnOnce(&mut Run) -> T) -> T {
     RUN.with(|run| f(&mut run.borrow_mut()))
 }
 
-pub fn begin(allowance: u64, watched: bool) {
+pub fn begin(allowance: u64, edition: u64, watched: bool) {
+    EDITION.set(edition);
     with(|run| *run = Run { allowance, watched, ..Run::default() })
+}
+
+/// The edition of the queue's order that the request names.
+pub fn edition() -> u64 {
+    EDITION.get()
+}
+
+/// What the edition's order comes to as one number, before id and place, of a candidate with this published cost: in edition 2 a level and a child
+/// weigh one more than 4^level_mod, so that no count carries.
+pub fn cost(published: isize, level_mod: u8, (level, children, terminals): (u8, usize, usize)) -> isize {
+    let weight = (1 << (2 * level_mod)) + 1;
+    let by_level = (level as isize * weight + children as isize) * weight + terminals as isize;
+    if edition() == 2 { by_level } else { published }
 }
 
 pub fn end() -> Run {
@@ -81,8 +98,11 @@ pub fn taken(priority: isize, id: &CellID) {
     with(|run| run.taken.push(format!("{}:{:016x}", -priority, id.0)))
 }
 
-pub fn taken_from(priority: isize, id: &CellID, place: usize) {
-    with(|run| run.taken.push(format!("{}:{:016x}:{place}", -priority, id.0)))
+pub fn taken_from(priority: isize, cost: isize, id: &CellID, place: usize) {
+    with(|run| {
+        run.taken.push(format!("{}:{:016x}:{place}", -priority, id.0));
+        run.last = format!("{:016x} {cost} {place}", id.0);
+    })
 }
 
 /// With the cells kept and the queue's candidates, cost, id and place of each, in any order: before each step, and at the end, where the queue is empty.
@@ -93,9 +113,8 @@ pub fn stands(kept: &[CellID], queue: impl Iterator<Item = (isize, CellID, usize
         }
         let mut queued: Vec<_> = queue.map(|(cost, id, place)| (cost, id.0, place)).collect();
         queued.sort();
-        let taken = run.taken.last().map_or(String::from("0:0000000000000000:0"), String::clone);
-        let [cost, id, place] = taken.split(':').collect::<Vec<_>>()[..] else { unreachable!() };
-        let mut words = vec![format!("step {} {id} {cost} {place} {} {}", run.steps, kept.len(), queued.len())];
+        let taken = if run.steps == 0 { "0000000000000000 0 0" } else { &run.last };
+        let mut words = vec![format!("step {} {taken} {} {}", run.steps, kept.len(), queued.len())];
         words.extend(run.aside.iter().map(u64::to_string));
         words.extend(kept.iter().map(|id| format!("{:016x}", id.0)));
         words.extend(queued.iter().map(|(cost, id, place)| format!("{id:016x} {cost} {place}")));

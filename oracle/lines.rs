@@ -9,8 +9,8 @@
 //!     KIND MIN MAX MOD MAX_CELLS REGION [OPTION...]
 //!                            KIND covering, cellunion, raw, interior, icellunion, iraw or fast; REGION cap X Y Z R, cell ID or
 //!                            list LIST, LIST COUNT NUMBER..., any numbers, at most 16,384, here and wherever a region stands;
-//!                            OPTION allow=N, out=N, mem=N, tokens=N or engine=WORD, in any order, each at most once; with
-//!                            tokens=1 ids are written as tokens, WORD, which is quick, plain or both, says nothing; answer
+//!                            OPTION allow=N, out=N, mem=N, tokens=N, edition=N or engine=WORD, in any order, each at most once;
+//!                            with tokens=1 ids are written as tokens, WORD, which is quick, plain or both, says nothing; answer
 //!                            ok STEPS ASIDE0 .. ASIDE5 COUNT ID... or refused NUMBER; in the build `total` ok STEPS ASIDE COUNT ID...
 //!     ranges LIST [OPTION...], cells LIST [OPTION...]
 //!                            lists as in a region; answer ok COUNT NUMBER... or refused NUMBER
@@ -19,7 +19,8 @@
 //!     write_tokens ROOM LIST answer ok BYTES TEXT, a text as two hex digits a byte, refused 11 FIRST or refused 12
 //!     read_tokens ROOM [TEXT]
 //!                            no TEXT for an empty one; answer ok COUNT ID..., refused 11 FIRST or refused 12
-//!     trace KIND ...         the candidates that the run takes, COUNT COST:ID:PLACE..., in the build `total` COUNT COST:ID...; hooked builds only
+//!     trace KIND ...         the candidates that the run takes, COUNT COST:ID:PLACE..., in the build `total` COUNT COST:ID..., with the published
+//!                            cost in either edition; hooked builds only
 //!     steps KIND ...         what the program `steps` writes, its lines with a semicolon between them; builds with places only
 //!     twofold KIND ...       whether start cells overlap, and how often a cell was queued while the same cell was, from another start cell;
 //!                            builds with places only
@@ -32,7 +33,7 @@
 //!     region_look REGION ID  what the cell is to the region, 0 outside, 1 crossing, 2 inside, and whether it is not outside; the same of
 //!                            its children, as sets by place: those not outside, those inside, those not outside; 0 0 0 for a leaf
 //!
-//! The values are the Rust's. The papers' refusals 1 to 6, 10 to 12, 15 to 17, 25 and 26 are decided here, around it; 7, 8 and 9 by the hooks.
+//! The values are the Rust's. The papers' refusals 1 to 6, 10 to 12, 14 to 17, 25 and 26 are decided here, around it; 7, 8 and 9 by the hooks.
 //! The Rust has no function for ranges: first and last leaf are its range_min and range_max, joined here; a pair's cells are
 //! those of its max_tile, in the loop that stands in its comment. Of two lists it has union, intersection and difference; only the
 //! first gives a normalised list whatever comes in, so its normalize goes over each answer here. Of a text of tokens only the lines
@@ -43,7 +44,8 @@
 //! Domains: ids are valid; floats are finite (but for cover's regions and sqrt); a point is_unit (but for is_unit itself);
 //! a cap is in paper 01's domain, a radius at most 4; a list as a region is in paper 02's: valid, ascending, no cell inside
 //! another, at most 4,096 ids; vertex_neighbors asks for a level above the id's own.
-//! The builds with the unmodified region.rs have no steps, set-aside totals, raw lists and start cells: they write `-` for each of
+//! The builds `unmodified`, `quick` and `published` have the published order of the queue, whichever edition a request names.
+//! Those with the unmodified region.rs have no steps, set-aside totals, raw lists and start cells: they write `-` for each of
 //! these and never refuse with 7 to 10. They find the normalised outer list by normalising the covering, which has the
 //! same leaves. Where a run asks too many tests, or fast covering might have too many cells, they answer `cut`.
 //! `panic` answers a question at which the Rust panics.
@@ -162,12 +164,13 @@ impl Region for Bound {
 
 type Word = &'static str;
 
-/// Steps that may be taken, places of output, words of memory, and whether ids are written as tokens.
+/// Steps that may be taken, places of output, words of memory, whether ids are written as tokens, and the edition.
 struct Options {
     allowance: u64,
     out: u64,
     memory: u64,
     tokens: bool,
+    edition: u64,
 }
 
 /// The fields of a line, one after another.
@@ -244,7 +247,7 @@ impl<'a> Fields<'a> {
 
     /// The options to the end of the line.
     fn options(&mut self) -> Result<Options, Word> {
-        let (mut allowance, mut out, mut memory, mut tokens, mut engine) = (None, None, None, None, None);
+        let (mut allowance, mut out, mut memory, mut tokens, mut edition, mut engine) = (None, None, None, None, None, None);
         while let Ok(word) = self.word() {
             let (name, value) = word.split_once('=').ok_or("option")?;
             let place = match name {
@@ -252,6 +255,7 @@ impl<'a> Fields<'a> {
                 "out" => &mut out,
                 "mem" => &mut memory,
                 "tokens" => &mut tokens,
+                "edition" => &mut edition,
                 "engine" => &mut engine,
                 _ => return Err("option"),
             };
@@ -265,11 +269,11 @@ impl<'a> Fields<'a> {
             }
         }
         let (allowance, out, memory) = (allowance.unwrap_or(0xffffffff), out.unwrap_or(65_536), memory.unwrap_or(ENOUGH));
-        let tokens = tokens.unwrap_or(0);
-        if allowance > 0xffffffff || u128::from(out) > hooks::ROOM || memory > WORDS || tokens > 1 {
+        let (tokens, edition) = (tokens.unwrap_or(0), edition.unwrap_or(1));
+        if allowance > 0xffffffff || u128::from(out) > hooks::ROOM || memory > WORDS || tokens > 1 || edition > 0xffffffff {
             return Err("large");
         }
-        Ok(Options { allowance, out, memory, tokens: tokens == 1 })
+        Ok(Options { allowance, out, memory, tokens: tokens == 1, edition })
     }
 
     /// A region inside the domain, or None for one outside it.
@@ -477,6 +481,9 @@ fn cover(kind: Kind, fields: &mut Fields, told: Told) -> Result<String, Word> {
     if numbers.refusal() != 0 {
         return refused(numbers.refusal());
     }
+    if !(1..=2).contains(&options.edition) {
+        return refused(14);
+    }
     let Some(region) = region else { return refused(5) };
     if options.memory < ENOUGH {
         return refused(6);
@@ -491,7 +498,7 @@ fn cover(kind: Kind, fields: &mut Fields, told: Told) -> Result<String, Word> {
     if (told == Told::Trace || kind == Kind::Raw || kind == Kind::Iraw) && !cfg!(hooked) || matches!(told, Told::Steps | Told::Twofold) && !cfg!(placed) {
         return Ok(String::from("-"));
     }
-    hooks::begin(options.allowance, told == Told::Steps);
+    hooks::begin(options.allowance, options.edition, told == Told::Steps);
     ASKED.set(0);
     let found = match kind {
         Kind::Covering => coverer.covering(&region).0,
@@ -731,7 +738,7 @@ fn probe(question: &str, fields: &mut Fields) -> Result<String, Word> {
             if may_be_long(&bound, &numbers) {
                 return Ok(String::from("cut"));
             }
-            hooks::begin(0, false);
+            hooks::begin(0, 1, false);
             let found = numbers.coverer().fast_covering(&Bound(bound)).0;
             if hooks::end().long {
                 return Err("room");
@@ -748,7 +755,7 @@ fn probe(question: &str, fields: &mut Fields) -> Result<String, Word> {
             if !cfg!(hooked) {
                 return Ok(String::from("-"));
             }
-            hooks::begin(0, false);
+            hooks::begin(0, 1, false);
             ASKED.set(0);
             numbers.coverer().covering(&region);
             list(&hooks::end().starts)

@@ -3,7 +3,7 @@
 Used by oracle/compare --lists and oracle/picklists. A Picker with the same seed gives the same questions. Lists, and lists that
 break a rule, are those of oracle/idlists.py and some more: cells inside one, runs of neighbours, siblings, one cell a face, what
 discs were covered with, lists whose start cells lie inside one another once they are moved, and some of them such that a run queues a
-cell from two start cells at once, lists that come to as many cells as the limits of a run are. Most are short: a run joins the listed cells two at a time, all of them looked at each time, which takes
+cell from two start cells at once, lists on which the editions may part ways, lists that come to as many cells as the limits of a run are. Most are short: a run joins the listed cells two at a time, all of them looked at each time, which takes
 the square of their number. What stands here only chooses questions and decides no answer.
 """
 
@@ -16,7 +16,6 @@ IDS = 4096  # of a list, at most
 # Parts of all lists, summed up, and between which two sizes those of each part are.
 SIZES = ((0.02, 0, 0), (0.06, 1, 1), (0.30, 2, 6), (0.70, 7, 20), (0.985, 21, 100), (0.998, 101, 400), (0.9996, 401, 1500), (1, 1501, IDS))
 QUESTIONS = ["bound"] + ["starts"] * 3 + ["region_contains_cell", "region_intersects_cell"] * 3
-FAULTS = (1, 2, 3, 4, 5, 6, 9, 10)
 START = "covering 0 30 1 8"
 MALFORMED = [f"{START} {region}" for region in (
     "list", "list x", "list -1 1000000000000000", "list 1", "list 2 1000000000000000", "list 4096 1000000000000000", "list 4097", "list 16384",
@@ -175,6 +174,21 @@ class Picker(questions.Picker):
         high = r.choice([30, max(map(level_of, found)) + r.choice([0, 0, 1, 3])])
         return self.outer(level - step * r.randint(0, level // step), high, step, r.randint(4, 24), f"list {counted(apart(found))}")
 
+    def tied(self):
+        """As before, about a list. In one cell lie whole cells of a level above min_level, and cells of which nothing is listed but in one child of one child:
+        something in each of its four children, or one cell. A small max_cells makes the run start above them all."""
+        r, low = self.r, self.r.randint(1, 28)
+        above, found = self.id(max(0, low - 1 - r.randint(0, 3))), []
+        for cell in sorted(self.under(above, low - 1) for _ in range(r.randint(2, 6))):
+            pick = r.random() if found else 1
+            if pick < 0.55:
+                found.append(cell)
+            else:
+                one = self.under(cell, low + 1)
+                found += [self.under(child(one, k), r.choice([low + 2, low + 2, r.randint(low + 2, 30)])) for k in range(4) if k == 0 or pick > 0.7]
+        kind = r.choice(["iraw", "iraw", "interior", "icellunion"] if self.chance(0.5) else ["raw", "raw", "raw", "raw", "covering", "cellunion"])
+        return f"{kind} {low} {r.choice([low + 2, low + 2, 30])} 1 {r.choice([0, 1, 1, 1, 2, 2, 3, 4, 6, 8, 20])} list {counted(apart(found))}"
+
     def under(self, id, level):
         """A cell of a level in a cell."""
         low = id & -id
@@ -214,23 +228,12 @@ class Picker(questions.Picker):
 
     # requests
 
-    def faulty(self):
-        """A request to which more than one refusal could be given."""
-        faults = self.r.sample(FAULTS, self.r.choice([2, 2, 2, 3, len(FAULTS)]))
-        high = 31 if 1 in faults else 30
-        low = high + 1 if 2 in faults else 2
-        region = self.bad_region() if 5 in faults else self.region()[0]
-        line = f"{self.r.choice(questions.KINDS)} {low} {high} {4 if 3 in faults else 1} {1001 if 4 in faults else 8} {region}"
-        return line + "".join(f" {option}" for fault, option in ((9, "allow=0"), (10, "out=0"), (6, f"mem={questions.WORDS - 1}")) if fault in faults)
-
     def request(self):
         """One `cover` line."""
         pick = self.r.random()
         if pick < 0.05:
             ids, numbers = self.nested()
-        elif pick < 0.07:
-            return self.faulty()
-        elif pick < 0.08:
+        elif pick < 0.06:
             return " ".join([self.r.choice(questions.KINDS), *map(str, self.numbers(15)), self.bad_region()])
         else:
             return super().request()

@@ -1,10 +1,10 @@
 /* A night as oracle/nights.c and bench/night.c read it, and an order of it asked alone, of the public function that it names.
  *
  *     night OUT MEM COUNT
- *     FAST INNER CELL ID X Y Z RADIUS MIN MAX MOD MAX_CELLS ALLOWANCE
+ *     FAST INNER CELL ID X Y Z RADIUS MIN MAX MOD MAX_CELLS EDITION ALLOWANCE
  *
  * The first line has the places of the output, the words of memory and the number of orders. Then comes a line an order: three truths, 0 or 1; an id and
- * four floats, 16 hexadecimal digits each; five decimal numbers. oracle/nights writes them. */
+ * four floats, 16 hexadecimal digits each; six decimal numbers. oracle/nights writes them. */
 #include "flaxbadger.h"
 
 #include <inttypes.h>
@@ -44,7 +44,8 @@ static int read_order(FILE *from, flaxbadger_order *o) {
     o->inner = inner != 0;
     o->cell = cell != 0;
     memcpy(&o->cap, cap, sizeof o->cap);
-    return fscanf(from, "%" SCNu64 " %" SCNu64 " %" SCNu64 " %" SCNu64 " %" SCNu32, &c->min_level, &c->max_level, &c->level_mod, &c->max_cells, &o->allowance) == 5;
+    return fscanf(from, "%" SCNu64 " %" SCNu64 " %" SCNu64 " %" SCNu64 " %" SCNu64 " %" SCNu32, &c->min_level, &c->max_level, &c->level_mod, &c->max_cells, &c->edition,
+                  &o->allowance) == 6;
 }
 
 /* What an order asks is read; every other byte of the records, those of the answers too, is one that no answer has. */
@@ -68,15 +69,21 @@ static struct night read_night(FILE *from) {
 #define LEVELS o->coverer.min_level, o->coverer.max_level, o->coverer.level_mod, o->coverer.max_cells
 #define CAP o->cap.center.x, o->cap.center.y, o->cap.center.z, o->cap.radius
 #define BUFFERS mem, mem_len, out, out_len, &t.count, &t.steps, t.aside
+#define RUN(kind, region) \
+    (edition == 1 ? flaxbadger_##kind(region, LEVELS, o->allowance, BUFFERS) \
+                  : flaxbadger_##kind##_by(FLAXBADGER_QUICK, region, LEVELS, edition, o->allowance, BUFFERS, &agree))
 
+/* Functions for quick coverings take no edition: an order for one, in an edition that there is not, is asked of a run's function, which refuses it before any run. */
 static inline struct told alone(const flaxbadger_order *o, uint64_t *mem, size_t mem_len, uint64_t *out, size_t out_len) {
     struct told t;
+    uint64_t agree, edition = o->coverer.edition;
+    bool fast = o->fast && (edition == 1 || edition == 2);
     memset(&t, 0xff, sizeof t);
-    if (o->fast && o->cell) t.number = flaxbadger_fast_covering_cell(o->id, LEVELS, BUFFERS);
-    else if (o->fast) t.number = flaxbadger_fast_covering_cap(CAP, LEVELS, BUFFERS);
-    else if (o->inner && o->cell) t.number = flaxbadger_interior_covering_cell(o->id, LEVELS, o->allowance, BUFFERS);
-    else if (o->inner) t.number = flaxbadger_interior_covering_cap(CAP, LEVELS, o->allowance, BUFFERS);
-    else if (o->cell) t.number = flaxbadger_covering_cell(o->id, LEVELS, o->allowance, BUFFERS);
-    else t.number = flaxbadger_covering_cap(CAP, LEVELS, o->allowance, BUFFERS);
+    if (fast && o->cell) t.number = flaxbadger_fast_covering_cell(o->id, LEVELS, BUFFERS);
+    else if (fast) t.number = flaxbadger_fast_covering_cap(CAP, LEVELS, BUFFERS);
+    else if (o->inner && o->cell) t.number = RUN(interior_covering_cell, o->id);
+    else if (o->inner) t.number = RUN(interior_covering_cap, CAP);
+    else if (o->cell) t.number = RUN(covering_cell, o->id);
+    else t.number = RUN(covering_cap, CAP);
     return t;
 }

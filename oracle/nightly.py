@@ -18,7 +18,7 @@ MEMORY = 8192  # words of memory, at most
 FEWEST = 1000  # requests from which the orders of a batch are taken
 FLIPS = 60
 LIMITS = 12
-ALLOWANCE = 4294967295  # where a request has none
+ALLOWANCE, EDITION = 4294967295, 1  # where a request has none
 OFTEN = [1, 2, MOST - 1, MOST]
 OVER = [MOST + 1, MOST + 1, MOST + 2, 300, 512, 1000]
 KIND = {"cellunion": "covering", "raw": "covering", "icellunion": "interior", "iraw": "interior"}  # a night has not all kinds; these have the same run
@@ -29,7 +29,7 @@ ROOMS = {
 WEIGHTS = [4, 4, 3, 1, 2]  # of these
 COUNT = re.compile(r"ok \d+ \d+(?: \d+){6} (\d+)\b")
 
-Order = collections.namedtuple("Order", "sort asks allowance fields")  # as a request without options, and as oracle/night.h reads it
+Order = collections.namedtuple("Order", "sort asks allowance edition fields")  # as a request without options, and as oracle/night.h reads it
 Night = collections.namedtuple("Night", "room out mem orders")  # room: the output's length in words, of ROOMS
 
 
@@ -78,20 +78,22 @@ class Picker(questions.Picker):
         return f"{r.choice([0, (1 << 64) - 1, 0x7ff0000000000001, self.id(), r.getrandbits(64), r.getrandbits(64)]):016x}"
 
     def order(self, line):
-        """The order that a request makes; of its options only the allowance counts."""
+        """The order that a request makes; of its options only allowance and edition count."""
         words = line.split(" ")
         kind, low, high, step, cells, region, *values = (word for word in words if "=" not in word)
-        allowance = dict(word.split("=") for word in words if "=" in word).get("allow", ALLOWANCE)
+        options = dict(word.split("=") for word in words if "=" in word)
+        allowance, edition = options.get("allow", ALLOWANCE), options.get("edition", EDITION)
         kind, is_cell, numbers = KIND.get(kind, kind), region == "cell", [low, high, step, cells]
         inner = self.r.randrange(2) if kind == "fast" else int(kind == "interior")
         other = [self.any_word() for _ in range(4 if is_cell else 1)]
-        fields = [int(kind == "fast"), inner, int(is_cell), *(values + other if is_cell else other + values), *numbers, allowance]
-        return Order(f"{kind} {region}", " ".join([kind, *numbers, region, *values]), allowance, " ".join(map(str, fields)))
+        told = edition if int(edition) in (1, 2) else self.r.choice([edition, (1 << 32) + 1, (1 << 32) + 2, (1 << 64) - 1])
+        fields = [int(kind == "fast"), inner, int(is_cell), *(values + other if is_cell else other + values), *numbers, told, allowance]
+        return Order(f"{kind} {region}", " ".join([kind, *numbers, region, *values]), allowance, edition, " ".join(map(str, fields)))
 
     def requests(self, many):
         """So many requests and some more, made from their answers or at the limits of a run."""
         self.find_flips(judge, FLIPS)
-        asked = [self.placed() if self.chance(1 / 6) else self.request() for _ in range(many)]
+        asked = [self.placed() if self.chance(1 / 6) else self.tied() if self.chance(1 / 6) else self.request() for _ in range(many)]
         known = [pair for pair in zip(asked, judge(asked)) if not pair[1].startswith("error")]
         more = [line for line, answer in known for line in self.derived(line, answer)]
         return [line for line, _ in known] + self.r.sample(more, min(len(more), many // 4)) + self.limits(judge, LIMITS)
@@ -109,7 +111,7 @@ class Picker(questions.Picker):
     def nights(self, many):
         """So many nights, as yet with a large output."""
         r, sizes = self.r, [self.size() for _ in range(many)]
-        orders = [self.order(line) for line in self.requests(max(FEWEST, sum(sizes)))]
+        orders = [self.order(line if "edition=" in line or self.chance(0.3) else f"{line} edition={self.edition()}") for line in self.requests(max(FEWEST, sum(sizes)))]
         for size in sizes:
             taken = r.choices(orders, k=r.randint(1, 3)) if r.random() < 0.15 else orders
             yield Night(*r.choices(list(ROOMS), WEIGHTS), LARGE, self.memory(), r.choices(taken, k=size))
@@ -118,9 +120,14 @@ class Picker(questions.Picker):
 # ---- as a text
 
 
+def line_of(order):
+    """An order as a line."""
+    return f"{order.asks} allow={order.allowance} edition={order.edition}"
+
+
 def alone(night, order, places):
     """The request of an order alone, with this room in the output."""
-    return f"{order.asks} allow={order.allowance} out={places} mem={night.mem}"
+    return f"{line_of(order)} out={places} mem={night.mem}"
 
 
 def plain(night):
@@ -130,4 +137,4 @@ def plain(night):
 
 def ordered(night):
     """A night in order lines."""
-    return "".join(f"{line}\n" for line in [f"night out={night.out} mem={night.mem}", *(f"{order.asks} allow={order.allowance}" for order in night.orders)])
+    return "".join(f"{line}\n" for line in [f"night out={night.out} mem={night.mem}", *map(line_of, night.orders)])

@@ -38,6 +38,8 @@ NUMBERS = [
     (f"fast 0 30 1 8 {EMPTY}", f"ok 0 {NONE} 4 0555555555555554 0ffffffffffffffc 1000000000000004 1aaaaaaaaaaaaaac"),
 ]
 WORDS = 5120  # of memory, that are always enough
+FAULTS = (1, 2, 3, 4, 14, 5, 6, 9, 10)  # refusals that a request can ask for, in the order in which they are looked at
+UNKNOWN = (0, 3, 4, 255, 256, 257, 258, 65537, 2147483650, 4294967295)  # numbers that are no edition
 COUNT = 8  # words of an answer before the count of its ids: ok, the steps and six totals
 MALFORMED = [
     "coverings 0 30 1 8 cell 1000000000000000", "covering 0 30 1 8", "covering 0 30 1 8 cell", "covering 0 30 1 8 cell 10",
@@ -51,6 +53,9 @@ MALFORMED = [
     "covering 0 30 1 8 cell 1000000000000000 allow=1 out=1 mem=5120 out=1", "iraw 0 30 1 8 cell 1000000000000000 out=1 out",
     "covering 0 30 1 8 cell 1000000000000000 tokens=2", "raw 0 30 1 8 cell 1000000000000000 tokens=", "fast 0 30 1 8 cell 1000000000000000 token=1",
     "fast 0 30 1 8 cell 1000000000000000 tokens=1 out=8 tokens=1", "raw 0 30 1 8 cell 1000000000000000 tokens=1 mem=5120 out=8 allow=9 tokens=0",
+    "raw 0 30 1 8 cell 1000000000000000 edition=", "covering 0 30 1 8 cell 1000000000000000 edition=4294967296", "fast 0 30 1 8 cell 1000000000000000 edition=two",
+    "iraw 0 30 1 8 cell 1000000000000000 edition=2 edition=2", "interior 0 30 1 8 cell 1000000000000000 edition", "raw 0 30 1 8 cell 1000000000000000 editions=2",
+    "raw 0 30 1 8 cell 1000000000000000 engine=both edition=2 tokens=1 mem=5120 out=8 allow=9 edition=1", "raw 0 30 1 8 2 cell 1000000000000000",
 ]
 
 POS_TO_IJ = [[0, 1, 3, 2], [0, 2, 3, 1], [3, 2, 0, 1], [3, 1, 0, 2]]
@@ -139,6 +144,30 @@ def child(id, k):
 def counted(ids):
     """A list as it stands on a line."""
     return " ".join([str(len(ids)), *(f"{id:016x}" for id in ids)])
+
+
+def faulty(kind, faults, region):
+    """A request to which each of these refusals could be given, if it were the only one; for 5 the region has to be one outside the domain."""
+    high = 31 if 1 in faults else 30
+    low = high + 1 if 2 in faults else 2
+    line = f"{kind} {low} {high} {4 if 3 in faults else 1} {1001 if 4 in faults else 8} {region}"
+    options = ((9, "allow=0"), (10, "out=0"), (6, f"mem={WORDS - 1}"), (14, "edition=3"))
+    return line + "".join(f" {option}" for fault, option in options if fault in faults)
+
+
+def with_option(line, name, value):
+    """A request with that option, whatever it has of that name; any other line as it is."""
+    words = line.split(" ")
+    return " ".join([*(word for word in words if not word.startswith(f"{name}=")), f"{name}={value}"]) if words[0] in KINDS else line
+
+
+def in_edition(line, edition):
+    return with_option(line, "edition", edition)
+
+
+def is_plain(line):
+    """Whether a line has no option but an edition."""
+    return all("=" not in word or word.startswith("edition=") for word in line.split(" "))
 
 
 def ask(command, lines):
@@ -434,6 +463,9 @@ class Picker:
         r = self.r
         if self.chance(0.01):
             return r.choice(self.malformed)
+        if self.chance(0.02):
+            faults = r.sample(FAULTS, r.choice([2, 2, 2, 3, len(FAULTS)]))
+            return faulty(r.choice(KINDS), faults, self.bad_region() if 5 in faults else self.region()[0])
         region, natural = self.region()
         numbers = self.numbers(natural)
         if self.chance(0.03):
@@ -452,7 +484,7 @@ class Picker:
     def derived(self, line, answer, taken=None):
         """Requests at the bounds of an answer: exact and one short, allowance, output and memory."""
         words = answer.split(" ")
-        if not line or line.split(" ")[0] not in KINDS or "=" in line:
+        if not line or line.split(" ")[0] not in KINDS or not is_plain(line):
             return []
         if words[0] == "ok" and words[1] != "-":
             steps, count = int(words[1]), int(words[COUNT])
@@ -593,7 +625,7 @@ class Picker:
         region, natural = self.region()
         return " ".join(["starts", *map(str, self.numbers(natural)), region])
 
-    # what only oracle/compare asks, and oracle/lists of a picker of its own
+    # requests made for what random ones seldom meet, other options, and longer lists
 
     def outer(self, low, high, step, cells, region):
         """A request, most often for an outer run: the others set nothing aside."""
@@ -615,13 +647,32 @@ class Picker:
         low = r.choice([0, 0, natural, natural + 1, natural + 2])
         return self.outer(low, low + r.choice([1, 2, 3, 4, 6, 30]), r.choice([1, 1, 2, 3]), r.choice([4, 6, 8, 12, 20, 50, 100, 300, 1000]), f"cap {hexed(*center, radius)}")
 
+    def tied(self):
+        """A request whose run may come to paper 01's P6, where the editions part ways: a cell whose four children are terminal, and one a level deeper with one
+        child and no terminal, of the same published cost. About a cap, with level_mod 1 and a min_level below its size: cells inside it, a level above
+        min_level, tie with cells of min_level at its rim. An inner run tells it by its steps, if it ends among the tied; an outer one by the raw list's
+        order, where the one child is kept in place of its own four, as it is most often with a max_level two below min_level."""
+        r = self.r
+        natural, below = r.randint(0, 25), r.choice([1, 2, 2, 2, 3, 3])
+        low = natural + below
+        kind = r.choice(["iraw", "iraw", "interior", "icellunion"] if self.chance(0.6) else ["raw", "raw", "raw", "raw", "covering", "cellunion"])
+        radius = min(4.0, 4.0**-natural * r.uniform(0.3, 3))
+        high = min(30, low + r.choice([2, 2, 2, 3, 30]))
+        return f"{kind} {low} {high} 1 {r.randint(2, 5 * 4**below // 2)} cap {hexed(*self.point(), radius)}"
+
+    def edition(self):
+        """An edition to name: of twenty one that there isn't."""
+        return self.side.choice(UNKNOWN) if self.side.random() < 0.05 else self.side.choice([1, 2, 2])
+
     def turned(self, line):
-        """A request with its options in any order; now and then it says whether ids are to be written as tokens."""
+        """A request with its options in any order; now and then it says whether ids are to be written as tokens, and often which edition it is of."""
         fields, options = line.split(" "), []
         while "=" in fields[-1]:
             options.append(fields.pop())
         if fields[0] in KINDS and self.side.random() < 0.2:
             options.append(f"tokens={self.side.choice([0, 1, 1, 1])}")
+        if fields[0] in KINDS and self.side.random() < 0.25 and not any(option.startswith("edition=") for option in options):
+            options.append(f"edition={self.edition()}")
         self.side.shuffle(options)
         return " ".join(fields + options)
 

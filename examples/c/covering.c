@@ -1,6 +1,6 @@
-/* Coverings from C: a cap that is covered, by both engines too, a cell and a list as regions, a list as leaf ranges and back, two lists as one, a
- * list as tokens and back, a night's orders in one call, and nine refusals. Writes what comes back; exits with 1 where it is not what papers 01 and
- * 02 say. Doesn't compile where the record of an order is not laid out as the header says. */
+/* Coverings from C: a cap that is covered, by both engines too, a cell and a list as regions, a run in both editions, a list as leaf ranges and back,
+ * two lists as one, a list as tokens and back, a night's orders in one call, and eleven refusals. Writes what comes back; exits with 1 where it is not
+ * what papers 01 and 02 say. Doesn't compile where the record of an order is not laid out as the header says. */
 #include <inttypes.h>
 #include <stdio.h>
 #include <string.h>
@@ -19,8 +19,8 @@ AT(cell, 74);
 AT(id, 80);
 AT(cap, 88);
 AT(coverer, 120);
-AT(allowance, 152);
-typedef char an_order_has_160_bytes[sizeof(flaxbadger_order) == 160 ? 1 : -1];
+AT(allowance, 160);
+typedef char an_order_has_168_bytes[sizeof(flaxbadger_order) == 168 ? 1 : -1];
 
 static uint64_t mem[FLAXBADGER_MEMORY];
 static uint64_t out[64];
@@ -72,7 +72,7 @@ int main(void) {
     number = flaxbadger_covering_cap(0, 0, 1, 1e-6, 0, 30, 1, 8, 1000, mem, FLAXBADGER_MEMORY, out, 64, &count, &steps, aside);
     ok &= show("a cap at the pole", number, count, steps, aside);
     uint64_t tested[64], tested_count, tested_steps, tested_aside[FLAXBADGER_STARTS], agree;
-    number = flaxbadger_covering_cap_by(FLAXBADGER_BOTH, 0, 0, 1, 1e-6, 0, 30, 1, 8, 1000, mem, FLAXBADGER_MEMORY, tested, 64, &tested_count,
+    number = flaxbadger_covering_cap_by(FLAXBADGER_BOTH, 0, 0, 1, 1e-6, 0, 30, 1, 8, 1, 1000, mem, FLAXBADGER_MEMORY, tested, 64, &tested_count,
                                         &tested_steps, tested_aside, &agree);
     printf("by both engines: number %" PRIu64 ", %" PRIu64 " cells, the engines %s\n", number, tested_count, agree == 1 ? "agree" : "DO NOT agree");
     ok &= agree == 1 && number == 0 && tested_count == count && tested_steps == steps && memcmp(tested_aside, aside, sizeof aside) == 0;
@@ -139,6 +139,24 @@ int main(void) {
     show("one id too many", number, count, steps, aside);
     ok &= number == 5 && count == 0;
 
+    /* A run in both editions: edition 1 takes the cell of the smaller id where edition 2 takes the larger cell, so that the same five cells are kept in
+     * another order. There is no edition 3: refused with 14. */
+    const uint64_t ground[5] = {UINT64_C(0x0010000000000000), UINT64_C(0x0030000000000000), UINT64_C(0x0050000000000000), UINT64_C(0x0070000000000000),
+                                UINT64_C(0x0c00000000000000)};
+    const uint64_t kept[5] = {UINT64_C(0x0040000000000000), UINT64_C(0x0900000000000000), UINT64_C(0x0b00000000000000), UINT64_C(0x0d00000000000000),
+                              UINT64_C(0x0f00000000000000)};
+    for (uint64_t edition = 1; edition <= 3; edition++) {
+        number = flaxbadger_raw_list_by(FLAXBADGER_BOTH, ground, 5, 2, 30, 1, 1, edition, 1000, mem, FLAXBADGER_MEMORY, out, 64, &count, &steps, aside,
+                                        &agree);
+        printf("edition %" PRIu64 ": number %" PRIu64 ", %" PRIu64 " cells", edition, number, count);
+        for (uint64_t i = 0; i < count && i < 5; i++) {
+            printf("%s %016" PRIx64, i == 0 ? "," : "", out[i]);
+            ok &= out[i] == kept[edition == 1 ? i : (i + 1) % 5];
+        }
+        puts("");
+        ok &= agree == 1 && number == (edition <= 2 ? 0 : 14) && count == (edition <= 2 ? 5 : 0);
+    }
+
     /* The first list as tokens, which survey crews type, a line each; and back. A text of eight bytes is too short; a capital is refused, with the
      * number of its line. */
     const char typed[] = "04\n0c\n14\n";
@@ -157,24 +175,26 @@ int main(void) {
     printf("with a capital: number %" PRIu64 ", line %" PRIu64 "\n", number, line);
     ok &= number == 11 && count == 0 && line == 2;
 
-    /* Four orders of a night: around a cap at the pole, and inside it; the whole sphere, with fewer steps than it takes; and face 0, quickly. The
-     * second and the last stand behind the lists before them; the third is refused with 9, and takes no room. */
+    /* Five orders of a night: around a cap at the pole, and, in edition 2, inside it; the whole sphere, with fewer steps than it takes; face 0, quickly;
+     * and an order whose edition nobody set. The second and the fourth stand behind the lists before them; the third is refused with 9, the last with
+     * 14, and they take no room. */
     const flaxbadger_cap pole = {{0, 0, 1}, 1e-6}, sphere = {{1, 0, 0}, 4};
-    const flaxbadger_coverer any = {0, 30, 1, 8}, from_level_1 = {1, 30, 1, 8};
-    flaxbadger_order night[4] = {
+    const flaxbadger_coverer any = {0, 30, 1, 8, 1}, in_edition_2 = {0, 30, 1, 8, 2}, from_level_1 = {1, 30, 1, 8, 1}, unset = {0, 30, 1, 8, 0};
+    flaxbadger_order night[5] = {
         {.cap = pole, .coverer = any, .allowance = 1000},
-        {.inner = true, .cap = pole, .coverer = any, .allowance = 1000},
+        {.inner = true, .cap = pole, .coverer = in_edition_2, .allowance = 1000},
         {.cap = sphere, .coverer = from_level_1, .allowance = 5},
         {.fast = true, .cell = true, .id = faces[0], .coverer = any},
+        {.cap = pole, .coverer = unset, .allowance = 1000},
     };
-    const char *const names[4] = {"around the cap", "inside it", "the whole sphere", "face 0, quickly"};
-    const uint64_t refusals[4] = {0, 0, 9, 0};
+    const char *const names[5] = {"around the cap", "inside it", "the whole sphere", "face 0, quickly", "of no edition"};
+    const uint64_t refusals[5] = {0, 0, 9, 0, 14};
     uint64_t alone[64];
     size_t begin = 0;
-    number = flaxbadger_night(night, 4, mem, FLAXBADGER_MEMORY, out, 64);
-    printf("a night of four orders: number %" PRIu64 "\n", number);
+    number = flaxbadger_night(night, 5, mem, FLAXBADGER_MEMORY, out, 64);
+    printf("a night of five orders: number %" PRIu64 "\n", number);
     ok &= number == 0;
-    for (int k = 0; k < 4; k++) {
+    for (int k = 0; k < 5; k++) {
         const flaxbadger_order *o = &night[k];
         printf("  %s: number %" PRIu64 ", %zu cells from place %zu on, %" PRIu32 " steps, %" PRIu64 " leaves set aside\n", names[k], o->number,
                o->count, begin, o->steps, sum(o->aside));
@@ -187,7 +207,8 @@ int main(void) {
     ok &= number == 0 && count == night[0].count && steps == night[0].steps && memcmp(aside, night[0].aside, sizeof aside) == 0;
     ok &= sum(aside) > 0 && memcmp(alone, out, count * sizeof *out) == 0;
     begin = night[0].count;
-    number = flaxbadger_interior_covering_cap(0, 0, 1, 1e-6, 0, 30, 1, 8, 1000, mem, FLAXBADGER_MEMORY, alone, 64, &count, &steps, aside);
+    number = flaxbadger_interior_covering_cap_by(FLAXBADGER_QUICK, 0, 0, 1, 1e-6, 0, 30, 1, 8, 2, 1000, mem, FLAXBADGER_MEMORY, alone, 64, &count, &steps,
+                                                 aside, &agree);
     ok &= number == 0 && count == night[1].count && steps == night[1].steps && memcmp(alone, out + begin, count * sizeof *out) == 0;
     begin += night[1].count;
     number = flaxbadger_fast_covering_cell(faces[0], 0, 30, 1, 8, mem, FLAXBADGER_MEMORY, alone, 64, &count, &steps, aside);
@@ -195,7 +216,7 @@ int main(void) {
 
     /* One order too many: refused with 13, and records, memory and output are as they were. */
     for (int k = 0; k < FLAXBADGER_ORDERS + 1; k++) {
-        orders[k] = night[k % 4];
+        orders[k] = night[k % 5];
     }
     memcpy(as_before, orders, sizeof orders);
     memset(mem, 0xff, sizeof mem);

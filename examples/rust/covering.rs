@@ -1,27 +1,21 @@
-// Coverings from Rust: safe functions over the archive's, a covering of a cap, by both engines too, its leaf ranges, two coverings as one list, this
-// list as a region, a list as tokens and back, a night's orders in one call, and refusals. Exits with 1 where an answer is not what papers 01 and 02
+// Coverings from Rust: safe functions over the archive's, a covering of a cap, by both engines and in both editions too, its leaf ranges, two coverings as
+// one list, this list as a region, a list as tokens and back, a night's orders in one call, and refusals. Exits with 1 where an answer is not what papers 01 and 02
 // say. Doesn't compile where the record of an order is not laid out as in C.
 
 use std::mem::{offset_of, size_of};
 
 extern "C" {
-    fn flaxbadger_covering_cap(
-        x: f64, y: f64, z: f64, radius: f64,
-        min_level: u64, max_level: u64, level_mod: u64, max_cells: u64, allowance: u32,
-        mem: *mut u64, mem_len: usize, out: *mut u64, out_len: usize,
-        count: &mut u64, steps: &mut u64, aside: &mut [u64; 6],
-    ) -> u64;
     fn flaxbadger_covering_cap_by(
         engines: u64, x: f64, y: f64, z: f64, radius: f64,
-        min_level: u64, max_level: u64, level_mod: u64, max_cells: u64, allowance: u32,
+        min_level: u64, max_level: u64, level_mod: u64, max_cells: u64, edition: u64, allowance: u32,
         mem: *mut u64, mem_len: usize, out: *mut u64, out_len: usize,
         count: &mut u64, steps: &mut u64, aside: &mut [u64; 6], agree: &mut u64,
     ) -> u64;
-    fn flaxbadger_covering_list(
-        list: *const u64, list_len: usize,
-        min_level: u64, max_level: u64, level_mod: u64, max_cells: u64, allowance: u32,
+    fn flaxbadger_covering_list_by(
+        engines: u64, list: *const u64, list_len: usize,
+        min_level: u64, max_level: u64, level_mod: u64, max_cells: u64, edition: u64, allowance: u32,
         mem: *mut u64, mem_len: usize, out: *mut u64, out_len: usize,
-        count: &mut u64, steps: &mut u64, aside: &mut [u64; 6],
+        count: &mut u64, steps: &mut u64, aside: &mut [u64; 6], agree: &mut u64,
     ) -> u64;
     fn flaxbadger_ranges(ids: *const u64, ids_len: usize, out: *mut u64, out_len: usize, count: &mut u64) -> u64;
     fn flaxbadger_union(
@@ -33,10 +27,12 @@ extern "C" {
     fn flaxbadger_night(orders: *mut Order, orders_len: usize, mem: *mut u64, mem_len: usize, out: *mut u64, out_len: usize) -> u64;
 }
 
-/// Asks for both engines; 0 asks for the quick one alone, 1 for the plain one.
+/// Asks for the quick engine alone; 1 asks for the plain one.
+const QUICK: u64 = 0;
+/// Asks for both engines, one after the other.
 const BOTH: u64 = 2;
 
-/// Levels and the number of cells that are aimed at.
+/// Levels, the number of cells that are aimed at, and the edition, 1 or 2, of the order in which a run takes its cells.
 #[repr(C)]
 #[derive(Clone, Copy, Debug, Default, PartialEq)]
 struct Coverer {
@@ -44,6 +40,7 @@ struct Coverer {
     max_level: u64,
     level_mod: u64,
     max_cells: u64,
+    edition: u64,
 }
 
 #[repr(C)]
@@ -70,9 +67,9 @@ struct Order {
     allowance: u32,
 }
 
-const _: () = assert!(size_of::<Order>() == 160);
+const _: () = assert!(size_of::<Order>() == 168);
 const _: () = assert!(offset_of!(Order, steps) == 16 && offset_of!(Order, aside) == 24 && offset_of!(Order, fast) == 72 && offset_of!(Order, cell) == 74);
-const _: () = assert!(offset_of!(Order, id) == 80 && offset_of!(Order, cap) == 88 && offset_of!(Order, coverer) == 120 && offset_of!(Order, allowance) == 152);
+const _: () = assert!(offset_of!(Order, id) == 80 && offset_of!(Order, cap) == 88 && offset_of!(Order, coverer) == 120 && offset_of!(Order, allowance) == 160);
 
 /// A success. The leaves that were set aside stand by start cell.
 #[derive(Debug, PartialEq)]
@@ -82,29 +79,19 @@ struct Done {
     aside: [u64; 6],
 }
 
-/// Covers the cap, or gives the number of the refusal (1 to 10). The slices are borrowed for the call alone, so that the archive's
-/// requirements on pointers hold.
+/// Covers the cap, or gives the number of the refusal (1 to 10, or 14: no such edition).
 fn covering(c: Coverer, center: [f64; 3], radius: f64, allowance: u32, mem: &mut [u64], out: &mut [u64]) -> Result<Done, u64> {
-    let (mut count, mut steps, mut aside) = (0, 0, [0; 6]);
-    let number = unsafe {
-        flaxbadger_covering_cap(
-            center[0], center[1], center[2], radius,
-            c.min_level, c.max_level, c.level_mod, c.max_cells, allowance,
-            mem.as_mut_ptr(), mem.len(), out.as_mut_ptr(), out.len(),
-            &mut count, &mut steps, &mut aside,
-        )
-    };
-    if number == 0 { Ok(Done { count: count as usize, steps, aside }) } else { Err(number) }
+    covering_by(QUICK, c, center, radius, allowance, mem, out).0
 }
 
-/// Covers the cap by both engines, one after the other, as a self-test of the machine: the answer, as above, and whether they agree. Where they don't,
-/// the machine is at fault, and the answer is not to be used.
-fn covering_tested(c: Coverer, center: [f64; 3], radius: f64, allowance: u32, mem: &mut [u64], out: &mut [u64]) -> (Result<Done, u64>, bool) {
+/// Covers the cap by these engines: the answer, as above, and whether they agree. By both it is a self-test of the machine: where they don't agree, the
+/// machine is at fault, and the answer is not to be used. The slices are borrowed for the call alone, so that the archive's requirements on pointers hold.
+fn covering_by(engines: u64, c: Coverer, center: [f64; 3], radius: f64, allowance: u32, mem: &mut [u64], out: &mut [u64]) -> (Result<Done, u64>, bool) {
     let (mut count, mut steps, mut aside, mut agree) = (0, 0, [0; 6], 0);
     let number = unsafe {
         flaxbadger_covering_cap_by(
-            BOTH, center[0], center[1], center[2], radius,
-            c.min_level, c.max_level, c.level_mod, c.max_cells, allowance,
+            engines, center[0], center[1], center[2], radius,
+            c.min_level, c.max_level, c.level_mod, c.max_cells, c.edition, allowance,
             mem.as_mut_ptr(), mem.len(), out.as_mut_ptr(), out.len(),
             &mut count, &mut steps, &mut aside, &mut agree,
         )
@@ -112,15 +99,15 @@ fn covering_tested(c: Coverer, center: [f64; 3], radius: f64, allowance: u32, me
     (if number == 0 { Ok(Done { count: count as usize, steps, aside }) } else { Err(number) }, agree == 1)
 }
 
-/// Covers the ground of a list of cells, as above.
+/// Covers the ground of a list of cells, or gives the number of the refusal, as for a cap.
 fn covering_list(c: Coverer, list: &[u64], allowance: u32, mem: &mut [u64], out: &mut [u64]) -> Result<Done, u64> {
-    let (mut count, mut steps, mut aside) = (0, 0, [0; 6]);
+    let (mut count, mut steps, mut aside, mut agree) = (0, 0, [0; 6], 0);
     let number = unsafe {
-        flaxbadger_covering_list(
-            list.as_ptr(), list.len(),
-            c.min_level, c.max_level, c.level_mod, c.max_cells, allowance,
+        flaxbadger_covering_list_by(
+            QUICK, list.as_ptr(), list.len(),
+            c.min_level, c.max_level, c.level_mod, c.max_cells, c.edition, allowance,
             mem.as_mut_ptr(), mem.len(), out.as_mut_ptr(), out.len(),
-            &mut count, &mut steps, &mut aside,
+            &mut count, &mut steps, &mut aside, &mut agree,
         )
     };
     if number == 0 { Ok(Done { count: count as usize, steps, aside }) } else { Err(number) }
@@ -170,7 +157,7 @@ fn night(orders: &mut [Order], mem: &mut [u64], out: &mut [u64]) -> Result<(), u
 fn main() {
     let mut mem = vec![0u64; 5120];
     let mut out = vec![0u64; 64];
-    let c = Coverer { min_level: 1, max_level: 30, level_mod: 1, max_cells: 8 };
+    let c = Coverer { min_level: 1, max_level: 30, level_mod: 1, max_cells: 8, edition: 1 };
 
     let sphere = covering(c, [1.0, 0.0, 0.0], 4.0, 1000, &mut mem, &mut out);
     println!("the whole sphere: {sphere:?}");
@@ -195,9 +182,15 @@ fn main() {
     ok &= pole_aside.is_some_and(|aside| aside.iter().sum::<u64>() > 0);
 
     let mut again = vec![0u64; 64];
-    let (tested, agree) = covering_tested(Coverer { min_level: 0, ..c }, [0.0, 0.0, 1.0], 1e-6, 1000, &mut mem, &mut again);
-    println!("by both engines: {tested:?}, the engines {}", if agree { "agree" } else { "DO NOT agree" });
-    ok &= agree && tested == pole && tested.is_ok_and(|done| again[..done.count] == out[..done.count]);
+    for edition in [1, 2] {
+        let (tested, agree) = covering_by(BOTH, Coverer { min_level: 0, edition, ..c }, [0.0, 0.0, 1.0], 1e-6, 1000, &mut mem, &mut again);
+        println!("in edition {edition}, by both engines: {tested:?}, the engines {}", if agree { "agree" } else { "DO NOT agree" });
+        ok &= agree && tested == pole && tested.is_ok_and(|done| again[..done.count] == out[..done.count]);
+    }
+
+    let none = covering(Coverer { edition: 3, ..c }, [0.0, 0.0, 1.0], 1e-6, 1000, &mut mem, &mut again);
+    println!("in edition 3: {none:?}");
+    ok &= matches!(none, Err(14));
 
     let list = &mut out[..pole.map_or(0, |done| done.count)];
     let pairs = ranges(list);
@@ -240,17 +233,18 @@ fn main() {
     ok &= capital == Err((11, 2));
 
     let around = Order { cap: Cap { center: [0.0, 0.0, 1.0], radius: 1e-6 }, coverer: Coverer { min_level: 0, ..c }, allowance: 1000, ..Order::default() };
-    let inside = Order { inner: true, ..around };
+    let inside = Order { inner: true, coverer: Coverer { edition: 2, ..around.coverer }, ..around };
     let sphere = Order { cap: Cap { center: [1.0, 0.0, 0.0], radius: 4.0 }, coverer: c, allowance: 5, ..around };
     let face = Order { fast: true, cell: true, id: 0x1000000000000000, ..around };
-    let asked = [around, inside, sphere, face];
+    let unset = Order { coverer: Coverer { edition: 0, ..c }, ..around };
+    let asked = [around, inside, sphere, face, unset];
     let (mut orders, mut lists) = (asked, vec![u64::MAX; 64]);
     let whole = night(&mut orders, &mut mem, &mut lists);
-    println!("a night of four orders: {whole:?}");
-    ok &= whole.is_ok() && orders.map(|o| o.number) == [0, 0, 9, 0];
-    ok &= pole_aside.is_some_and(|aside| orders.map(|o| o.aside) == [aside, [0; 6], [0; 6], [0; 6]]);
+    println!("a night of five orders: {whole:?}");
+    ok &= whole.is_ok() && orders.map(|o| o.number) == [0, 0, 9, 0, 14];
+    ok &= pole_aside.is_some_and(|aside| orders.map(|o| o.aside) == [aside, [0; 6], [0; 6], [0; 6], [0; 6]]);
     let mut begin = 0;
-    for (o, name) in orders.iter().zip(["around the cap", "inside it", "the whole sphere", "face 0, quickly"]) {
+    for (o, name) in orders.iter().zip(["around the cap", "inside it", "the whole sphere", "face 0, quickly", "of no edition"]) {
         println!("  {name}: number {}, {} cells from place {begin} on, {} steps, leaves set aside {:?}", o.number, o.count, o.steps, o.aside);
         let mut alone = vec![u64::MAX; 64];
         let mut single = [Order { number: 0, count: 0, steps: 0, aside: [0; 6], ..*o }];

@@ -1,8 +1,8 @@
-// The refusals 1 to 6, which come before anything is touched: of a request's numbers, of its region and of the working memory, each by itself and joined in
-// paper 01's order.
+// The refusals 1 to 6 and 14, which come before anything is touched: of a request's numbers, of its edition, of its region and of the working memory, each by
+// itself and joined in the papers' order.
 ghost use mathlib.Core.Path.{_≡_};
 ghost use Rattle.region.specs.Region.{areaOf};
-ghost use Rattle.bars.specs.Bars.{firstBar, numbersBar, regionBar, memoryBar, barOf};
+ghost use Rattle.bars.specs.Bars.{firstBar, numbersBar, editionBar, regionBar, memoryBar, barOf};
 use region::Region;
 use run::MEMORY_WORDS;
 use run::RegionCoverer;
@@ -45,6 +45,19 @@ pub fn numbers_bar(c: RegionCoverer) -> Bar
     Bar::Open
 }
 
+// 14: the edition of the queue's order.
+pub fn edition_bar(n: u64) -> Bar
+    ensures { λ r. ⌜ r ≡ editionBar n ⌝ }
+{
+    if n < 1 {
+        return Bar::Barred(14);
+    }
+    if n > 2 {
+        return Bar::Barred(14);
+    }
+    Bar::Open
+}
+
 // 5: the region.
 pub fn region_bar(g: Region, list: &[u64]) -> Bar
     ensures { λ r. ⌜ r ≡ regionBar (areaOf g (now (list .entry))) ⌝ }
@@ -67,12 +80,10 @@ pub fn memory_bar(words: usize) -> Bar
     }
 }
 
-// The first of the refusals 1 to 6 that is to be given, if any.
+// The first of these refusals that is to be given, if any.
 pub fn first_refusal(c: RegionCoverer, g: Region, list: &[u64], words: usize) -> Bar
     ensures { λ r. ⌜ r ≡ barOf c (areaOf g (now (list .entry))) words ⌝ }
 {
-    first_bar(
-        numbers_bar(c),
-        first_bar(region_bar(g, list), memory_bar(words)),
-    )
+    let late = first_bar(region_bar(g, list), memory_bar(words));
+    first_bar(numbers_bar(c), first_bar(edition_bar(c.edition), late))
 }

@@ -25,10 +25,10 @@ use Rattle.requests.specs.declared.line.CovererRead.{CovererRead}
 use Rattle.requests.specs.declared.line.Four.{Four}
 use Rattle.requests.specs.declared.line.Options.{Options}
 use Rattle.requests.specs.Line.{fourAfter, covererAfter, capOf, none, valueOr, formOf, optionsAfter}
-use Rattle.requests.specs.Requests.{allowanceOf}
 use Rattle.orders.specs.declared.Order.{Order}
 use Rattle.batch.specs.declared.About.{About}
-use Rattle.batch.specs.Batch.{kindAfter, shapeAfter, capAbout, cellAbout, aboutAfter, lacking, allowAfter, orderWith, orderOf, wordAfter, headOf, doneText, servedText, summaryText, tooManyText}
+use Rattle.batch.specs.declared.Terms.{Terms}
+use Rattle.batch.specs.Batch.{kindAfter, shapeAfter, capAbout, cellAbout, aboutAfter, lacking, termsAfter, orderWith, orderOf, wordAfter, headOf, doneText, servedText, summaryText, tooManyText}
 
 -- ---- an order
 
@@ -51,16 +51,16 @@ module _ (l : List ℕ) (p : Place) where
     unfolding aboutAfter
     about-cell h d = rw (aboutAfter, ← e, ne-eqb _ _ h, ← e) d
 
-  pub allow-read : (o : Options) (a b c d end : Place) (n : ℕ) → o ≡ optionsAfter l p → a ≡ lacking (getD (o .values) 1 0) (o .after) → b ≡ lacking (getD (o .values) 2 0) a
-      → c ≡ lacking (getD (o .values) 3 0) b → d ≡ lacking (getD (o .values) 4 0) c → end ≡ endAfter l d → n ≡ valueOr 4294967295 (getD (o .values) 0 0) → record { value = n; after = end } ≡ allowAfter l p
-  unfolding allowAfter
-  allow-read o a b c d end n eo ea eb ec ed ee en = rw (en, ee, ed, ec, eb, ea, eo)
+  pub terms-read : (o : Options) (a b c d end : Place) (n edition : ℕ) → o ≡ optionsAfter l p → a ≡ lacking (getD (o .values) 1 0) (o .after) → b ≡ lacking (getD (o .values) 2 0) a
+      → c ≡ lacking (getD (o .values) 3 0) b → d ≡ lacking (getD (o .values) 5 0) c → end ≡ endAfter l d → n ≡ valueOr 4294967295 (getD (o .values) 0 0) → edition ≡ valueOr 1 (getD (o .values) 4 0)
+      → record { allowance = n; edition = edition; after = end } ≡ termsAfter l p
+  unfolding termsAfter
+  terms-read o a b c d end n edition eo ea eb ec ed ee en e = rw (e, en, ee, ed, ec, eb, ea, eo)
 
-pub order-read : (l : List ℕ) (start : Place) (word : Read) (c : CovererRead) (g : About) (a : Read) (allowance : ℕ) → start ≡ startOf l → word ≡ kindAfter l start → c ≡ covererAfter l (word .after)
-    → g ≡ aboutAfter l (c .after) → a ≡ allowAfter l (g .after) → allowance ≡ allowanceOf (a .value)
-    → record { order = orderWith word c g allowance; after = a .after } ≡ orderOf l
+pub order-read : (l : List ℕ) (start : Place) (word : Read) (c : CovererRead) (g : About) (a : Terms) → start ≡ startOf l → word ≡ kindAfter l start → c ≡ covererAfter l (word .after)
+    → g ≡ aboutAfter l (c .after) → a ≡ termsAfter l (g .after) → record { order = orderWith word c g a; after = a .after } ≡ orderOf l
 unfolding orderOf
-order-read l start word c g a allowance es ek ec eg ea e = rw (e, ea, eg, ec, ek, es)
+order-read l start word c g a es ek ec eg ea = rw (ea, eg, ec, ek, es)
 
 -- ---- the options that a line does not have
 
@@ -80,11 +80,11 @@ module _ (v : ℕ) (p : Place) where
 
 -- ---- the line before the orders
 
-pub head-read : (l : List ℕ) (start : Place) (word : Read) (o : Options) (a b end : Place) (out mem : ℕ) (form : Form) → start ≡ startOf l → word ≡ wordAfter l start → o ≡ optionsAfter l (word .after)
-    → a ≡ lacking (getD (o .values) 0 0) (o .after) → b ≡ lacking (getD (o .values) 4 0) a → end ≡ endAfter l b → out ≡ valueOr 65536 (getD (o .values) 1 0) → mem ≡ valueOr memoryWords (getD (o .values) 2 0) → form ≡ formOf (getD (o .values) 3 0)
+pub head-read : (l : List ℕ) (start : Place) (word : Read) (o : Options) (a b c end : Place) (out mem : ℕ) (form : Form) → start ≡ startOf l → word ≡ wordAfter l start → o ≡ optionsAfter l (word .after)
+    → a ≡ lacking (getD (o .values) 0 0) (o .after) → b ≡ lacking (getD (o .values) 4 0) a → c ≡ lacking (getD (o .values) 5 0) b → end ≡ endAfter l c → out ≡ valueOr 65536 (getD (o .values) 1 0) → mem ≡ valueOr memoryWords (getD (o .values) 2 0) → form ≡ formOf (getD (o .values) 3 0)
     → record { out = out; mem = mem; form = form; after = end } ≡ headOf l
 unfolding headOf
-head-read l start word o a b end out mem form es ew eo ea eb ee e1 e2 e3 = rw (e1, e2, e3, ee, eb, ea, eo, ew, es)
+head-read l start word o a b c end out mem form es ew eo ea eb ec ee e1 e2 e3 = rw (e1, e2, e3, ee, ec, eb, ea, eo, ew, es)
 
 -- ---- the lines that answer a night
 

@@ -1,4 +1,4 @@
--- The lines of a night: an order, `KIND MIN MAX MOD MAX_CELLS REGION [allow=N]`; the line before the orders, `night [out=N] [mem=N] [tokens=N]`; and the lines that
+-- The lines of a night: an order, `KIND MIN MAX MOD MAX_CELLS REGION [allow=N] [edition=N]`; the line before the orders, `night [out=N] [mem=N] [tokens=N]`; and the lines that
 -- answer a night.
 use mathlib.Core.Bool.{Bool, true, false}
 use mathlib.Core.List.{List, _++_}
@@ -17,12 +17,13 @@ use Rattle.totals.specs.declared.Totals.{Totals}
 use Rattle.totals.specs.Totals.{noTotals}
 use Rattle.run.specs.Run.{memoryWords}
 use Rattle.requests.specs.declared.line.CovererRead.{CovererRead}
-use Rattle.requests.specs.Line.{fourAfter, covererAfter, capOf, none, valueOr, formOf, optionsAfter}
+use Rattle.requests.specs.Line.{fourAfter, covererAfter, capOf, none, valueOr, formOf, withEdition, optionsAfter}
 use Rattle.requests.specs.Requests.{allowanceOf}
 use Rattle.orders.specs.declared.Order.{Order}
 use Rattle.batch.specs.declared.About.{About}
 use Rattle.batch.specs.declared.Head.{Head}
 use Rattle.batch.specs.declared.OrderRead.{OrderRead}
+use Rattle.batch.specs.declared.Terms.{Terms}
 
 -- ---- KIND: the outer covering, the inner one or the quick one
 
@@ -61,20 +62,21 @@ unfoldable pub lacking : ℕ → Place → Place
 lacking v (Place.Bad f) = Place.Bad f
 lacking v (Place.At at) = elim (eqb v none) [ true ↦ Place.At at | false ↦ Place.Bad Fault.ExtraField ]
 
--- the steps that are allowed, and the line's end: an order has allow= alone
-unfoldable pub allowAfter : List ℕ → Place → Read
-allowAfter l p =
+-- the steps that are allowed, the edition, and the line's end: an order has allow= and edition= alone
+unfoldable pub termsAfter : List ℕ → Place → Terms
+termsAfter l p =
     let o = optionsAfter l p in
     record {
-      value = valueOr 4294967295 (getD (o .values) 0 0);
-      after = endAfter l (lacking (getD (o .values) 4 0) (lacking (getD (o .values) 3 0) (lacking (getD (o .values) 2 0) (lacking (getD (o .values) 1 0) (o .after)))));
+      allowance = valueOr 4294967295 (getD (o .values) 0 0);
+      edition = valueOr 1 (getD (o .values) 4 0);
+      after = endAfter l (lacking (getD (o .values) 5 0) (lacking (getD (o .values) 3 0) (lacking (getD (o .values) 2 0) (lacking (getD (o .values) 1 0) (o .after)))));
     }
 
 -- ---- an order: one part after another, as a record that was not served yet; the place after it is a fault's where the line is no order
 
 -- the record of an order, by its parts
-abbrev pub orderWith : Read → CovererRead → About → ℕ → Order
-orderWith word c g allowance = record {
+abbrev pub orderWith : Read → CovererRead → About → Terms → Order
+orderWith word c g a = record {
   number = 0;
   count = 0;
   steps = 0;
@@ -84,8 +86,8 @@ orderWith word c g allowance = record {
   cell = g .cell;
   id = g .id;
   cap = g .cap;
-  coverer = c .coverer;
-  allowance = allowance;
+  coverer = withEdition (c .coverer) (a .edition);
+  allowance = allowanceOf (a .allowance);
 }
 
 unfoldable pub orderOf : List ℕ → OrderRead
@@ -93,8 +95,8 @@ orderOf l =
     let word = kindAfter l (startOf l) in
     let c = covererAfter l (word .after) in
     let g = aboutAfter l (c .after) in
-    let a = allowAfter l (g .after) in
-    record { order = orderWith word c g (allowanceOf (a .value)); after = a .after }
+    let a = termsAfter l (g .after) in
+    record { order = orderWith word c g a; after = a .after }
 
 -- ---- the line before the orders
 
@@ -106,7 +108,7 @@ wordAfter l p = choiceAfter (ascii "night") 1 Fault.UnknownKind l p
 unfoldable pub isHead : List ℕ → Bool
 isHead l = isAt (wordAfter l (Place.At 0) .after)
 
--- the places of output, the words of working memory, how ids are written; it has every option but allow= and engine=
+-- the places of output, the words of working memory, how ids are written; it has every option but allow=, edition= and engine=
 unfoldable pub headOf : List ℕ → Head
 headOf l =
     let word = wordAfter l (startOf l) in
@@ -115,7 +117,7 @@ headOf l =
       out = valueOr 65536 (getD (o .values) 1 0);
       mem = valueOr memoryWords (getD (o .values) 2 0);
       form = formOf (getD (o .values) 3 0);
-      after = endAfter l (lacking (getD (o .values) 4 0) (lacking (getD (o .values) 0 0) (o .after)));
+      after = endAfter l (lacking (getD (o .values) 5 0) (lacking (getD (o .values) 4 0) (lacking (getD (o .values) 0 0) (o .after))));
     }
 
 -- ---- the lines that answer a night

@@ -1,10 +1,10 @@
-// The lines of a night: what an order line, `KIND MIN MAX MOD MAX_CELLS REGION [allow=N]`, and the line before the orders, `night [out=N] [mem=N] [tokens=N]`, ask,
+// The lines of a night: what an order line, `KIND MIN MAX MOD MAX_CELLS REGION [allow=N] [edition=N]`, and the line before the orders, `night [out=N] [mem=N] [tokens=N]`, ask,
 // and the lines that answer a night. Any numbers and any bits of floats are taken: whoever serves an order tests its domain.
 ghost use mathlib.Core.Path.{_≡_};
 ghost use Prim.Native.Nat.{_+_, _*_, _≤_};
 ghost use lib.ListN.{length};
 ghost use Rattle.replies.specs.Write.{Wrote, Whole};
-ghost use Rattle.batch.specs.Batch.{kindAfter, shapeAfter, capAbout, cellAbout, aboutAfter, lacking, allowAfter, orderOf, wordAfter, isHead, headOf, doneText, servedText, summaryText, tooManyText};
+ghost use Rattle.batch.specs.Batch.{kindAfter, shapeAfter, capAbout, cellAbout, aboutAfter, lacking, termsAfter, orderOf, wordAfter, isHead, headOf, doneText, servedText, summaryText, tooManyText};
 use cell::Cap;
 use orders::Order;
 use run::MEMORY_WORDS;
@@ -22,6 +22,13 @@ struct About {
     cell: bool,
     id: u64,
     cap: Cap,
+    after: Place,
+}
+
+// The terms of an order, the steps that are allowed and the edition, and the place after them.
+struct Terms {
+    allowance: u64,
+    edition: u64,
     after: Place,
 }
 
@@ -104,9 +111,9 @@ fn lacks(v: u64, p: Place) -> Place
     }
 }
 
-// `[allow=N]` and the line's end: the steps that are allowed.
-fn read_allow(line: &[u8], p: Place) -> Read
-    ensures { λ r. ⌜ r ≡ allowAfter (now (line .entry)) p ⌝ }
+// `[allow=N] [edition=N]` and the line's end.
+fn read_terms(line: &[u8], p: Place) -> Terms
+    ensures { λ r. ⌜ r ≡ termsAfter (now (line .entry)) p ⌝ }
 {
     let o = requests::read_options(line, p);
     let po = o.after;
@@ -114,10 +121,11 @@ fn read_allow(line: &[u8], p: Place) -> Read
     let a = lacks(values[1], po);
     let b = lacks(values[2], a);
     let c = lacks(values[3], b);
-    let d = lacks(values[4], c);
+    let d = lacks(values[5], c);
     let after = text::read_end(line, d);
-    Read {
-        value: requests::value_or(4294967295, values[0]),
+    Terms {
+        allowance: requests::value_or(4294967295, values[0]),
+        edition: requests::value_or(1, values[4]),
         after,
     }
 }
@@ -133,11 +141,12 @@ pub fn read_order(line: &[u8]) -> OrderRead
     let pc = c.after;
     let g = read_about(line, pc);
     let pg = g.after;
-    let a = read_allow(line, pg);
+    let a = read_terms(line, pg);
     let after = a.after;
-    let coverer = c.coverer;
+    let numbers = c.coverer;
+    let coverer = requests::with_edition(numbers, a.edition);
     let cap = g.cap;
-    let allowance = requests::allowance_of(a.value);
+    let allowance = requests::allowance_of(a.allowance);
     let aside = totals::none();
     let order = Order {
         number: 0,
@@ -194,7 +203,8 @@ pub fn read_head(line: &[u8]) -> Head
     let values = o.values;
     let a = lacks(values[0], po);
     let b = lacks(values[4], a);
-    let after = text::read_end(line, b);
+    let c = lacks(values[5], b);
+    let after = text::read_end(line, c);
     Head {
         out: requests::value_or(65536, values[1]),
         mem: requests::value_or(MEMORY_WORDS as u64, values[2]),

@@ -12,8 +12,9 @@ use Rattle.totals.specs.Totals.{sixOf}
 use Rattle.covering.specs.declared.Answer.{Answer}
 use Rattle.covering.specs.Covering.{Result, answerOf, memoryAfter, outputAfter}
 
-abbrev pub regionCoverer : ℕ → ℕ → ℕ → ℕ → RegionCoverer
-regionCoverer low top step cells = record { «min_level» = low; «max_level» = top; «level_mod» = step; «max_cells» = cells }
+-- the numbers of a request
+abbrev pub regionCoverer : ℕ → ℕ → ℕ → ℕ → ℕ → RegionCoverer
+regionCoverer low top step cells edition = record { «min_level» = low; «max_level» = top; «level_mod» = step; «max_cells» = cells; edition = edition }
 
 -- "a cap is a centre of three 64-bit floats and a squared chord radius"
 abbrev pub capGiven : Float → Float → Float → Float → Area

@@ -1,6 +1,7 @@
 // The public answers for programs in C or Rust: functions on numbers and slices, under plain names, with no requirement on the caller. Each returns the
-// papers' number, 0 for success, and writes the values of the answer through `count`, `steps` and `aside`, which takes six totals. Those whose names end in `_by`
-// do the same by the quick engine, by the plain one, or by both, and write through `agree` whether they agree.
+// papers' number, 0 for success, and writes the values of the answer through `count`, `steps` and `aside`, which takes six totals. Their runs are of
+// edition 1. Those whose names end in `_by` do the same in either edition, by the quick engine, by the plain one, or by both, and write through `agree` whether
+// they agree.
 ghost use mathlib.Core.Path.{_≡_};
 ghost use lib.ListN.{length};
 ghost use Rattle.covering.specs.declared.Ending.{Ending};
@@ -125,13 +126,14 @@ pub extern "C" fn flaxbadger_covering_cap(
     steps: &mut u64,
     aside: &mut [u64; 6],
 ) -> u64
-    ensures { λ r. ⌜ Called (resultOf (Kind.Outer Ending.Covering) (regionCoverer «min_level» «max_level» «level_mod» «max_cells») (capGiven x y z radius) allowance (length (now (mem .entry))) (length (now (out .entry)))) r (now (mem .entry)) (now (mem .exit)) (now (out .entry)) (now (out .exit)) (now (count .exit)) (now (steps .exit)) (now (aside .exit)) ⌝ }
+    ensures { λ r. ⌜ Called (resultOf (Kind.Outer Ending.Covering) (regionCoverer «min_level» «max_level» «level_mod» «max_cells» 1) (capGiven x y z radius) allowance (length (now (mem .entry))) (length (now (out .entry)))) r (now (mem .entry)) (now (mem .exit)) (now (out .entry)) (now (out .exit)) (now (count .exit)) (now (steps .exit)) (now (aside .exit)) ⌝ }
 {
     let c = RegionCoverer {
         min_level,
         max_level,
         level_mod,
         max_cells,
+        edition: 1,
     };
     let kind = Kind::Outer(Ending::Covering);
     call_cap(
@@ -165,13 +167,14 @@ pub extern "C" fn flaxbadger_covering_cell(
     steps: &mut u64,
     aside: &mut [u64; 6],
 ) -> u64
-    ensures { λ r. ⌜ Called (resultOf (Kind.Outer Ending.Covering) (regionCoverer «min_level» «max_level» «level_mod» «max_cells») (cellArea id) allowance (length (now (mem .entry))) (length (now (out .entry)))) r (now (mem .entry)) (now (mem .exit)) (now (out .entry)) (now (out .exit)) (now (count .exit)) (now (steps .exit)) (now (aside .exit)) ⌝ }
+    ensures { λ r. ⌜ Called (resultOf (Kind.Outer Ending.Covering) (regionCoverer «min_level» «max_level» «level_mod» «max_cells» 1) (cellArea id) allowance (length (now (mem .entry))) (length (now (out .entry)))) r (now (mem .entry)) (now (mem .exit)) (now (out .entry)) (now (out .exit)) (now (count .exit)) (now (steps .exit)) (now (aside .exit)) ⌝ }
 {
     let c = RegionCoverer {
         min_level,
         max_level,
         level_mod,
         max_cells,
+        edition: 1,
     };
     let kind = Kind::Outer(Ending::Covering);
     call_cell(kind, id, c, allowance, mem, out, count, steps, aside)
@@ -192,13 +195,14 @@ pub extern "C" fn flaxbadger_covering_list(
     steps: &mut u64,
     aside: &mut [u64; 6],
 ) -> u64
-    ensures { λ r. ⌜ Called (resultOf (Kind.Outer Ending.Covering) (regionCoverer «min_level» «max_level» «level_mod» «max_cells») (listArea (now (list .entry))) allowance (length (now (mem .entry))) (length (now (out .entry)))) r (now (mem .entry)) (now (mem .exit)) (now (out .entry)) (now (out .exit)) (now (count .exit)) (now (steps .exit)) (now (aside .exit)) ⌝ }
+    ensures { λ r. ⌜ Called (resultOf (Kind.Outer Ending.Covering) (regionCoverer «min_level» «max_level» «level_mod» «max_cells» 1) (listArea (now (list .entry))) allowance (length (now (mem .entry))) (length (now (out .entry)))) r (now (mem .entry)) (now (mem .exit)) (now (out .entry)) (now (out .exit)) (now (count .exit)) (now (steps .exit)) (now (aside .exit)) ⌝ }
 {
     let c = RegionCoverer {
         min_level,
         max_level,
         level_mod,
         max_cells,
+        edition: 1,
     };
     let kind = Kind::Outer(Ending::Covering);
     call_list(kind, list, c, allowance, mem, out, count, steps, aside)
@@ -222,13 +226,14 @@ pub extern "C" fn flaxbadger_cellunion_cap(
     steps: &mut u64,
     aside: &mut [u64; 6],
 ) -> u64
-    ensures { λ r. ⌜ Called (resultOf (Kind.Outer Ending.CellUnion) (regionCoverer «min_level» «max_level» «level_mod» «max_cells») (capGiven x y z radius) allowance (length (now (mem .entry))) (length (now (out .entry)))) r (now (mem .entry)) (now (mem .exit)) (now (out .entry)) (now (out .exit)) (now (count .exit)) (now (steps .exit)) (now (aside .exit)) ⌝ }
+    ensures { λ r. ⌜ Called (resultOf (Kind.Outer Ending.CellUnion) (regionCoverer «min_level» «max_level» «level_mod» «max_cells» 1) (capGiven x y z radius) allowance (length (now (mem .entry))) (length (now (out .entry)))) r (now (mem .entry)) (now (mem .exit)) (now (out .entry)) (now (out .exit)) (now (count .exit)) (now (steps .exit)) (now (aside .exit)) ⌝ }
 {
     let c = RegionCoverer {
         min_level,
         max_level,
         level_mod,
         max_cells,
+        edition: 1,
     };
     let kind = Kind::Outer(Ending::CellUnion);
     call_cap(
@@ -262,13 +267,14 @@ pub extern "C" fn flaxbadger_cellunion_cell(
     steps: &mut u64,
     aside: &mut [u64; 6],
 ) -> u64
-    ensures { λ r. ⌜ Called (resultOf (Kind.Outer Ending.CellUnion) (regionCoverer «min_level» «max_level» «level_mod» «max_cells») (cellArea id) allowance (length (now (mem .entry))) (length (now (out .entry)))) r (now (mem .entry)) (now (mem .exit)) (now (out .entry)) (now (out .exit)) (now (count .exit)) (now (steps .exit)) (now (aside .exit)) ⌝ }
+    ensures { λ r. ⌜ Called (resultOf (Kind.Outer Ending.CellUnion) (regionCoverer «min_level» «max_level» «level_mod» «max_cells» 1) (cellArea id) allowance (length (now (mem .entry))) (length (now (out .entry)))) r (now (mem .entry)) (now (mem .exit)) (now (out .entry)) (now (out .exit)) (now (count .exit)) (now (steps .exit)) (now (aside .exit)) ⌝ }
 {
     let c = RegionCoverer {
         min_level,
         max_level,
         level_mod,
         max_cells,
+        edition: 1,
     };
     let kind = Kind::Outer(Ending::CellUnion);
     call_cell(kind, id, c, allowance, mem, out, count, steps, aside)
@@ -289,13 +295,14 @@ pub extern "C" fn flaxbadger_cellunion_list(
     steps: &mut u64,
     aside: &mut [u64; 6],
 ) -> u64
-    ensures { λ r. ⌜ Called (resultOf (Kind.Outer Ending.CellUnion) (regionCoverer «min_level» «max_level» «level_mod» «max_cells») (listArea (now (list .entry))) allowance (length (now (mem .entry))) (length (now (out .entry)))) r (now (mem .entry)) (now (mem .exit)) (now (out .entry)) (now (out .exit)) (now (count .exit)) (now (steps .exit)) (now (aside .exit)) ⌝ }
+    ensures { λ r. ⌜ Called (resultOf (Kind.Outer Ending.CellUnion) (regionCoverer «min_level» «max_level» «level_mod» «max_cells» 1) (listArea (now (list .entry))) allowance (length (now (mem .entry))) (length (now (out .entry)))) r (now (mem .entry)) (now (mem .exit)) (now (out .entry)) (now (out .exit)) (now (count .exit)) (now (steps .exit)) (now (aside .exit)) ⌝ }
 {
     let c = RegionCoverer {
         min_level,
         max_level,
         level_mod,
         max_cells,
+        edition: 1,
     };
     let kind = Kind::Outer(Ending::CellUnion);
     call_list(kind, list, c, allowance, mem, out, count, steps, aside)
@@ -319,13 +326,14 @@ pub extern "C" fn flaxbadger_raw_cap(
     steps: &mut u64,
     aside: &mut [u64; 6],
 ) -> u64
-    ensures { λ r. ⌜ Called (resultOf (Kind.Outer Ending.Raw) (regionCoverer «min_level» «max_level» «level_mod» «max_cells») (capGiven x y z radius) allowance (length (now (mem .entry))) (length (now (out .entry)))) r (now (mem .entry)) (now (mem .exit)) (now (out .entry)) (now (out .exit)) (now (count .exit)) (now (steps .exit)) (now (aside .exit)) ⌝ }
+    ensures { λ r. ⌜ Called (resultOf (Kind.Outer Ending.Raw) (regionCoverer «min_level» «max_level» «level_mod» «max_cells» 1) (capGiven x y z radius) allowance (length (now (mem .entry))) (length (now (out .entry)))) r (now (mem .entry)) (now (mem .exit)) (now (out .entry)) (now (out .exit)) (now (count .exit)) (now (steps .exit)) (now (aside .exit)) ⌝ }
 {
     let c = RegionCoverer {
         min_level,
         max_level,
         level_mod,
         max_cells,
+        edition: 1,
     };
     let kind = Kind::Outer(Ending::Raw);
     call_cap(
@@ -359,13 +367,14 @@ pub extern "C" fn flaxbadger_raw_cell(
     steps: &mut u64,
     aside: &mut [u64; 6],
 ) -> u64
-    ensures { λ r. ⌜ Called (resultOf (Kind.Outer Ending.Raw) (regionCoverer «min_level» «max_level» «level_mod» «max_cells») (cellArea id) allowance (length (now (mem .entry))) (length (now (out .entry)))) r (now (mem .entry)) (now (mem .exit)) (now (out .entry)) (now (out .exit)) (now (count .exit)) (now (steps .exit)) (now (aside .exit)) ⌝ }
+    ensures { λ r. ⌜ Called (resultOf (Kind.Outer Ending.Raw) (regionCoverer «min_level» «max_level» «level_mod» «max_cells» 1) (cellArea id) allowance (length (now (mem .entry))) (length (now (out .entry)))) r (now (mem .entry)) (now (mem .exit)) (now (out .entry)) (now (out .exit)) (now (count .exit)) (now (steps .exit)) (now (aside .exit)) ⌝ }
 {
     let c = RegionCoverer {
         min_level,
         max_level,
         level_mod,
         max_cells,
+        edition: 1,
     };
     let kind = Kind::Outer(Ending::Raw);
     call_cell(kind, id, c, allowance, mem, out, count, steps, aside)
@@ -386,13 +395,14 @@ pub extern "C" fn flaxbadger_raw_list(
     steps: &mut u64,
     aside: &mut [u64; 6],
 ) -> u64
-    ensures { λ r. ⌜ Called (resultOf (Kind.Outer Ending.Raw) (regionCoverer «min_level» «max_level» «level_mod» «max_cells») (listArea (now (list .entry))) allowance (length (now (mem .entry))) (length (now (out .entry)))) r (now (mem .entry)) (now (mem .exit)) (now (out .entry)) (now (out .exit)) (now (count .exit)) (now (steps .exit)) (now (aside .exit)) ⌝ }
+    ensures { λ r. ⌜ Called (resultOf (Kind.Outer Ending.Raw) (regionCoverer «min_level» «max_level» «level_mod» «max_cells» 1) (listArea (now (list .entry))) allowance (length (now (mem .entry))) (length (now (out .entry)))) r (now (mem .entry)) (now (mem .exit)) (now (out .entry)) (now (out .exit)) (now (count .exit)) (now (steps .exit)) (now (aside .exit)) ⌝ }
 {
     let c = RegionCoverer {
         min_level,
         max_level,
         level_mod,
         max_cells,
+        edition: 1,
     };
     let kind = Kind::Outer(Ending::Raw);
     call_list(kind, list, c, allowance, mem, out, count, steps, aside)
@@ -416,13 +426,14 @@ pub extern "C" fn flaxbadger_interior_covering_cap(
     steps: &mut u64,
     aside: &mut [u64; 6],
 ) -> u64
-    ensures { λ r. ⌜ Called (resultOf (Kind.Inner Ending.Covering) (regionCoverer «min_level» «max_level» «level_mod» «max_cells») (capGiven x y z radius) allowance (length (now (mem .entry))) (length (now (out .entry)))) r (now (mem .entry)) (now (mem .exit)) (now (out .entry)) (now (out .exit)) (now (count .exit)) (now (steps .exit)) (now (aside .exit)) ⌝ }
+    ensures { λ r. ⌜ Called (resultOf (Kind.Inner Ending.Covering) (regionCoverer «min_level» «max_level» «level_mod» «max_cells» 1) (capGiven x y z radius) allowance (length (now (mem .entry))) (length (now (out .entry)))) r (now (mem .entry)) (now (mem .exit)) (now (out .entry)) (now (out .exit)) (now (count .exit)) (now (steps .exit)) (now (aside .exit)) ⌝ }
 {
     let c = RegionCoverer {
         min_level,
         max_level,
         level_mod,
         max_cells,
+        edition: 1,
     };
     let kind = Kind::Inner(Ending::Covering);
     call_cap(
@@ -456,13 +467,14 @@ pub extern "C" fn flaxbadger_interior_covering_cell(
     steps: &mut u64,
     aside: &mut [u64; 6],
 ) -> u64
-    ensures { λ r. ⌜ Called (resultOf (Kind.Inner Ending.Covering) (regionCoverer «min_level» «max_level» «level_mod» «max_cells») (cellArea id) allowance (length (now (mem .entry))) (length (now (out .entry)))) r (now (mem .entry)) (now (mem .exit)) (now (out .entry)) (now (out .exit)) (now (count .exit)) (now (steps .exit)) (now (aside .exit)) ⌝ }
+    ensures { λ r. ⌜ Called (resultOf (Kind.Inner Ending.Covering) (regionCoverer «min_level» «max_level» «level_mod» «max_cells» 1) (cellArea id) allowance (length (now (mem .entry))) (length (now (out .entry)))) r (now (mem .entry)) (now (mem .exit)) (now (out .entry)) (now (out .exit)) (now (count .exit)) (now (steps .exit)) (now (aside .exit)) ⌝ }
 {
     let c = RegionCoverer {
         min_level,
         max_level,
         level_mod,
         max_cells,
+        edition: 1,
     };
     let kind = Kind::Inner(Ending::Covering);
     call_cell(kind, id, c, allowance, mem, out, count, steps, aside)
@@ -483,13 +495,14 @@ pub extern "C" fn flaxbadger_interior_covering_list(
     steps: &mut u64,
     aside: &mut [u64; 6],
 ) -> u64
-    ensures { λ r. ⌜ Called (resultOf (Kind.Inner Ending.Covering) (regionCoverer «min_level» «max_level» «level_mod» «max_cells») (listArea (now (list .entry))) allowance (length (now (mem .entry))) (length (now (out .entry)))) r (now (mem .entry)) (now (mem .exit)) (now (out .entry)) (now (out .exit)) (now (count .exit)) (now (steps .exit)) (now (aside .exit)) ⌝ }
+    ensures { λ r. ⌜ Called (resultOf (Kind.Inner Ending.Covering) (regionCoverer «min_level» «max_level» «level_mod» «max_cells» 1) (listArea (now (list .entry))) allowance (length (now (mem .entry))) (length (now (out .entry)))) r (now (mem .entry)) (now (mem .exit)) (now (out .entry)) (now (out .exit)) (now (count .exit)) (now (steps .exit)) (now (aside .exit)) ⌝ }
 {
     let c = RegionCoverer {
         min_level,
         max_level,
         level_mod,
         max_cells,
+        edition: 1,
     };
     let kind = Kind::Inner(Ending::Covering);
     call_list(kind, list, c, allowance, mem, out, count, steps, aside)
@@ -513,13 +526,14 @@ pub extern "C" fn flaxbadger_interior_cellunion_cap(
     steps: &mut u64,
     aside: &mut [u64; 6],
 ) -> u64
-    ensures { λ r. ⌜ Called (resultOf (Kind.Inner Ending.CellUnion) (regionCoverer «min_level» «max_level» «level_mod» «max_cells») (capGiven x y z radius) allowance (length (now (mem .entry))) (length (now (out .entry)))) r (now (mem .entry)) (now (mem .exit)) (now (out .entry)) (now (out .exit)) (now (count .exit)) (now (steps .exit)) (now (aside .exit)) ⌝ }
+    ensures { λ r. ⌜ Called (resultOf (Kind.Inner Ending.CellUnion) (regionCoverer «min_level» «max_level» «level_mod» «max_cells» 1) (capGiven x y z radius) allowance (length (now (mem .entry))) (length (now (out .entry)))) r (now (mem .entry)) (now (mem .exit)) (now (out .entry)) (now (out .exit)) (now (count .exit)) (now (steps .exit)) (now (aside .exit)) ⌝ }
 {
     let c = RegionCoverer {
         min_level,
         max_level,
         level_mod,
         max_cells,
+        edition: 1,
     };
     let kind = Kind::Inner(Ending::CellUnion);
     call_cap(
@@ -553,13 +567,14 @@ pub extern "C" fn flaxbadger_interior_cellunion_cell(
     steps: &mut u64,
     aside: &mut [u64; 6],
 ) -> u64
-    ensures { λ r. ⌜ Called (resultOf (Kind.Inner Ending.CellUnion) (regionCoverer «min_level» «max_level» «level_mod» «max_cells») (cellArea id) allowance (length (now (mem .entry))) (length (now (out .entry)))) r (now (mem .entry)) (now (mem .exit)) (now (out .entry)) (now (out .exit)) (now (count .exit)) (now (steps .exit)) (now (aside .exit)) ⌝ }
+    ensures { λ r. ⌜ Called (resultOf (Kind.Inner Ending.CellUnion) (regionCoverer «min_level» «max_level» «level_mod» «max_cells» 1) (cellArea id) allowance (length (now (mem .entry))) (length (now (out .entry)))) r (now (mem .entry)) (now (mem .exit)) (now (out .entry)) (now (out .exit)) (now (count .exit)) (now (steps .exit)) (now (aside .exit)) ⌝ }
 {
     let c = RegionCoverer {
         min_level,
         max_level,
         level_mod,
         max_cells,
+        edition: 1,
     };
     let kind = Kind::Inner(Ending::CellUnion);
     call_cell(kind, id, c, allowance, mem, out, count, steps, aside)
@@ -580,13 +595,14 @@ pub extern "C" fn flaxbadger_interior_cellunion_list(
     steps: &mut u64,
     aside: &mut [u64; 6],
 ) -> u64
-    ensures { λ r. ⌜ Called (resultOf (Kind.Inner Ending.CellUnion) (regionCoverer «min_level» «max_level» «level_mod» «max_cells») (listArea (now (list .entry))) allowance (length (now (mem .entry))) (length (now (out .entry)))) r (now (mem .entry)) (now (mem .exit)) (now (out .entry)) (now (out .exit)) (now (count .exit)) (now (steps .exit)) (now (aside .exit)) ⌝ }
+    ensures { λ r. ⌜ Called (resultOf (Kind.Inner Ending.CellUnion) (regionCoverer «min_level» «max_level» «level_mod» «max_cells» 1) (listArea (now (list .entry))) allowance (length (now (mem .entry))) (length (now (out .entry)))) r (now (mem .entry)) (now (mem .exit)) (now (out .entry)) (now (out .exit)) (now (count .exit)) (now (steps .exit)) (now (aside .exit)) ⌝ }
 {
     let c = RegionCoverer {
         min_level,
         max_level,
         level_mod,
         max_cells,
+        edition: 1,
     };
     let kind = Kind::Inner(Ending::CellUnion);
     call_list(kind, list, c, allowance, mem, out, count, steps, aside)
@@ -610,13 +626,14 @@ pub extern "C" fn flaxbadger_interior_raw_cap(
     steps: &mut u64,
     aside: &mut [u64; 6],
 ) -> u64
-    ensures { λ r. ⌜ Called (resultOf (Kind.Inner Ending.Raw) (regionCoverer «min_level» «max_level» «level_mod» «max_cells») (capGiven x y z radius) allowance (length (now (mem .entry))) (length (now (out .entry)))) r (now (mem .entry)) (now (mem .exit)) (now (out .entry)) (now (out .exit)) (now (count .exit)) (now (steps .exit)) (now (aside .exit)) ⌝ }
+    ensures { λ r. ⌜ Called (resultOf (Kind.Inner Ending.Raw) (regionCoverer «min_level» «max_level» «level_mod» «max_cells» 1) (capGiven x y z radius) allowance (length (now (mem .entry))) (length (now (out .entry)))) r (now (mem .entry)) (now (mem .exit)) (now (out .entry)) (now (out .exit)) (now (count .exit)) (now (steps .exit)) (now (aside .exit)) ⌝ }
 {
     let c = RegionCoverer {
         min_level,
         max_level,
         level_mod,
         max_cells,
+        edition: 1,
     };
     let kind = Kind::Inner(Ending::Raw);
     call_cap(
@@ -650,13 +667,14 @@ pub extern "C" fn flaxbadger_interior_raw_cell(
     steps: &mut u64,
     aside: &mut [u64; 6],
 ) -> u64
-    ensures { λ r. ⌜ Called (resultOf (Kind.Inner Ending.Raw) (regionCoverer «min_level» «max_level» «level_mod» «max_cells») (cellArea id) allowance (length (now (mem .entry))) (length (now (out .entry)))) r (now (mem .entry)) (now (mem .exit)) (now (out .entry)) (now (out .exit)) (now (count .exit)) (now (steps .exit)) (now (aside .exit)) ⌝ }
+    ensures { λ r. ⌜ Called (resultOf (Kind.Inner Ending.Raw) (regionCoverer «min_level» «max_level» «level_mod» «max_cells» 1) (cellArea id) allowance (length (now (mem .entry))) (length (now (out .entry)))) r (now (mem .entry)) (now (mem .exit)) (now (out .entry)) (now (out .exit)) (now (count .exit)) (now (steps .exit)) (now (aside .exit)) ⌝ }
 {
     let c = RegionCoverer {
         min_level,
         max_level,
         level_mod,
         max_cells,
+        edition: 1,
     };
     let kind = Kind::Inner(Ending::Raw);
     call_cell(kind, id, c, allowance, mem, out, count, steps, aside)
@@ -677,13 +695,14 @@ pub extern "C" fn flaxbadger_interior_raw_list(
     steps: &mut u64,
     aside: &mut [u64; 6],
 ) -> u64
-    ensures { λ r. ⌜ Called (resultOf (Kind.Inner Ending.Raw) (regionCoverer «min_level» «max_level» «level_mod» «max_cells») (listArea (now (list .entry))) allowance (length (now (mem .entry))) (length (now (out .entry)))) r (now (mem .entry)) (now (mem .exit)) (now (out .entry)) (now (out .exit)) (now (count .exit)) (now (steps .exit)) (now (aside .exit)) ⌝ }
+    ensures { λ r. ⌜ Called (resultOf (Kind.Inner Ending.Raw) (regionCoverer «min_level» «max_level» «level_mod» «max_cells» 1) (listArea (now (list .entry))) allowance (length (now (mem .entry))) (length (now (out .entry)))) r (now (mem .entry)) (now (mem .exit)) (now (out .entry)) (now (out .exit)) (now (count .exit)) (now (steps .exit)) (now (aside .exit)) ⌝ }
 {
     let c = RegionCoverer {
         min_level,
         max_level,
         level_mod,
         max_cells,
+        edition: 1,
     };
     let kind = Kind::Inner(Ending::Raw);
     call_list(kind, list, c, allowance, mem, out, count, steps, aside)
@@ -706,13 +725,14 @@ pub extern "C" fn flaxbadger_fast_covering_cap(
     steps: &mut u64,
     aside: &mut [u64; 6],
 ) -> u64
-    ensures { λ r. ⌜ Called (resultOf Kind.Fast (regionCoverer «min_level» «max_level» «level_mod» «max_cells») (capGiven x y z radius) 0 (length (now (mem .entry))) (length (now (out .entry)))) r (now (mem .entry)) (now (mem .exit)) (now (out .entry)) (now (out .exit)) (now (count .exit)) (now (steps .exit)) (now (aside .exit)) ⌝ }
+    ensures { λ r. ⌜ Called (resultOf Kind.Fast (regionCoverer «min_level» «max_level» «level_mod» «max_cells» 1) (capGiven x y z radius) 0 (length (now (mem .entry))) (length (now (out .entry)))) r (now (mem .entry)) (now (mem .exit)) (now (out .entry)) (now (out .exit)) (now (count .exit)) (now (steps .exit)) (now (aside .exit)) ⌝ }
 {
     let c = RegionCoverer {
         min_level,
         max_level,
         level_mod,
         max_cells,
+        edition: 1,
     };
     call_cap(
         Kind::Fast,
@@ -744,13 +764,14 @@ pub extern "C" fn flaxbadger_fast_covering_cell(
     steps: &mut u64,
     aside: &mut [u64; 6],
 ) -> u64
-    ensures { λ r. ⌜ Called (resultOf Kind.Fast (regionCoverer «min_level» «max_level» «level_mod» «max_cells») (cellArea id) 0 (length (now (mem .entry))) (length (now (out .entry)))) r (now (mem .entry)) (now (mem .exit)) (now (out .entry)) (now (out .exit)) (now (count .exit)) (now (steps .exit)) (now (aside .exit)) ⌝ }
+    ensures { λ r. ⌜ Called (resultOf Kind.Fast (regionCoverer «min_level» «max_level» «level_mod» «max_cells» 1) (cellArea id) 0 (length (now (mem .entry))) (length (now (out .entry)))) r (now (mem .entry)) (now (mem .exit)) (now (out .entry)) (now (out .exit)) (now (count .exit)) (now (steps .exit)) (now (aside .exit)) ⌝ }
 {
     let c = RegionCoverer {
         min_level,
         max_level,
         level_mod,
         max_cells,
+        edition: 1,
     };
     call_cell(Kind::Fast, id, c, 0, mem, out, count, steps, aside)
 }
@@ -769,13 +790,14 @@ pub extern "C" fn flaxbadger_fast_covering_list(
     steps: &mut u64,
     aside: &mut [u64; 6],
 ) -> u64
-    ensures { λ r. ⌜ Called (resultOf Kind.Fast (regionCoverer «min_level» «max_level» «level_mod» «max_cells») (listArea (now (list .entry))) 0 (length (now (mem .entry))) (length (now (out .entry)))) r (now (mem .entry)) (now (mem .exit)) (now (out .entry)) (now (out .exit)) (now (count .exit)) (now (steps .exit)) (now (aside .exit)) ⌝ }
+    ensures { λ r. ⌜ Called (resultOf Kind.Fast (regionCoverer «min_level» «max_level» «level_mod» «max_cells» 1) (listArea (now (list .entry))) 0 (length (now (mem .entry))) (length (now (out .entry)))) r (now (mem .entry)) (now (mem .exit)) (now (out .entry)) (now (out .exit)) (now (count .exit)) (now (steps .exit)) (now (aside .exit)) ⌝ }
 {
     let c = RegionCoverer {
         min_level,
         max_level,
         level_mod,
         max_cells,
+        edition: 1,
     };
     call_list(Kind::Fast, list, c, 0, mem, out, count, steps, aside)
 }
@@ -919,6 +941,7 @@ pub extern "C" fn flaxbadger_covering_cap_by(
     max_level: u64,
     level_mod: u64,
     max_cells: u64,
+    edition: u64,
     allowance: u32,
     mem: &mut [u64],
     out: &mut [u64],
@@ -927,13 +950,14 @@ pub extern "C" fn flaxbadger_covering_cap_by(
     aside: &mut [u64; 6],
     agree: &mut u64,
 ) -> u64
-    ensures { λ r. ⌜ CalledBy (resultOf (Kind.Outer Ending.Covering) (regionCoverer «min_level» «max_level» «level_mod» «max_cells») (capGiven x y z radius) allowance (length (now (mem .entry))) (length (now (out .entry)))) r (now (mem .entry)) (now (mem .exit)) (now (out .entry)) (now (out .exit)) (now (count .exit)) (now (steps .exit)) (now (aside .exit)) (now (agree .exit)) ⌝ }
+    ensures { λ r. ⌜ CalledBy (resultOf (Kind.Outer Ending.Covering) (regionCoverer «min_level» «max_level» «level_mod» «max_cells» edition) (capGiven x y z radius) allowance (length (now (mem .entry))) (length (now (out .entry)))) r (now (mem .entry)) (now (mem .exit)) (now (out .entry)) (now (out .exit)) (now (count .exit)) (now (steps .exit)) (now (aside .exit)) (now (agree .exit)) ⌝ }
 {
     let c = RegionCoverer {
         min_level,
         max_level,
         level_mod,
         max_cells,
+        edition,
     };
     let kind = Kind::Outer(Ending::Covering);
     call_cap_by(
@@ -963,6 +987,7 @@ pub extern "C" fn flaxbadger_covering_cell_by(
     max_level: u64,
     level_mod: u64,
     max_cells: u64,
+    edition: u64,
     allowance: u32,
     mem: &mut [u64],
     out: &mut [u64],
@@ -971,13 +996,14 @@ pub extern "C" fn flaxbadger_covering_cell_by(
     aside: &mut [u64; 6],
     agree: &mut u64,
 ) -> u64
-    ensures { λ r. ⌜ CalledBy (resultOf (Kind.Outer Ending.Covering) (regionCoverer «min_level» «max_level» «level_mod» «max_cells») (cellArea id) allowance (length (now (mem .entry))) (length (now (out .entry)))) r (now (mem .entry)) (now (mem .exit)) (now (out .entry)) (now (out .exit)) (now (count .exit)) (now (steps .exit)) (now (aside .exit)) (now (agree .exit)) ⌝ }
+    ensures { λ r. ⌜ CalledBy (resultOf (Kind.Outer Ending.Covering) (regionCoverer «min_level» «max_level» «level_mod» «max_cells» edition) (cellArea id) allowance (length (now (mem .entry))) (length (now (out .entry)))) r (now (mem .entry)) (now (mem .exit)) (now (out .entry)) (now (out .exit)) (now (count .exit)) (now (steps .exit)) (now (aside .exit)) (now (agree .exit)) ⌝ }
 {
     let c = RegionCoverer {
         min_level,
         max_level,
         level_mod,
         max_cells,
+        edition,
     };
     let kind = Kind::Outer(Ending::Covering);
     call_cell_by(
@@ -1004,6 +1030,7 @@ pub extern "C" fn flaxbadger_covering_list_by(
     max_level: u64,
     level_mod: u64,
     max_cells: u64,
+    edition: u64,
     allowance: u32,
     mem: &mut [u64],
     out: &mut [u64],
@@ -1012,13 +1039,14 @@ pub extern "C" fn flaxbadger_covering_list_by(
     aside: &mut [u64; 6],
     agree: &mut u64,
 ) -> u64
-    ensures { λ r. ⌜ CalledBy (resultOf (Kind.Outer Ending.Covering) (regionCoverer «min_level» «max_level» «level_mod» «max_cells») (listArea (now (list .entry))) allowance (length (now (mem .entry))) (length (now (out .entry)))) r (now (mem .entry)) (now (mem .exit)) (now (out .entry)) (now (out .exit)) (now (count .exit)) (now (steps .exit)) (now (aside .exit)) (now (agree .exit)) ⌝ }
+    ensures { λ r. ⌜ CalledBy (resultOf (Kind.Outer Ending.Covering) (regionCoverer «min_level» «max_level» «level_mod» «max_cells» edition) (listArea (now (list .entry))) allowance (length (now (mem .entry))) (length (now (out .entry)))) r (now (mem .entry)) (now (mem .exit)) (now (out .entry)) (now (out .exit)) (now (count .exit)) (now (steps .exit)) (now (aside .exit)) (now (agree .exit)) ⌝ }
 {
     let c = RegionCoverer {
         min_level,
         max_level,
         level_mod,
         max_cells,
+        edition,
     };
     let kind = Kind::Outer(Ending::Covering);
     call_list_by(
@@ -1048,6 +1076,7 @@ pub extern "C" fn flaxbadger_cellunion_cap_by(
     max_level: u64,
     level_mod: u64,
     max_cells: u64,
+    edition: u64,
     allowance: u32,
     mem: &mut [u64],
     out: &mut [u64],
@@ -1056,13 +1085,14 @@ pub extern "C" fn flaxbadger_cellunion_cap_by(
     aside: &mut [u64; 6],
     agree: &mut u64,
 ) -> u64
-    ensures { λ r. ⌜ CalledBy (resultOf (Kind.Outer Ending.CellUnion) (regionCoverer «min_level» «max_level» «level_mod» «max_cells») (capGiven x y z radius) allowance (length (now (mem .entry))) (length (now (out .entry)))) r (now (mem .entry)) (now (mem .exit)) (now (out .entry)) (now (out .exit)) (now (count .exit)) (now (steps .exit)) (now (aside .exit)) (now (agree .exit)) ⌝ }
+    ensures { λ r. ⌜ CalledBy (resultOf (Kind.Outer Ending.CellUnion) (regionCoverer «min_level» «max_level» «level_mod» «max_cells» edition) (capGiven x y z radius) allowance (length (now (mem .entry))) (length (now (out .entry)))) r (now (mem .entry)) (now (mem .exit)) (now (out .entry)) (now (out .exit)) (now (count .exit)) (now (steps .exit)) (now (aside .exit)) (now (agree .exit)) ⌝ }
 {
     let c = RegionCoverer {
         min_level,
         max_level,
         level_mod,
         max_cells,
+        edition,
     };
     let kind = Kind::Outer(Ending::CellUnion);
     call_cap_by(
@@ -1092,6 +1122,7 @@ pub extern "C" fn flaxbadger_cellunion_cell_by(
     max_level: u64,
     level_mod: u64,
     max_cells: u64,
+    edition: u64,
     allowance: u32,
     mem: &mut [u64],
     out: &mut [u64],
@@ -1100,13 +1131,14 @@ pub extern "C" fn flaxbadger_cellunion_cell_by(
     aside: &mut [u64; 6],
     agree: &mut u64,
 ) -> u64
-    ensures { λ r. ⌜ CalledBy (resultOf (Kind.Outer Ending.CellUnion) (regionCoverer «min_level» «max_level» «level_mod» «max_cells») (cellArea id) allowance (length (now (mem .entry))) (length (now (out .entry)))) r (now (mem .entry)) (now (mem .exit)) (now (out .entry)) (now (out .exit)) (now (count .exit)) (now (steps .exit)) (now (aside .exit)) (now (agree .exit)) ⌝ }
+    ensures { λ r. ⌜ CalledBy (resultOf (Kind.Outer Ending.CellUnion) (regionCoverer «min_level» «max_level» «level_mod» «max_cells» edition) (cellArea id) allowance (length (now (mem .entry))) (length (now (out .entry)))) r (now (mem .entry)) (now (mem .exit)) (now (out .entry)) (now (out .exit)) (now (count .exit)) (now (steps .exit)) (now (aside .exit)) (now (agree .exit)) ⌝ }
 {
     let c = RegionCoverer {
         min_level,
         max_level,
         level_mod,
         max_cells,
+        edition,
     };
     let kind = Kind::Outer(Ending::CellUnion);
     call_cell_by(
@@ -1133,6 +1165,7 @@ pub extern "C" fn flaxbadger_cellunion_list_by(
     max_level: u64,
     level_mod: u64,
     max_cells: u64,
+    edition: u64,
     allowance: u32,
     mem: &mut [u64],
     out: &mut [u64],
@@ -1141,13 +1174,14 @@ pub extern "C" fn flaxbadger_cellunion_list_by(
     aside: &mut [u64; 6],
     agree: &mut u64,
 ) -> u64
-    ensures { λ r. ⌜ CalledBy (resultOf (Kind.Outer Ending.CellUnion) (regionCoverer «min_level» «max_level» «level_mod» «max_cells») (listArea (now (list .entry))) allowance (length (now (mem .entry))) (length (now (out .entry)))) r (now (mem .entry)) (now (mem .exit)) (now (out .entry)) (now (out .exit)) (now (count .exit)) (now (steps .exit)) (now (aside .exit)) (now (agree .exit)) ⌝ }
+    ensures { λ r. ⌜ CalledBy (resultOf (Kind.Outer Ending.CellUnion) (regionCoverer «min_level» «max_level» «level_mod» «max_cells» edition) (listArea (now (list .entry))) allowance (length (now (mem .entry))) (length (now (out .entry)))) r (now (mem .entry)) (now (mem .exit)) (now (out .entry)) (now (out .exit)) (now (count .exit)) (now (steps .exit)) (now (aside .exit)) (now (agree .exit)) ⌝ }
 {
     let c = RegionCoverer {
         min_level,
         max_level,
         level_mod,
         max_cells,
+        edition,
     };
     let kind = Kind::Outer(Ending::CellUnion);
     call_list_by(
@@ -1177,6 +1211,7 @@ pub extern "C" fn flaxbadger_raw_cap_by(
     max_level: u64,
     level_mod: u64,
     max_cells: u64,
+    edition: u64,
     allowance: u32,
     mem: &mut [u64],
     out: &mut [u64],
@@ -1185,13 +1220,14 @@ pub extern "C" fn flaxbadger_raw_cap_by(
     aside: &mut [u64; 6],
     agree: &mut u64,
 ) -> u64
-    ensures { λ r. ⌜ CalledBy (resultOf (Kind.Outer Ending.Raw) (regionCoverer «min_level» «max_level» «level_mod» «max_cells») (capGiven x y z radius) allowance (length (now (mem .entry))) (length (now (out .entry)))) r (now (mem .entry)) (now (mem .exit)) (now (out .entry)) (now (out .exit)) (now (count .exit)) (now (steps .exit)) (now (aside .exit)) (now (agree .exit)) ⌝ }
+    ensures { λ r. ⌜ CalledBy (resultOf (Kind.Outer Ending.Raw) (regionCoverer «min_level» «max_level» «level_mod» «max_cells» edition) (capGiven x y z radius) allowance (length (now (mem .entry))) (length (now (out .entry)))) r (now (mem .entry)) (now (mem .exit)) (now (out .entry)) (now (out .exit)) (now (count .exit)) (now (steps .exit)) (now (aside .exit)) (now (agree .exit)) ⌝ }
 {
     let c = RegionCoverer {
         min_level,
         max_level,
         level_mod,
         max_cells,
+        edition,
     };
     let kind = Kind::Outer(Ending::Raw);
     call_cap_by(
@@ -1221,6 +1257,7 @@ pub extern "C" fn flaxbadger_raw_cell_by(
     max_level: u64,
     level_mod: u64,
     max_cells: u64,
+    edition: u64,
     allowance: u32,
     mem: &mut [u64],
     out: &mut [u64],
@@ -1229,13 +1266,14 @@ pub extern "C" fn flaxbadger_raw_cell_by(
     aside: &mut [u64; 6],
     agree: &mut u64,
 ) -> u64
-    ensures { λ r. ⌜ CalledBy (resultOf (Kind.Outer Ending.Raw) (regionCoverer «min_level» «max_level» «level_mod» «max_cells») (cellArea id) allowance (length (now (mem .entry))) (length (now (out .entry)))) r (now (mem .entry)) (now (mem .exit)) (now (out .entry)) (now (out .exit)) (now (count .exit)) (now (steps .exit)) (now (aside .exit)) (now (agree .exit)) ⌝ }
+    ensures { λ r. ⌜ CalledBy (resultOf (Kind.Outer Ending.Raw) (regionCoverer «min_level» «max_level» «level_mod» «max_cells» edition) (cellArea id) allowance (length (now (mem .entry))) (length (now (out .entry)))) r (now (mem .entry)) (now (mem .exit)) (now (out .entry)) (now (out .exit)) (now (count .exit)) (now (steps .exit)) (now (aside .exit)) (now (agree .exit)) ⌝ }
 {
     let c = RegionCoverer {
         min_level,
         max_level,
         level_mod,
         max_cells,
+        edition,
     };
     let kind = Kind::Outer(Ending::Raw);
     call_cell_by(
@@ -1262,6 +1300,7 @@ pub extern "C" fn flaxbadger_raw_list_by(
     max_level: u64,
     level_mod: u64,
     max_cells: u64,
+    edition: u64,
     allowance: u32,
     mem: &mut [u64],
     out: &mut [u64],
@@ -1270,13 +1309,14 @@ pub extern "C" fn flaxbadger_raw_list_by(
     aside: &mut [u64; 6],
     agree: &mut u64,
 ) -> u64
-    ensures { λ r. ⌜ CalledBy (resultOf (Kind.Outer Ending.Raw) (regionCoverer «min_level» «max_level» «level_mod» «max_cells») (listArea (now (list .entry))) allowance (length (now (mem .entry))) (length (now (out .entry)))) r (now (mem .entry)) (now (mem .exit)) (now (out .entry)) (now (out .exit)) (now (count .exit)) (now (steps .exit)) (now (aside .exit)) (now (agree .exit)) ⌝ }
+    ensures { λ r. ⌜ CalledBy (resultOf (Kind.Outer Ending.Raw) (regionCoverer «min_level» «max_level» «level_mod» «max_cells» edition) (listArea (now (list .entry))) allowance (length (now (mem .entry))) (length (now (out .entry)))) r (now (mem .entry)) (now (mem .exit)) (now (out .entry)) (now (out .exit)) (now (count .exit)) (now (steps .exit)) (now (aside .exit)) (now (agree .exit)) ⌝ }
 {
     let c = RegionCoverer {
         min_level,
         max_level,
         level_mod,
         max_cells,
+        edition,
     };
     let kind = Kind::Outer(Ending::Raw);
     call_list_by(
@@ -1306,6 +1346,7 @@ pub extern "C" fn flaxbadger_interior_covering_cap_by(
     max_level: u64,
     level_mod: u64,
     max_cells: u64,
+    edition: u64,
     allowance: u32,
     mem: &mut [u64],
     out: &mut [u64],
@@ -1314,13 +1355,14 @@ pub extern "C" fn flaxbadger_interior_covering_cap_by(
     aside: &mut [u64; 6],
     agree: &mut u64,
 ) -> u64
-    ensures { λ r. ⌜ CalledBy (resultOf (Kind.Inner Ending.Covering) (regionCoverer «min_level» «max_level» «level_mod» «max_cells») (capGiven x y z radius) allowance (length (now (mem .entry))) (length (now (out .entry)))) r (now (mem .entry)) (now (mem .exit)) (now (out .entry)) (now (out .exit)) (now (count .exit)) (now (steps .exit)) (now (aside .exit)) (now (agree .exit)) ⌝ }
+    ensures { λ r. ⌜ CalledBy (resultOf (Kind.Inner Ending.Covering) (regionCoverer «min_level» «max_level» «level_mod» «max_cells» edition) (capGiven x y z radius) allowance (length (now (mem .entry))) (length (now (out .entry)))) r (now (mem .entry)) (now (mem .exit)) (now (out .entry)) (now (out .exit)) (now (count .exit)) (now (steps .exit)) (now (aside .exit)) (now (agree .exit)) ⌝ }
 {
     let c = RegionCoverer {
         min_level,
         max_level,
         level_mod,
         max_cells,
+        edition,
     };
     let kind = Kind::Inner(Ending::Covering);
     call_cap_by(
@@ -1350,6 +1392,7 @@ pub extern "C" fn flaxbadger_interior_covering_cell_by(
     max_level: u64,
     level_mod: u64,
     max_cells: u64,
+    edition: u64,
     allowance: u32,
     mem: &mut [u64],
     out: &mut [u64],
@@ -1358,13 +1401,14 @@ pub extern "C" fn flaxbadger_interior_covering_cell_by(
     aside: &mut [u64; 6],
     agree: &mut u64,
 ) -> u64
-    ensures { λ r. ⌜ CalledBy (resultOf (Kind.Inner Ending.Covering) (regionCoverer «min_level» «max_level» «level_mod» «max_cells») (cellArea id) allowance (length (now (mem .entry))) (length (now (out .entry)))) r (now (mem .entry)) (now (mem .exit)) (now (out .entry)) (now (out .exit)) (now (count .exit)) (now (steps .exit)) (now (aside .exit)) (now (agree .exit)) ⌝ }
+    ensures { λ r. ⌜ CalledBy (resultOf (Kind.Inner Ending.Covering) (regionCoverer «min_level» «max_level» «level_mod» «max_cells» edition) (cellArea id) allowance (length (now (mem .entry))) (length (now (out .entry)))) r (now (mem .entry)) (now (mem .exit)) (now (out .entry)) (now (out .exit)) (now (count .exit)) (now (steps .exit)) (now (aside .exit)) (now (agree .exit)) ⌝ }
 {
     let c = RegionCoverer {
         min_level,
         max_level,
         level_mod,
         max_cells,
+        edition,
     };
     let kind = Kind::Inner(Ending::Covering);
     call_cell_by(
@@ -1391,6 +1435,7 @@ pub extern "C" fn flaxbadger_interior_covering_list_by(
     max_level: u64,
     level_mod: u64,
     max_cells: u64,
+    edition: u64,
     allowance: u32,
     mem: &mut [u64],
     out: &mut [u64],
@@ -1399,13 +1444,14 @@ pub extern "C" fn flaxbadger_interior_covering_list_by(
     aside: &mut [u64; 6],
     agree: &mut u64,
 ) -> u64
-    ensures { λ r. ⌜ CalledBy (resultOf (Kind.Inner Ending.Covering) (regionCoverer «min_level» «max_level» «level_mod» «max_cells») (listArea (now (list .entry))) allowance (length (now (mem .entry))) (length (now (out .entry)))) r (now (mem .entry)) (now (mem .exit)) (now (out .entry)) (now (out .exit)) (now (count .exit)) (now (steps .exit)) (now (aside .exit)) (now (agree .exit)) ⌝ }
+    ensures { λ r. ⌜ CalledBy (resultOf (Kind.Inner Ending.Covering) (regionCoverer «min_level» «max_level» «level_mod» «max_cells» edition) (listArea (now (list .entry))) allowance (length (now (mem .entry))) (length (now (out .entry)))) r (now (mem .entry)) (now (mem .exit)) (now (out .entry)) (now (out .exit)) (now (count .exit)) (now (steps .exit)) (now (aside .exit)) (now (agree .exit)) ⌝ }
 {
     let c = RegionCoverer {
         min_level,
         max_level,
         level_mod,
         max_cells,
+        edition,
     };
     let kind = Kind::Inner(Ending::Covering);
     call_list_by(
@@ -1435,6 +1481,7 @@ pub extern "C" fn flaxbadger_interior_cellunion_cap_by(
     max_level: u64,
     level_mod: u64,
     max_cells: u64,
+    edition: u64,
     allowance: u32,
     mem: &mut [u64],
     out: &mut [u64],
@@ -1443,13 +1490,14 @@ pub extern "C" fn flaxbadger_interior_cellunion_cap_by(
     aside: &mut [u64; 6],
     agree: &mut u64,
 ) -> u64
-    ensures { λ r. ⌜ CalledBy (resultOf (Kind.Inner Ending.CellUnion) (regionCoverer «min_level» «max_level» «level_mod» «max_cells») (capGiven x y z radius) allowance (length (now (mem .entry))) (length (now (out .entry)))) r (now (mem .entry)) (now (mem .exit)) (now (out .entry)) (now (out .exit)) (now (count .exit)) (now (steps .exit)) (now (aside .exit)) (now (agree .exit)) ⌝ }
+    ensures { λ r. ⌜ CalledBy (resultOf (Kind.Inner Ending.CellUnion) (regionCoverer «min_level» «max_level» «level_mod» «max_cells» edition) (capGiven x y z radius) allowance (length (now (mem .entry))) (length (now (out .entry)))) r (now (mem .entry)) (now (mem .exit)) (now (out .entry)) (now (out .exit)) (now (count .exit)) (now (steps .exit)) (now (aside .exit)) (now (agree .exit)) ⌝ }
 {
     let c = RegionCoverer {
         min_level,
         max_level,
         level_mod,
         max_cells,
+        edition,
     };
     let kind = Kind::Inner(Ending::CellUnion);
     call_cap_by(
@@ -1479,6 +1527,7 @@ pub extern "C" fn flaxbadger_interior_cellunion_cell_by(
     max_level: u64,
     level_mod: u64,
     max_cells: u64,
+    edition: u64,
     allowance: u32,
     mem: &mut [u64],
     out: &mut [u64],
@@ -1487,13 +1536,14 @@ pub extern "C" fn flaxbadger_interior_cellunion_cell_by(
     aside: &mut [u64; 6],
     agree: &mut u64,
 ) -> u64
-    ensures { λ r. ⌜ CalledBy (resultOf (Kind.Inner Ending.CellUnion) (regionCoverer «min_level» «max_level» «level_mod» «max_cells») (cellArea id) allowance (length (now (mem .entry))) (length (now (out .entry)))) r (now (mem .entry)) (now (mem .exit)) (now (out .entry)) (now (out .exit)) (now (count .exit)) (now (steps .exit)) (now (aside .exit)) (now (agree .exit)) ⌝ }
+    ensures { λ r. ⌜ CalledBy (resultOf (Kind.Inner Ending.CellUnion) (regionCoverer «min_level» «max_level» «level_mod» «max_cells» edition) (cellArea id) allowance (length (now (mem .entry))) (length (now (out .entry)))) r (now (mem .entry)) (now (mem .exit)) (now (out .entry)) (now (out .exit)) (now (count .exit)) (now (steps .exit)) (now (aside .exit)) (now (agree .exit)) ⌝ }
 {
     let c = RegionCoverer {
         min_level,
         max_level,
         level_mod,
         max_cells,
+        edition,
     };
     let kind = Kind::Inner(Ending::CellUnion);
     call_cell_by(
@@ -1520,6 +1570,7 @@ pub extern "C" fn flaxbadger_interior_cellunion_list_by(
     max_level: u64,
     level_mod: u64,
     max_cells: u64,
+    edition: u64,
     allowance: u32,
     mem: &mut [u64],
     out: &mut [u64],
@@ -1528,13 +1579,14 @@ pub extern "C" fn flaxbadger_interior_cellunion_list_by(
     aside: &mut [u64; 6],
     agree: &mut u64,
 ) -> u64
-    ensures { λ r. ⌜ CalledBy (resultOf (Kind.Inner Ending.CellUnion) (regionCoverer «min_level» «max_level» «level_mod» «max_cells») (listArea (now (list .entry))) allowance (length (now (mem .entry))) (length (now (out .entry)))) r (now (mem .entry)) (now (mem .exit)) (now (out .entry)) (now (out .exit)) (now (count .exit)) (now (steps .exit)) (now (aside .exit)) (now (agree .exit)) ⌝ }
+    ensures { λ r. ⌜ CalledBy (resultOf (Kind.Inner Ending.CellUnion) (regionCoverer «min_level» «max_level» «level_mod» «max_cells» edition) (listArea (now (list .entry))) allowance (length (now (mem .entry))) (length (now (out .entry)))) r (now (mem .entry)) (now (mem .exit)) (now (out .entry)) (now (out .exit)) (now (count .exit)) (now (steps .exit)) (now (aside .exit)) (now (agree .exit)) ⌝ }
 {
     let c = RegionCoverer {
         min_level,
         max_level,
         level_mod,
         max_cells,
+        edition,
     };
     let kind = Kind::Inner(Ending::CellUnion);
     call_list_by(
@@ -1564,6 +1616,7 @@ pub extern "C" fn flaxbadger_interior_raw_cap_by(
     max_level: u64,
     level_mod: u64,
     max_cells: u64,
+    edition: u64,
     allowance: u32,
     mem: &mut [u64],
     out: &mut [u64],
@@ -1572,13 +1625,14 @@ pub extern "C" fn flaxbadger_interior_raw_cap_by(
     aside: &mut [u64; 6],
     agree: &mut u64,
 ) -> u64
-    ensures { λ r. ⌜ CalledBy (resultOf (Kind.Inner Ending.Raw) (regionCoverer «min_level» «max_level» «level_mod» «max_cells») (capGiven x y z radius) allowance (length (now (mem .entry))) (length (now (out .entry)))) r (now (mem .entry)) (now (mem .exit)) (now (out .entry)) (now (out .exit)) (now (count .exit)) (now (steps .exit)) (now (aside .exit)) (now (agree .exit)) ⌝ }
+    ensures { λ r. ⌜ CalledBy (resultOf (Kind.Inner Ending.Raw) (regionCoverer «min_level» «max_level» «level_mod» «max_cells» edition) (capGiven x y z radius) allowance (length (now (mem .entry))) (length (now (out .entry)))) r (now (mem .entry)) (now (mem .exit)) (now (out .entry)) (now (out .exit)) (now (count .exit)) (now (steps .exit)) (now (aside .exit)) (now (agree .exit)) ⌝ }
 {
     let c = RegionCoverer {
         min_level,
         max_level,
         level_mod,
         max_cells,
+        edition,
     };
     let kind = Kind::Inner(Ending::Raw);
     call_cap_by(
@@ -1608,6 +1662,7 @@ pub extern "C" fn flaxbadger_interior_raw_cell_by(
     max_level: u64,
     level_mod: u64,
     max_cells: u64,
+    edition: u64,
     allowance: u32,
     mem: &mut [u64],
     out: &mut [u64],
@@ -1616,13 +1671,14 @@ pub extern "C" fn flaxbadger_interior_raw_cell_by(
     aside: &mut [u64; 6],
     agree: &mut u64,
 ) -> u64
-    ensures { λ r. ⌜ CalledBy (resultOf (Kind.Inner Ending.Raw) (regionCoverer «min_level» «max_level» «level_mod» «max_cells») (cellArea id) allowance (length (now (mem .entry))) (length (now (out .entry)))) r (now (mem .entry)) (now (mem .exit)) (now (out .entry)) (now (out .exit)) (now (count .exit)) (now (steps .exit)) (now (aside .exit)) (now (agree .exit)) ⌝ }
+    ensures { λ r. ⌜ CalledBy (resultOf (Kind.Inner Ending.Raw) (regionCoverer «min_level» «max_level» «level_mod» «max_cells» edition) (cellArea id) allowance (length (now (mem .entry))) (length (now (out .entry)))) r (now (mem .entry)) (now (mem .exit)) (now (out .entry)) (now (out .exit)) (now (count .exit)) (now (steps .exit)) (now (aside .exit)) (now (agree .exit)) ⌝ }
 {
     let c = RegionCoverer {
         min_level,
         max_level,
         level_mod,
         max_cells,
+        edition,
     };
     let kind = Kind::Inner(Ending::Raw);
     call_cell_by(
@@ -1649,6 +1705,7 @@ pub extern "C" fn flaxbadger_interior_raw_list_by(
     max_level: u64,
     level_mod: u64,
     max_cells: u64,
+    edition: u64,
     allowance: u32,
     mem: &mut [u64],
     out: &mut [u64],
@@ -1657,13 +1714,14 @@ pub extern "C" fn flaxbadger_interior_raw_list_by(
     aside: &mut [u64; 6],
     agree: &mut u64,
 ) -> u64
-    ensures { λ r. ⌜ CalledBy (resultOf (Kind.Inner Ending.Raw) (regionCoverer «min_level» «max_level» «level_mod» «max_cells») (listArea (now (list .entry))) allowance (length (now (mem .entry))) (length (now (out .entry)))) r (now (mem .entry)) (now (mem .exit)) (now (out .entry)) (now (out .exit)) (now (count .exit)) (now (steps .exit)) (now (aside .exit)) (now (agree .exit)) ⌝ }
+    ensures { λ r. ⌜ CalledBy (resultOf (Kind.Inner Ending.Raw) (regionCoverer «min_level» «max_level» «level_mod» «max_cells» edition) (listArea (now (list .entry))) allowance (length (now (mem .entry))) (length (now (out .entry)))) r (now (mem .entry)) (now (mem .exit)) (now (out .entry)) (now (out .exit)) (now (count .exit)) (now (steps .exit)) (now (aside .exit)) (now (agree .exit)) ⌝ }
 {
     let c = RegionCoverer {
         min_level,
         max_level,
         level_mod,
         max_cells,
+        edition,
     };
     let kind = Kind::Inner(Ending::Raw);
     call_list_by(

@@ -16,7 +16,8 @@ use Rattle.order.specs.Order.{All}
 use Rattle.order.proofs.OrderLaws.{which}
 use Rattle.region.specs.Region.{Area}
 use Rattle.run.specs.declared.Request.{Request}
-use Rattle.run.specs.Run.{Child, State, going, then, divide, isEmpty, sumOf, full, depth, expansionOf, lifts, byId, keep, enqueue, setAside, isFull, add, addAll, Task, maxLevel, levelMod, minLevel, maxCells, memoryWords, byCost}
+use Rattle.run.specs.Run.{Child, State, going, then, divide, isEmpty, sumOf, full, depth, expansionOf, lifts, byEdition, keep, enqueue, setAside, isFull, add, addAll, Task, maxLevel, levelMod, minLevel, maxCells, memoryWords, inEdition}
+use Rattle.run.specs.Editions.{base}
 use Rattle.run.specs.Masks.{consIf, childrenIn, found}
 use Rattle.run.specs.Ground.{Domain, lookFor, ChildOk, Queued}
 use Rattle.run.specs.Sixes.{placesMost}
@@ -143,7 +144,7 @@ module _ (T : Task) (D : Domain (T .asked)) where
   none-failed : (id : ℕ) → Queued T id → isEmpty (expansionOf T id .children) ≡ true → T .asked .inner ≡ false → leavesOf id ≡ sumOf leavesOf (expansionOf T id .failed)
   unfolding sumOf
   none-failed id Q e o =
-      let x = expansion-ok T D (byId T) (λ i n. leavesOf n) (λ i n L p c l. leaves-add n L p c l) 0 id Q in
+      let x = expansion-ok T D (byEdition T) (λ i n. leavesOf n) (λ i n L p c l. leaves-add n L p c l) 0 id Q in
       let s : leavesIn (expansionOf T id .children) + sumOf leavesOf (expansionOf T id .failed) ≡ leavesOf id = rel-eq (T .asked .inner) _ _ o (x .sum) in
       let z : leavesIn (expansionOf T id .children) ≡ 0 = ap leavesIn (empty-nil (expansionOf T id .children) e) in
       omega arith
@@ -158,21 +159,21 @@ module _ (T : Task) (D : Domain (T .asked)) where
 
   -- ---- children, one after another
 
-  pub addAll-append : (i : ℕ) (l r : List Child) (s : State) → addAll (byCost T) i (l ++ r) s ≡ then (addAll (byCost T) i l s) (addAll (byCost T) i r)
+  pub addAll-append : (i : ℕ) (l r : List Child) (s : State) → addAll (inEdition T) i (l ++ r) s ≡ then (addAll (inEdition T) i l s) (addAll (inEdition T) i r)
   unfolding addAll then
   addAll-append i [] r s = refl
   addAll-append i (k ∷ l) r s = ⊎-elim
       (λ (e : isFull (T .asked) s ≡ true). rw (e, addAll) (addAll-append i l r s))
       (λ (e : isFull (T .asked) s ≡ false). rw (e, addAll)
-      (then-cong (add (byCost T) (grown i (k .id)) (k .ends) s) _ _ (λ x. addAll-append i l r x)
-      ∙ sym (then-then (add (byCost T) (grown i (k .id)) (k .ends) s) (addAll (byCost T) i l) (addAll (byCost T) i r))))
+      (then-cong (add (inEdition T) (grown i (k .id)) (k .ends) s) _ _ (λ x. addAll-append i l r x)
+      ∙ sym (then-then (add (inEdition T) (grown i (k .id)) (k .ends) s) (addAll (inEdition T) i l) (addAll (inEdition T) i r))))
       (which (isFull (T .asked) s))
 
-  pub children-then : (b : Brood) (j : ℕ) → j < b .places → (i : ℕ) (s : State) → addAll (byCost T) i (childrenFrom b j) s
-      ≡ then (addAll (byCost T) i (childIf b j) s) (addAll (byCost T) i (childrenFrom b (j + 1)))
-  children-then b j h i s = ap (λ (l : List Child). addAll (byCost T) i l s) (children-turn b j h) ∙ addAll-append i (childIf b j) (childrenFrom b (j + 1)) s
+  pub children-then : (b : Brood) (j : ℕ) → j < b .places → (i : ℕ) (s : State) → addAll (inEdition T) i (childrenFrom b j) s
+      ≡ then (addAll (inEdition T) i (childIf b j) s) (addAll (inEdition T) i (childrenFrom b (j + 1)))
+  children-then b j h i s = ap (λ (l : List Child). addAll (inEdition T) i l s) (children-turn b j h) ∙ addAll-append i (childIf b j) (childrenFrom b (j + 1)) s
 
-  pub children-over : (b : Brood) (j : ℕ) → b .places ≤ j → (i : ℕ) (s : State) → addAll (byCost T) i (childrenFrom b j) s ≡ going s
+  pub children-over : (b : Brood) (j : ℕ) → b .places ≤ j → (i : ℕ) (s : State) → addAll (inEdition T) i (childrenFrom b j) s ≡ going s
   unfolding addAll
   children-over b j h i s = rw (children-end b j h)
 
@@ -180,14 +181,14 @@ module _ (E : Engine) (T : Task) (D : Domain (T .asked)) (i : ℕ) where
   -- ---- a candidate that is to be expanded: each way that it goes
 
   pub adds-none : (m : List ℕ) (t : Counts) (id n : ℕ) → Queued T id → found T (depth (T .asked) id) id .present ≡ 0 → n ≡ leavesOf id
-      → Does E T i (add (byCost T) (grown i id) false) m t m (Turn.Going (asideOf (T .asked .inner) t n))
+      → Does E T i (add (inEdition T) (grown i id) false) m t m (Turn.Going (asideOf (T .asked .inner) t n))
   unfolding Gives
   adds-none m t id n Q z e =
       let b : isEmpty (expansionOf T id .children) ≡ true = is-empty T D id ∙ eq-eqb _ 0 z in
       record {
         gives = λ v s S. (
           setAside (T .asked) i (expansionOf T id .failed) s,
-          add-none T (byId T) (grown i id) s b,
+          add-none T (byEdition T) (grown i id) s b,
           sets-aside E T i v m t n (expansionOf T id .failed) s (λ o. e ∙ none-failed T D id Q b o) S,
         );
         frame = refl;
@@ -195,22 +196,22 @@ module _ (E : Engine) (T : Task) (D : Domain (T .asked)) (i : ℕ) where
 
   module _ (m : List ℕ) (t : Counts) (m′ : List ℕ) (r : Turn) (id : ℕ) (some : found T (depth (T .asked) id) id .present ≡ 0 → ⊥) (lift : Bool)
       (is : lift ≡ (not (T .asked .inner) && (leb (minLevel (T .asked)) (levelOf id) && eqb (ones (found T (depth (T .asked) id) id .terminal)) (full (T .asked))))) where
-    pub adds-lifted : lift ≡ true → Does E T i (keep (grown i id)) m t m′ r → Does E T i (add (byCost T) (grown i id) false) m t m′ r
-    adds-lifted e = does-as E T i (keep (grown i id)) (add (byCost T) (grown i id) false) m t m′ r
-        (λ v s S. add-lift T (byId T) (grown i id) s (is-empty T D id ∙ ne-eqb _ 0 some) (lifts-is T D id ∙ sym is ∙ e))
+    pub adds-lifted : lift ≡ true → Does E T i (keep (grown i id)) m t m′ r → Does E T i (add (inEdition T) (grown i id) false) m t m′ r
+    adds-lifted e = does-as E T i (keep (grown i id)) (add (inEdition T) (grown i id) false) m t m′ r
+        (λ v s S. add-lift T (byEdition T) (grown i id) s (is-empty T D id ∙ ne-eqb _ 0 some) (lifts-is T D id ∙ sym is ∙ e))
 
-    pub adds-queued : lift ≡ false → Does E T i (enqueue (byId T) (grown i id)) m t m′ r
-        → Does E T i (add (byCost T) (grown i id) false) m t m′ r
-    adds-queued e = does-as E T i (enqueue (byId T) (grown i id)) (add (byCost T) (grown i id) false) m t m′ r
-        (λ v s S. add-queue T (byId T) (grown i id) s (is-empty T D id ∙ ne-eqb _ 0 some) (lifts-is T D id ∙ sym is ∙ e))
+    pub adds-queued : lift ≡ false → Does E T i (enqueue (byEdition T) (grown i id)) m t m′ r
+        → Does E T i (add (inEdition T) (grown i id) false) m t m′ r
+    adds-queued e = does-as E T i (enqueue (byEdition T) (grown i id)) (add (inEdition T) (grown i id) false) m t m′ r
+        (λ v s S. add-queue T (byEdition T) (grown i id) s (is-empty T D id ∙ ne-eqb _ 0 some) (lifts-is T D id ∙ sym is ∙ e))
 
   pub adds-kept : (m : List ℕ) (t : Counts) (m′ : List ℕ) (r : Turn) (id : ℕ) (b : Bool) → b ≡ true → Does E T i (keep (grown i id)) m t m′ r
-      → Does E T i (add (byCost T) (grown i id) b) m t m′ r
+      → Does E T i (add (inEdition T) (grown i id) b) m t m′ r
   unfolding add
-  adds-kept m t m′ r id b e = does-as E T i (keep (grown i id)) (add (byCost T) (grown i id) b) m t m′ r (λ v s S. rw (e, add))
+  adds-kept m t m′ r id b e = does-as E T i (keep (grown i id)) (add (inEdition T) (grown i id) b) m t m′ r (λ v s S. rw (e, add))
 
   pub adds-open : (m : List ℕ) (t : Counts) (m′ : List ℕ) (r : Turn) (id : ℕ) (b : Bool) → b ≡ false
-      → Does E T i (add (byCost T) (grown i id) false) m t m′ r → Does E T i (add (byCost T) (grown i id) b) m t m′ r
+      → Does E T i (add (inEdition T) (grown i id) false) m t m′ r → Does E T i (add (inEdition T) (grown i id) b) m t m′ r
   adds-open m t m′ r id b e d = rw e d
 
   -- ---- a child, if there is one
@@ -221,33 +222,33 @@ module _ (E : Engine) (T : Task) (D : Domain (T .asked)) (i : ℕ) where
   full-is v m t s f h S z = rw (raw-length E T i h S) (sym z)
 
   pub child-none : (m : List ℕ) (t : Counts) (b : Brood) (j : ℕ) → isIn (b .present) j ≡ false
-      → Does E T i (addAll (byCost T) i (childIf b j)) m t m (Turn.Going t)
+      → Does E T i (addAll (inEdition T) i (childIf b j)) m t m (Turn.Going t)
   unfolding addAll
-  child-none m t b j e = does-nothing E T i (addAll (byCost T) i (childIf b j)) m t (λ v s S. rw (child-away b j e))
+  child-none m t b j e = does-nothing E T i (addAll (inEdition T) i (childIf b j)) m t (λ v s S. rw (child-away b j e))
 
   pub child-full : (m : List ℕ) (t : Counts) (b : Brood) (j : ℕ) (f : Bool) → memoryWords ≤ length m → isIn (b .present) j ≡ true → f ≡ (T .asked .inner && leb (maxCells (T .asked)) (t .kept)) → f ≡ true
-      → Does E T i (addAll (byCost T) i (childIf b j)) m t m (Turn.Going t)
+      → Does E T i (addAll (inEdition T) i (childIf b j)) m t m (Turn.Going t)
   unfolding addAll
-  child-full m t b j f h e ef t′ = does-nothing E T i (addAll (byCost T) i (childIf b j)) m t
+  child-full m t b j f h e ef t′ = does-nothing E T i (addAll (inEdition T) i (childIf b j)) m t
       (λ v s S. rw (child-there b j e, addAll, full-is v m t s f h S ef ∙ t′))
 
   pub child-added : (m : List ℕ) (t : Counts) (m′ : List ℕ) (r : Turn) (b : Brood) (j : ℕ) (f ends : Bool) → memoryWords ≤ length m → isIn (b .present) j ≡ true → f ≡ (T .asked .inner && leb (maxCells (T .asked)) (t .kept)) → f ≡ false
-      → ends ≡ isIn (b .terminal) j → Does E T i (add (byCost T) (grown i (childAt b j)) ends) m t m′ r
-      → Does E T i (addAll (byCost T) i (childIf b j)) m t m′ r
+      → ends ≡ isIn (b .terminal) j → Does E T i (add (inEdition T) (grown i (childAt b j)) ends) m t m′ r
+      → Does E T i (addAll (inEdition T) i (childIf b j)) m t m′ r
   unfolding addAll
-  child-added m t m′ r b j f ends h e ef t′ d = does-as E T i (add (byCost T) (grown i (childAt b j)) ends)
-      (addAll (byCost T) i (childIf b j)) m t m′ r
-      (λ v s S. rw (child-there b j e, addAll, full-is v m t s f h S ef ∙ t′, ← d) (then-going (add (byCost T) (grown i (childAt b j)) ends s)))
+  child-added m t m′ r b j f ends h e ef t′ d = does-as E T i (add (inEdition T) (grown i (childAt b j)) ends)
+      (addAll (inEdition T) i (childIf b j)) m t m′ r
+      (λ v s S. rw (child-there b j e, addAll, full-is v m t s f h S ef ∙ t′, ← d) (then-going (add (inEdition T) (grown i (childAt b j)) ends s)))
 
   -- ---- adding a candidate, each way that the code goes
 
   module _ (m : List ℕ) (t : Counts) (id : ℕ) (b : Bool) (C : ChildOk T (record { id = id; ends = b })) where
     pub add-kept : (m′ : List ℕ) (r : Turn) → b ≡ true → Does E T i (keep (grown i id)) m t m′ r → AsideUpTo (t .aside) r
-        → Does E T i (add (byCost T) (grown i id) b) m t m′ r × AsideUpTo (t .aside + leavesOf id) r
+        → Does E T i (add (inEdition T) (grown i id) b) m t m′ r × AsideUpTo (t .aside + leavesOf id) r
     add-kept m′ r e d a = (adds-kept m t m′ r id b e d, up-to (t .aside) _ r (omega arith) a)
 
     pub add-empty : (f : Found) (n : ℕ) (u : Counts) → b ≡ false → f ≡ found T (depth (T .asked) id) id → f .present ≡ 0 → n ≡ lowBit id → u ≡ asideOf (T .asked .inner) t n
-        → Does E T i (add (byCost T) (grown i id) b) m t m (Turn.Going u) × AsideUpTo (t .aside + leavesOf id) (Turn.Going u)
+        → Does E T i (add (inEdition T) (grown i id) b) m t m (Turn.Going u) × AsideUpTo (t .aside + leavesOf id) (Turn.Going u)
     unfolding AsideUpTo
     add-empty f n u e ef z en eu =
         let Q = queued T D id b e C in
@@ -265,15 +266,15 @@ module _ (E : Engine) (T : Task) (D : Domain (T .asked)) (i : ℕ) where
       lift-is = is ∙ ap₂ (λ (x : Found) (y : ℕ). not (T .asked .inner) && (leb (minLevel (T .asked)) (levelOf id) && eqb (ones (x .terminal)) y)) ef all
 
       pub add-lifted : lift ≡ true → Does E T i (keep (grown i id)) m t m′ r → AsideUpTo (t .aside) r
-          → Does E T i (add (byCost T) (grown i id) b) m t m′ r × AsideUpTo (t .aside + leavesOf id) r
+          → Does E T i (add (inEdition T) (grown i id) b) m t m′ r × AsideUpTo (t .aside + leavesOf id) r
       add-lifted l d a = (adds-open m t m′ r id b e (adds-lifted m t m′ r id some-is lift lift-is l d), up-to (t .aside) _ r (omega arith) a)
 
-      pub add-queued : lift ≡ false → i < placesMost → (x : Rec) → x ≡ recordOf n i id (f .present) (f .terminal)
-          → ((T : Task) (j : ℕ) → j < placesMost → x ≡ recOf T (grown j (x .id)) → Does E T j (enqueue (byId T) (grown j (x .id))) m t m′ r) → AsideUpTo (t .aside) r
-          → Does E T i (add (byCost T) (grown i id) b) m t m′ r × AsideUpTo (t .aside + leavesOf id) r
+      pub add-queued : lift ≡ false → 0 < levelMod (T .asked) → i < placesMost → (k : ℕ) → k ≡ base (T .asked) → (x : Rec) → x ≡ recordOf k i id (f .present) (f .terminal)
+          → ((T : Task) (j : ℕ) → 0 < levelMod (T .asked) → j < placesMost → x ≡ recOf T (grown j (x .id)) → Does E T j (enqueue (byEdition T) (grown j (x .id))) m t m′ r) → AsideUpTo (t .aside) r
+          → Does E T i (add (inEdition T) (grown i id) b) m t m′ r × AsideUpTo (t .aside + leavesOf id) r
       unfolding recordOf
-      add-queued l placed x ex d a =
+      add-queued l some-mod placed k ek x ex d a =
           let own : x .id ≡ id = ap (λ (y : Rec). y .id) ex in
-          let is-rec : x ≡ recOf T (grown i id) = ex ∙ ap₂ (λ (y : Found) (k : ℕ). recordOf k i id (y .present) (y .terminal)) ef all in
-          let q : Does E T i (enqueue (byId T) (grown i id)) m t m′ r = subst (λ (k : ℕ). Does E T i (enqueue (byId T) (grown i k)) m t m′ r) own (d T i placed (is-rec ∙ ap (λ (k : ℕ). recOf T (grown i k)) (sym own))) in
+          let is-rec : x ≡ recOf T (grown i id) = ex ∙ ap₂ (λ (y : Found) (b : ℕ). recordOf b i id (y .present) (y .terminal)) ef ek in
+          let q : Does E T i (enqueue (byEdition T) (grown i id)) m t m′ r = subst (λ (k : ℕ). Does E T i (enqueue (byEdition T) (grown i k)) m t m′ r) own (d T i some-mod placed (is-rec ∙ ap (λ (k : ℕ). recOf T (grown i k)) (sym own))) in
           (adds-open m t m′ r id b e (adds-queued m t m′ r id some-is lift lift-is l q), up-to (t .aside) _ r (omega arith) a)

@@ -4,7 +4,7 @@ use mathlib.Core.List.{List}
 use Prim.Native.Nat.{ℕ, _+_, _≤_, _<_}
 use native.Mathlib.Omega.{arith}
 use lib.ListN.{length}
-use Rattle.run.specs.Run.{State, Outcome, refused, going, then, after, run, rawIds, Task, byCost, rawMost, queueWords, memoryWords}
+use Rattle.run.specs.Run.{State, Outcome, refused, going, then, after, run, rawIds, Task, inEdition, rawMost, queueWords, memoryWords}
 use Rattle.totals.proofs.Laws.{totals-by}
 use Rattle.run.specs.Sixes.{asideFrom, asideSix}
 use Rattle.queue.specs.declared.Engine.{Engine}
@@ -22,9 +22,9 @@ pub six-are : (E : Engine) (T : Task) {m : List ℕ} {t : Tally} {s : State} →
 unfolding asideSix
 six-are E T {m} {t} {s} H = totals-by (t .aside) (asideFrom s) (λ j. H .at j .aside)
 
-module _ (E : Engine) (T : Task) (l : List ℕ) (k : ℕ) (m m₁ : List ℕ) (r : Stage) (C : Comes E T (after (byCost T) l k) m m₁ r) where
+module _ (E : Engine) (T : Task) (l : List ℕ) (k : ℕ) (m m₁ : List ℕ) (r : Stage) (C : Comes E T (after (inEdition T) l k) m m₁ r) where
   abbrev o : Outcome
-  o = run (byCost T) l k
+  o = run (inEdition T) l k
 
   -- a refusal's number, and the words of a run cleared
   refuses : (n : ℕ) (v : Ran) (m₂ : List ℕ) → o ≡ refused n → (v ≡ Ran.Refused n) × (m₂ ≡ cleared 0 memoryWords m₁) → (v ≡ engineAnswer o) × (m₂ ≡ engineMemory o m)
@@ -33,16 +33,16 @@ module _ (E : Engine) (T : Task) (l : List ℕ) (k : ℕ) (m m₁ : List ℕ) (r
 
   pub answer-refused : (n : ℕ) (v : Ran) (m₂ : List ℕ) → r ≡ Stage.Refused n → (v ≡ Ran.Refused n) × (m₂ ≡ cleared 0 memoryWords m₁) → (v ≡ engineAnswer o) × (m₂ ≡ engineMemory o m)
   unfolding Leads then
-  answer-refused n v m₂ e = refuses n v m₂ (run-after (byCost T) l k ∙ ap (λ (x : Outcome). then x unlessQueued) (subst (λ (y : Stage). Leads E T m₁ y (after (byCost T) l k)) e (C .gives)))
+  answer-refused n v m₂ e = refuses n v m₂ (run-after (inEdition T) l k ∙ ap (λ (x : Outcome). then x unlessQueued) (subst (λ (y : Stage). Leads E T m₁ y (after (inEdition T) l k)) e (C .gives)))
 
   module _ (t : Tally) (e : r ≡ Stage.Going t) where
-    ended : (s : State) × (after (byCost T) l k ≡ going s) × Holds E T m₁ t s
+    ended : (s : State) × (after (inEdition T) l k ≡ going s) × Holds E T m₁ t s
     unfolding Leads
-    ended = subst (λ (y : Stage). Leads E T m₁ y (after (byCost T) l k)) e (C .gives)
+    ended = subst (λ (y : Stage). Leads E T m₁ y (after (inEdition T) l k)) e (C .gives)
 
     comes-to : o ≡ unlessQueued (ended .0)
     unfolding then
-    comes-to = run-after (byCost T) l k ∙ ap (λ (x : Outcome). then x unlessQueued) (ended .1)
+    comes-to = run-after (inEdition T) l k ∙ ap (λ (x : Outcome). then x unlessQueued) (ended .1)
 
     pub answer-spent : (v : Ran) (m₂ : List ℕ) → 0 < t .queued → (v ≡ Ran.Refused 9) × (m₂ ≡ cleared 0 memoryWords m₁) → (v ≡ engineAnswer o) × (m₂ ≡ engineMemory o m)
     unfolding unlessQueued

@@ -15,7 +15,7 @@ use Rattle.order.proofs.OrderLaws.{which}
 use Rattle.totals.specs.declared.Totals.{Totals}
 use Rattle.totals.specs.Totals.{noTotals, totalAt, withTotal}
 use Rattle.totals.proofs.Laws.{none-at, with-same, with-other}
-use Rattle.run.specs.Run.{Grown, State, Outcome, refused, going, then, isEmpty, Look, fails, none, terminal, divide, look, sumOf, byId, setAside, add, stepWith, stepOn, step, startAs, startAll, placed, nothing, after, loop, run, rawIds, asideTotal, Task, Course, queueMost, rawMost, queueWords, memoryWords, byCost}
+use Rattle.run.specs.Run.{Grown, State, Outcome, refused, going, then, isEmpty, Look, fails, none, terminal, divide, look, sumOf, byEdition, setAside, add, stepWith, stepOn, step, startAs, startAll, placed, nothing, after, loop, run, rawIds, asideTotal, Task, Course, queueMost, rawMost, queueWords, memoryWords, inEdition}
 use Rattle.run.specs.Ground.{Domain, Fit, ChildOk, Queued}
 use Rattle.run.specs.Sixes.{placesMost, asideFrom}
 use Rattle.run.proofs.Demand3.{sums}
@@ -142,20 +142,20 @@ module _ (T : Task) (id : ℕ) (c : Candidate) (is : c ≡ candidateOf (look T i
 
 module _ (E : Engine) (T : Task) (i : ℕ) where
   module _ (m : List ℕ) (t : Counts) (id : ℕ) (c : Candidate) (is : c ≡ candidateOf (look T id)) where
-    pub start-kept : (m′ : List ℕ) (r : Turn) → c ≡ Candidate.Kept → Does E T i (add (byCost T) (grown i id) true) m t m′ r
-        → Does E T i (startAs (byCost T) (look T id) (grown i id)) m t m′ r
+    pub start-kept : (m′ : List ℕ) (r : Turn) → c ≡ Candidate.Kept → Does E T i (add (inEdition T) (grown i id) true) m t m′ r
+        → Does E T i (startAs (inEdition T) (look T id) (grown i id)) m t m′ r
     unfolding startAs
-    start-kept m′ r e = does-as E T i (add (byCost T) (grown i id) true) (startAs (byCost T) (look T id) (grown i id)) m t m′ r
-        (λ v s S. ap (λ (x : Look). startAs (byCost T) x (grown i id) s) (kept-look (look T id) (sym is ∙ e)))
+    start-kept m′ r e = does-as E T i (add (inEdition T) (grown i id) true) (startAs (inEdition T) (look T id) (grown i id)) m t m′ r
+        (λ v s S. ap (λ (x : Look). startAs (inEdition T) x (grown i id) s) (kept-look (look T id) (sym is ∙ e)))
 
-    pub start-queued : (m′ : List ℕ) (r : Turn) → c ≡ Candidate.Queued → Does E T i (add (byCost T) (grown i id) false) m t m′ r
-        → Does E T i (startAs (byCost T) (look T id) (grown i id)) m t m′ r
+    pub start-queued : (m′ : List ℕ) (r : Turn) → c ≡ Candidate.Queued → Does E T i (add (inEdition T) (grown i id) false) m t m′ r
+        → Does E T i (startAs (inEdition T) (look T id) (grown i id)) m t m′ r
     unfolding startAs
-    start-queued m′ r e = does-as E T i (add (byCost T) (grown i id) false) (startAs (byCost T) (look T id) (grown i id)) m t m′ r
-        (λ v s S. ap (λ (x : Look). startAs (byCost T) x (grown i id) s) (queued-look (look T id) (sym is ∙ e)))
+    start-queued m′ r e = does-as E T i (add (inEdition T) (grown i id) false) (startAs (inEdition T) (look T id) (grown i id)) m t m′ r
+        (λ v s S. ap (λ (x : Look). startAs (inEdition T) x (grown i id) s) (queued-look (look T id) (sym is ∙ e)))
 
   none-gives : (v : ℕ → ℕ) (m : List ℕ) (t : Counts) (id n : ℕ) (s : State) (x : Look) → n ≡ leavesOf id → look T id ≡ x → candidateOf x ≡ Candidate.None → Stands E T i v m t s
-      → Gives E T i v m (Turn.Going (asideOf (T .asked .inner) t n)) (startAs (byCost T) x (grown i id) s)
+      → Gives E T i v m (Turn.Going (asideOf (T .asked .inner) t n)) (startAs (inEdition T) x (grown i id) s)
   unfolding Gives startAs candidateOf MeansBy sumOf
   none-gives v m t id n s fails e l c S = (setAside (T .asked) i (id ∷ []) s, refl, sets-aside E T i v m t n (id ∷ []) s (λ o. e ∙ omega arith) S)
   none-gives v m t id n s none e l c S = (s, refl, rw (aside-in (T .asked .inner) t n (look-means T id none l)) S)
@@ -163,7 +163,7 @@ module _ (E : Engine) (T : Task) (i : ℕ) where
   none-gives v m t id n s divide e l c S = let z : _≡_ {A = ℕ} 0 1 = cc in absurd (omega arith)
 
   pub start-none : (m : List ℕ) (t u : Counts) (id n : ℕ) (c : Candidate) → Fit (T .asked) id → c ≡ candidateOf (look T id) → c ≡ Candidate.None → n ≡ lowBit id → u ≡ asideOf (T .asked .inner) t n
-      → Does E T i (startAs (byCost T) (look T id) (grown i id)) m t m (Turn.Going u)
+      → Does E T i (startAs (inEdition T) (look T id) (grown i id)) m t m (Turn.Going u)
   start-none m t u id n c F is e en eu =
       record { gives = λ v s S. rw eu (none-gives v m t id n s (look T id) (en ∙ low-leaves id (F .cell)) refl (sym is ∙ e) S); frame = refl }
 
@@ -200,7 +200,7 @@ module _ (E : Engine) (T : Task) where
   pub record Starting (l : List ℕ) (m₀ m : List ℕ) (t : Tally) (i : ℕ) : Type 0 where
     pub state : State
     pub holds : Holds E T m t state
-    pub rest : startAll (byCost T) (placed i (drop i l)) state ≡ after (byCost T) l 0
+    pub rest : startAll (inEdition T) (placed i (drop i l)) state ≡ after (inEdition T) l 0
     pub fresh : (j : ℕ) → i ≤ j → totalAt (t .aside) j ≡ 0
     pub frame : past memoryWords m ≡ past memoryWords m₀
 
@@ -224,12 +224,12 @@ module _ (E : Engine) (T : Task) where
   starting l m = record { state = nothing; holds = holds-nothing m; rest = refl; fresh = λ j h. none-at j; frame = refl }
 
   turned : (l : List ℕ) (i x : ℕ) (s : State) → i < length l → x ≡ getD l i 0
-      → startAll (byCost T) (placed i (drop i l)) s ≡ then (startAs (byCost T) (look T x) (grown i x) s) (startAll (byCost T) (placed (i + 1) (drop (i + 1) l)))
+      → startAll (inEdition T) (placed i (drop i l)) s ≡ then (startAs (inEdition T) (look T x) (grown i x) s) (startAll (inEdition T) (placed (i + 1) (drop (i + 1) l)))
   unfolding startAll placed
   turned l i x s h e = rw (add-one i, drop-cons l i 0 h, e)
 
   module _ (l m₀ m : List ℕ) (t : Tally) (i x : ℕ) (m′ : List ℕ) (turn : Turn) (r : Stage) (h : i < length l) (few : i < placesMost) (ex : x ≡ getD l i 0)
-      (d : Does E T i (startAs (byCost T) (look T x) (grown i x)) m (record { kept = t .kept; queued = t .queued; aside = 0; steps = t .steps }) m′ turn)
+      (d : Does E T i (startAs (inEdition T) (look T x) (grown i x)) m (record { kept = t .kept; queued = t .queued; aside = 0; steps = t .steps }) m′ turn)
       (a : r ≡ stageAfter turn (t .aside) i) (I : Starting l m₀ m t i) where
     begun : Stands E T i (totalAt (t .aside)) m (record { kept = t .kept; queued = t .queued; aside = 0; steps = t .steps }) (I .state)
     begun =
@@ -245,39 +245,39 @@ module _ (E : Engine) (T : Task) where
           steps = S .steps;
         }
 
-    led : Leads E T m′ r (startAs (byCost T) (look T x) (grown i x) (I .state))
+    led : Leads E T m′ r (startAs (inEdition T) (look T x) (grown i x) (I .state))
     led = turn-over i (t .aside) m′ turn r _ few a (d .gives (totalAt (t .aside)) (I .state) begun)
 
-    on : startAll (byCost T) (placed i (drop i l)) (I .state) ≡ then (startAs (byCost T) (look T x) (grown i x) (I .state)) (startAll (byCost T) (placed (i + 1) (drop (i + 1) l)))
+    on : startAll (inEdition T) (placed i (drop i l)) (I .state) ≡ then (startAs (inEdition T) (look T x) (grown i x) (I .state)) (startAll (inEdition T) (placed (i + 1) (drop (i + 1) l)))
     on = turned l i x (I .state) h ex
 
     pub starting-turn : (u : Tally) → r ≡ Stage.Going u → Starting l m₀ m′ u (i + 1)
     unfolding Leads then
     starting-turn u er =
-        let g = subst (λ (y : Stage). Leads E T m′ y (startAs (byCost T) (look T x) (grown i x) (I .state))) er led in
+        let g = subst (λ (y : Stage). Leads E T m′ y (startAs (inEdition T) (look T x) (grown i x) (I .state))) er led in
         record {
           state = g .0;
           holds = g .2;
-          rest = sym (on ∙ ap (λ (o : Outcome). then o (startAll (byCost T) (placed (i + 1) (drop (i + 1) l)))) (g .1)) ∙ I .rest;
+          rest = sym (on ∙ ap (λ (o : Outcome). then o (startAll (inEdition T) (placed (i + 1) (drop (i + 1) l)))) (g .1)) ∙ I .rest;
           fresh = λ j k. after-others turn (t .aside) i u (sym er ∙ a) j (omega arith) ∙ I .fresh j (omega arith);
           frame = d .frame ∙ I .frame;
         }
 
-    pub starting-stop : (n : ℕ) → r ≡ Stage.Refused n → Comes E T (after (byCost T) l 0) m₀ m′ (Stage.Refused n)
+    pub starting-stop : (n : ℕ) → r ≡ Stage.Refused n → Comes E T (after (inEdition T) l 0) m₀ m′ (Stage.Refused n)
     unfolding Leads then
     starting-stop n er =
-        let g = subst (λ (y : Stage). Leads E T m′ y (startAs (byCost T) (look T x) (grown i x) (I .state))) er led in
+        let g = subst (λ (y : Stage). Leads E T m′ y (startAs (inEdition T) (look T x) (grown i x) (I .state))) er led in
         record {
-          gives = sym (I .rest) ∙ on ∙ ap (λ (o : Outcome). then o (startAll (byCost T) (placed (i + 1) (drop (i + 1) l)))) g;
+          gives = sym (I .rest) ∙ on ∙ ap (λ (o : Outcome). then o (startAll (inEdition T) (placed (i + 1) (drop (i + 1) l)))) g;
           frame = d .frame ∙ I .frame;
         }
 
-  pub starting-end : (l m₀ m : List ℕ) (t : Tally) (i : ℕ) → i ≡ length l → Starting l m₀ m t i → Comes E T (after (byCost T) l 0) m₀ m (Stage.Going t)
+  pub starting-end : (l m₀ m : List ℕ) (t : Tally) (i : ℕ) → i ≡ length l → Starting l m₀ m t i → Comes E T (after (inEdition T) l 0) m₀ m (Stage.Going t)
   unfolding Leads startAll placed
   starting-end l m₀ m t i e I =
       let d : drop i l ≡ [] = ap (λ (j : ℕ). drop j l) e ∙ drop-length l in
       record {
-        gives = (I .state, sym (I .rest) ∙ ap (λ (x : List ℕ). startAll (byCost T) (placed i x) (I .state)) d, I .holds);
+        gives = (I .state, sym (I .rest) ∙ ap (λ (x : List ℕ). startAll (inEdition T) (placed i x) (I .state)) d, I .holds);
         frame = I .frame;
       }
 
@@ -343,15 +343,15 @@ module _ (E : Engine) (T : Task) where
     same-rec = er ∙ P .least ∙ ap (recOf T) (sym same-cell)
 
   -- what a reached state's queued cells are, and that the set-aside totals leave room for them
-  reached-first : Domain (T .asked) → (l : List ℕ) (n : ℕ) (s : State) (c : Grown) (x : List Grown) → All (Fit (T .asked)) l → length l ≤ placesMost → after (byCost T) l n ≡ going s → s .queue ≡ c ∷ x
+  reached-first : Domain (T .asked) → (l : List ℕ) (n : ℕ) (s : State) (c : Grown) (x : List Grown) → All (Fit (T .asked)) l → length l ≤ placesMost → after (inEdition T) l n ≡ going s → s .queue ≡ c ∷ x
       → Queued T (c .id) × (asideTotal s + leavesOf (c .id) < 2 ^ 64)
   unfolding sumOf All
   reached-first D l n s c x fit six is e =
-      let I = sums T D (byId T) l fit n s is (λ i id. 0) (λ i id L p d l. refl) in
+      let I = sums T D (byEdition T) l fit n s is (λ i id. 0) (λ i id L p d l. refl) in
       let a : All (λ (y : Grown). Queued T (y .id)) (c ∷ x) = subst (All (λ (y : Grown). Queued T (y .id))) e (I .queue) in
       let leaves : Grown → ℕ = λ y. leavesOf (y .id) in
       let b : sumOf leaves (s .queue) ≡ leavesOf (c .id) + sumOf leaves x = ap (sumOf leaves) e in
-      (a .0, omega (arith, six, leaves-most T D (byId T) l fit n s is))
+      (a .0, omega (arith, six, leaves-most T D (byEdition T) l fit n s is))
 
   pub record Takes (t : Tally) (r : Rec) : Type 0 where
     pub kept : t .kept ≤ rawMost
@@ -379,17 +379,17 @@ module _ (E : Engine) (T : Task) where
 
   module _ (m : List ℕ) (t : Tally) (r : Rec) (m₁ m₂ : List ℕ) (turn : Turn) (a : Stage) (long : memoryWords ≤ length m) (some : 0 < t .queued) (few : t .queued ≤ queueMost) (place : fromR r < placesMost)
       (er : r ≡ nextR E m (t .queued - 1)) (p : m₁ ≡ restR E m (t .queued - 1)) where
-    stepped-on : Does E T (fromR r) (stepWith (byCost T) (grown (fromR r) (r .id))) m₁ (stepped (fromR r) t) m₂ turn → a ≡ stageAfter turn (t .aside) (fromR r)
-        → (l : List ℕ) → Reached E T l m t → Comes E T (after (byCost T) l (t .steps + 1)) m m₂ a
+    stepped-on : Does E T (fromR r) (stepWith (inEdition T) (grown (fromR r) (r .id))) m₁ (stepped (fromR r) t) m₂ turn → a ≡ stageAfter turn (t .aside) (fromR r)
+        → (l : List ℕ) → Reached E T l m t → Comes E T (after (inEdition T) l (t .steps + 1)) m m₂ a
     unfolding step stepOn after then
     stepped-on d w l R =
         let s = R .state in
         let P = popped m t s long some (R .holds) in
         let i = fromR r in
-        let g : Gives E T i (totalAt (t .aside)) m₂ turn (stepWith (byCost T) (grown i (r .id)) (without s (P .rest))) = d .gives (totalAt (t .aside)) (without s (P .rest)) (rw p (P .stands i)) in
-        let o : after (byCost T) l (t .steps + 1) ≡ stepWith (byCost T) (grown i (r .id)) (without s (P .rest)) =
-        ap (after (byCost T) l) (add-one (t .steps)) ∙ ap (λ (y : Outcome). then y (step (byCost T))) (R .is) ∙ ap (λ (x : List Grown). stepOn (byCost T) x s) (P .queue)
-        ∙ ap (λ (x : Grown). stepWith (byCost T) x (without s (P .rest))) (sym (same-cell m t s P r er)) in
+        let g : Gives E T i (totalAt (t .aside)) m₂ turn (stepWith (inEdition T) (grown i (r .id)) (without s (P .rest))) = d .gives (totalAt (t .aside)) (without s (P .rest)) (rw p (P .stands i)) in
+        let o : after (inEdition T) l (t .steps + 1) ≡ stepWith (inEdition T) (grown i (r .id)) (without s (P .rest)) =
+        ap (after (inEdition T) l) (add-one (t .steps)) ∙ ap (λ (y : Outcome). then y (step (inEdition T))) (R .is) ∙ ap (λ (x : List Grown). stepOn (inEdition T) x s) (P .queue)
+        ∙ ap (λ (x : Grown). stepWith (inEdition T) x (without s (P .rest))) (sym (same-cell m t s P r er)) in
         record {
           gives = subst (Leads E T m₂ a) (sym o) (turn-over i (t .aside) m₂ turn a _ place w g);
           frame = d .frame ∙ ap (past memoryWords) p ∙ past-later queueWords memoryWords m _ (omega arith) (rest-past E queueMost queueWords m (t .queued - 1) (omega arith) refl);
@@ -397,10 +397,10 @@ module _ (E : Engine) (T : Task) where
 
     -- the same in the code's words: j is the place that the record tells, n the total there
     pub steps : (j n : ℕ) → j ≡ fromR r → n ≡ totalAt (t .aside) j
-        → Does E T (fromR r) (stepWith (byCost T) (grown (fromR r) (r .id))) m₁ (record { kept = t .kept; queued = t .queued - 1; aside = n; steps = t .steps + 1 }) m₂ turn → a ≡ stageAfter turn (t .aside) j
-        → (l : List ℕ) → Reached E T l m t → Comes E T (after (byCost T) l (t .steps + 1)) m m₂ a
+        → Does E T (fromR r) (stepWith (inEdition T) (grown (fromR r) (r .id))) m₁ (record { kept = t .kept; queued = t .queued - 1; aside = n; steps = t .steps + 1 }) m₂ turn → a ≡ stageAfter turn (t .aside) j
+        → (l : List ℕ) → Reached E T l m t → Comes E T (after (inEdition T) l (t .steps + 1)) m m₂ a
     steps j n ej en d w = stepped-on
-        (subst (λ (x : ℕ). Does E T (fromR r) (stepWith (byCost T) (grown (fromR r) (r .id))) m₁ (record { kept = t .kept; queued = t .queued - 1; aside = x; steps = t .steps + 1 }) m₂ turn) (en ∙ ap (totalAt (t .aside)) ej) d)
+        (subst (λ (x : ℕ). Does E T (fromR r) (stepWith (inEdition T) (grown (fromR r) (r .id))) m₁ (record { kept = t .kept; queued = t .queued - 1; aside = x; steps = t .steps + 1 }) m₂ turn) (en ∙ ap (totalAt (t .aside)) ej) d)
         (w ∙ ap (stageAfter turn (t .aside)) ej)
 
   -- ---- step after step: k is the allowance
@@ -419,37 +419,37 @@ module _ (E : Engine) (T : Task) where
 
   module _ (k : ℕ) (m₀ : List ℕ) (t₀ : Tally) (m : List ℕ) (t : Tally) (I : Going k m₀ t₀ m t) where
     -- the allowance is used up, or the queue is empty
-    pub going-spent : t .steps ≡ k → (l : List ℕ) → Reached E T l m₀ t₀ → Comes E T (after (byCost T) l k) m₀ m (Stage.Going t)
+    pub going-spent : t .steps ≡ k → (l : List ℕ) → Reached E T l m₀ t₀ → Comes E T (after (inEdition T) l k) m₀ m (Stage.Going t)
     unfolding Leads
     going-spent e l R₀ =
         let R = I .goes l R₀ in
-        record { gives = (R .state, ap (after (byCost T) l) (sym e) ∙ R .is, R .holds); frame = I .frame }
+        record { gives = (R .state, ap (after (inEdition T) l) (sym e) ∙ R .is, R .holds); frame = I .frame }
 
-    pub going-end : t .queued ≤ 0 → (l : List ℕ) → Reached E T l m₀ t₀ → Comes E T (after (byCost T) l k) m₀ m (Stage.Going t)
+    pub going-end : t .queued ≤ 0 → (l : List ℕ) → Reached E T l m₀ t₀ → Comes E T (after (inEdition T) l k) m₀ m (Stage.Going t)
     unfolding Leads
     going-end h l R₀ =
         let R = I .goes l R₀ in
-        record { gives = (R .state, after-idle (byCost T) l (t .steps) k (R .state) (I .left) (R .is) (empty-nil (R .state .queue) (idle h (R .holds))), R .holds); frame = I .frame }
+        record { gives = (R .state, after-idle (inEdition T) l (t .steps) k (R .state) (I .left) (R .is) (empty-nil (R .state .queue) (idle h (R .holds))), R .holds); frame = I .frame }
 
-    module _ (m′ : List ℕ) (r : Stage) (some : 0 < t .queued) (left : t .steps ≡ k → ⊥) (d : (l : List ℕ) → Reached E T l m t → Comes E T (after (byCost T) l (t .steps + 1)) m m′ r) where
-      pub going-stop : (n : ℕ) → r ≡ Stage.Refused n → (l : List ℕ) → Reached E T l m₀ t₀ → Comes E T (after (byCost T) l k) m₀ m′ (Stage.Refused n)
+    module _ (m′ : List ℕ) (r : Stage) (some : 0 < t .queued) (left : t .steps ≡ k → ⊥) (d : (l : List ℕ) → Reached E T l m t → Comes E T (after (inEdition T) l (t .steps + 1)) m m′ r) where
+      pub going-stop : (n : ℕ) → r ≡ Stage.Refused n → (l : List ℕ) → Reached E T l m₀ t₀ → Comes E T (after (inEdition T) l k) m₀ m′ (Stage.Refused n)
       unfolding Leads
       going-stop n e l R₀ =
           let C = d l (I .goes l R₀) in
-          let g : after (byCost T) l (t .steps + 1) ≡ refused n = subst (λ (y : Stage). Leads E T m′ y (after (byCost T) l (t .steps + 1))) e (C .gives) in
+          let g : after (inEdition T) l (t .steps + 1) ≡ refused n = subst (λ (y : Stage). Leads E T m′ y (after (inEdition T) l (t .steps + 1))) e (C .gives) in
           let over : t .steps ≤ k = I .left in
-          record { gives = after-refused (byCost T) l (t .steps + 1) k n (omega arith) g; frame = C .frame ∙ I .frame }
+          record { gives = after-refused (inEdition T) l (t .steps + 1) k n (omega arith) g; frame = C .frame ∙ I .frame }
 
       next : (u : Tally) → r ≡ Stage.Going u → (l : List ℕ) → Reached E T l m t → Reached E T l m′ u × (u .steps ≡ t .steps + 1)
       unfolding Leads after then
       next u e l R =
           let C = d l R in
-          let g = subst (λ (y : Stage). Leads E T m′ y (after (byCost T) l (t .steps + 1))) e (C .gives) in
-          let one-step : step (byCost T) (R .state) ≡ going (g .0) =
-          sym (ap (after (byCost T) l) (add-one (t .steps)) ∙ ap (λ (o : Outcome). then o (step (byCost T))) (R .is)) ∙ g .1 in
+          let g = subst (λ (y : Stage). Leads E T m′ y (after (inEdition T) l (t .steps + 1))) e (C .gives) in
+          let one-step : step (inEdition T) (R .state) ≡ going (g .0) =
+          sym (ap (after (inEdition T) l) (add-one (t .steps)) ∙ ap (λ (o : Outcome). then o (step (inEdition T))) (R .is)) ∙ g .1 in
           let one : u .steps ≡ t .steps + 1 =
-          g .2 .at 0 .steps ∙ steps-one T (byId T) (R .state) (g .0) (waiting some (R .holds)) one-step ∙ sym (ap suc (R .holds .at 0 .steps)) ∙ sym (add-one (t .steps)) in
-          (record { state = g .0; is = ap (after (byCost T) l) one ∙ g .1; holds = g .2 }, one)
+          g .2 .at 0 .steps ∙ steps-one T (byEdition T) (R .state) (g .0) (waiting some (R .holds)) one-step ∙ sym (ap suc (R .holds .at 0 .steps)) ∙ sym (add-one (t .steps)) in
+          (record { state = g .0; is = ap (after (inEdition T) l) one ∙ g .1; holds = g .2 }, one)
 
       pub going-turn : (u : Tally) → r ≡ Stage.Going u → Going k m₀ t₀ m′ u × (u .steps ≡ t .steps + 1)
       going-turn u e =
@@ -467,23 +467,23 @@ module _ (E : Engine) (T : Task) where
 
   -- ---- the start cells, then the steps
 
-  module _ (l m m₁ : List ℕ) (r : Stage) (k : ℕ) (C : Comes E T (after (byCost T) l 0) m m₁ r) where
-    pub runs-refused : (n : ℕ) → r ≡ Stage.Refused n → Comes E T (after (byCost T) l k) m m₁ (Stage.Refused n)
+  module _ (l m m₁ : List ℕ) (r : Stage) (k : ℕ) (C : Comes E T (after (inEdition T) l 0) m m₁ r) where
+    pub runs-refused : (n : ℕ) → r ≡ Stage.Refused n → Comes E T (after (inEdition T) l k) m m₁ (Stage.Refused n)
     unfolding Leads
     runs-refused n e =
-        let g : after (byCost T) l 0 ≡ refused n = subst (λ (y : Stage). Leads E T m₁ y (after (byCost T) l 0)) e (C .gives) in
-        record { gives = after-refused (byCost T) l 0 k n (omega arith) g; frame = C .frame }
+        let g : after (inEdition T) l 0 ≡ refused n = subst (λ (y : Stage). Leads E T m₁ y (after (inEdition T) l 0)) e (C .gives) in
+        record { gives = after-refused (inEdition T) l 0 k n (omega arith) g; frame = C .frame }
 
     module _ (t : Tally) (e : r ≡ Stage.Going t) where
-      started : (s : State) × (after (byCost T) l 0 ≡ going s) × Holds E T m₁ t s
+      started : (s : State) × (after (inEdition T) l 0 ≡ going s) × Holds E T m₁ t s
       unfolding Leads
-      started = subst (λ (y : Stage). Leads E T m₁ y (after (byCost T) l 0)) e (C .gives)
+      started = subst (λ (y : Stage). Leads E T m₁ y (after (inEdition T) l 0)) e (C .gives)
 
       no-steps : t .steps ≡ 0
-      no-steps = started .2 .at 0 .steps ∙ steps-none T (byId T) l (started .0) (started .1)
+      no-steps = started .2 .at 0 .steps ∙ steps-none T (byEdition T) l (started .0) (started .1)
 
       runs-reached : Reached E T l m₁ t
-      runs-reached = record { state = started .0; is = ap (after (byCost T) l) no-steps ∙ started .1; holds = started .2 }
+      runs-reached = record { state = started .0; is = ap (after (inEdition T) l) no-steps ∙ started .1; holds = started .2 }
 
       pub runs-live : All (Fit (T .asked)) l → length l ≤ placesMost → Live E T m₁ t
       runs-live a six = (l, a, six, runs-reached)
@@ -491,5 +491,5 @@ module _ (E : Engine) (T : Task) where
       pub runs-room : t .steps ≤ k
       runs-room = omega (arith, no-steps)
 
-      pub runs-on : (m₂ : List ℕ) (x : Stage) → ((l : List ℕ) → Reached E T l m₁ t → Comes E T (after (byCost T) l k) m₁ m₂ x) → Comes E T (after (byCost T) l k) m m₂ x
+      pub runs-on : (m₂ : List ℕ) (x : Stage) → ((l : List ℕ) → Reached E T l m₁ t → Comes E T (after (inEdition T) l k) m₁ m₂ x) → Comes E T (after (inEdition T) l k) m m₂ x
       runs-on m₂ x d = let D = d l runs-reached in record { gives = D .gives; frame = D .frame ∙ C .frame }

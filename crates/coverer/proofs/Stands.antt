@@ -11,7 +11,8 @@ use Rattle.cellid.specs.CellId.{leavesOf}
 use Rattle.order.specs.Order.{All, insert}
 use Rattle.order.specs.Lex.{lexb}
 use Rattle.order.proofs.OrderLaws.{which}
-use Rattle.run.specs.Run.{Grown, State, Outcome, going, then, keep, enqueue, setAside, byId, costOf, cost, rawIds, sumOf, Task, queueMost, rawMost, queueWords, memoryWords}
+use Rattle.run.specs.Run.{Grown, State, Outcome, going, then, keep, enqueue, setAside, byEdition, costOf, levelMod, rawIds, sumOf, Task, queueMost, rawMost, queueWords, memoryWords}
+use Rattle.run.specs.Editions.{costIn}
 use Rattle.run.specs.Sixes.{placesMost, asideFrom}
 use Rattle.run.proofs.Lists.{if-ok, all-insert}
 use Rattle.run.proofs.Records.{presentOf, terminalOf, wordsOf, cost-sets, queue-more}
@@ -63,10 +64,10 @@ up-to n k (Turn.Going t) h a = omega (arith, a)
 
 module _ (T : Task) where
   -- it tells the cell's cost and its start cell's place
-  pub rec-tells : (c : Grown) → c .from < placesMost → (costR (recOf T c) ≡ cost T (c .id)) × (fromR (recOf T c) ≡ c .from)
+  pub rec-tells : (c : Grown) → c .from < placesMost → (costR (recOf T c) ≡ costIn T (c .id)) × (fromR (recOf T c) ≡ c .from)
   unfolding recordOf
   rec-tells c h =
-      let k : costOf _ _ _ _ ≡ cost T (c .id) = cost-sets T (c .id) in
+      let k : costOf _ _ _ _ ≡ costIn T (c .id) = cost-sets T (c .id) in
       (rw k (omega arith), omega arith)
 
   -- so its key is the cell's cost, id and place, and its sets
@@ -74,9 +75,9 @@ module _ (T : Task) where
   unfolding key recordOf
   rec-words c h = let k = rec-tells c h in ap₂ (λ (x y : ℕ). x ∷ c .id ∷ y ∷ presentOf T (c .id) ∷ terminalOf T (c .id) ∷ []) (k .0) (k .1)
 
-  more : (x : Grown) (l : List Grown) → x .from < placesMost → All (λ (c : Grown). c .from < placesMost) l → map (recOf T) (insert (byId T) x l) ≡ insert before (recOf T x) (map (recOf T) l)
+  more : 0 < levelMod (T .asked) → (x : Grown) (l : List Grown) → x .from < placesMost → All (λ (c : Grown). c .from < placesMost) l → map (recOf T) (insert (byEdition T) x l) ≡ insert before (recOf T x) (map (recOf T) l)
   unfolding before
-  more = queue-more T (recOf T) before (λ c. c .from < placesMost) (λ y x a b. ap₂ lexb (rec-words y a) (rec-words x b))
+  more some = queue-more T some (recOf T) before (λ c. c .from < placesMost) (λ y x a b. ap₂ lexb (rec-words y a) (rec-words x b))
 
 -- ---- work on the cells of the start cell i
 
@@ -104,7 +105,7 @@ module _ (e : Engine) (T : Task) (i : ℕ) where
     gives = λ v s S.
         let few : t .queued ≤ queueMost = S .few in (
           record { raw = s .raw ++ (grown i id ∷ []); queue = s .queue; aside = s .aside; steps = s .steps },
-          keep-go T (byId T) (grown i id) s (omega (arith, raw-length h S)),
+          keep-go T (byEdition T) (grown i id) s (omega (arith, raw-length h S)),
           record {
             queue = in-queue e .only m _ (t .queued) (map (recOf T) (s .queue)) (λ j b. getR-out m (queueWords + t .kept) id j (omega arith)) (S .queue);
             raw = raw-more s (grown i id) m _ (t .kept) (S .raw) (words-more queueWords (t .kept) id m (omega arith));
@@ -121,27 +122,27 @@ module _ (e : Engine) (T : Task) (i : ℕ) where
 
   pub keeps-not : (m : List ℕ) (t : Counts) (id : ℕ) → memoryWords ≤ length m → rawMost ≤ t .kept → Does e T i (keep (grown i id)) m t m (Turn.Refused 8)
   unfolding Gives
-  keeps-not m t id h g = record { gives = λ v s S. keep-stop T (byId T) (grown i id) s (omega (arith, raw-length h S)); frame = refl }
+  keeps-not m t id h g = record { gives = λ v s S. keep-stop T (byEdition T) (grown i id) s (omega (arith, raw-length h S)); frame = refl }
 
   -- ---- one more queued
 
-  pub queues : i < placesMost → (m : List ℕ) (t : Counts) (r : Rec) (m′ : List ℕ) → memoryWords ≤ length m → t .queued < queueMost → r ≡ recOf T (grown i (r .id)) → m′ ≡ addR e m (t .queued) r
-      → Does e T i (enqueue (byId T) (grown i (r .id))) m t m′ (Turn.Going (record { kept = t .kept; queued = t .queued + 1; aside = t .aside; steps = t .steps }))
+  pub queues : 0 < levelMod (T .asked) → i < placesMost → (m : List ℕ) (t : Counts) (r : Rec) (m′ : List ℕ) → memoryWords ≤ length m → t .queued < queueMost → r ≡ recOf T (grown i (r .id)) → m′ ≡ addR e m (t .queued) r
+      → Does e T i (enqueue (byEdition T) (grown i (r .id))) m t m′ (Turn.Going (record { kept = t .kept; queued = t .queued + 1; aside = t .aside; steps = t .steps }))
   unfolding Gives asideFrom rawIds
-  queues placed m t r m′ h g is em =
+  queues some placed m t r m′ h g is em =
       let beyond : past queueWords m′ ≡ past queueWords m = ap (past queueWords) em ∙ add-past e queueMost queueWords m (t .queued) r g refl in
       record {
         gives = λ v s S. (
-          record { raw = s .raw; queue = insert (byId T) (grown i (r .id)) (s .queue); aside = s .aside; steps = s .steps },
-          enqueue-go T (byId T) (grown i (r .id)) s (omega (arith, queue-length S)),
+          record { raw = s .raw; queue = insert (byEdition T) (grown i (r .id)) (s .queue); aside = s .aside; steps = s .steps },
+          enqueue-go T (byEdition T) (grown i (r .id)) s (omega (arith, queue-length S)),
           record {
             queue =
-                rw (em, add-one (t .queued), more T (grown i (r .id)) (s .queue) placed (S .places), ← is)
+                rw (em, add-one (t .queued), more T some (grown i (r .id)) (s .queue) placed (S .places), ← is)
                 (in-queue e .more m (t .queued) r (map (recOf T) (s .queue)) (omega arith) (S .queue));
             raw = words-past queueWords (t .kept) m _ beyond ∙ S .raw;
             few = omega arith;
             room = S .room;
-            places = all-insert (byId T) (λ (c : Grown). c .from < placesMost) (grown i (r .id)) (s .queue) placed (S .places);
+            places = all-insert (byEdition T) (λ (c : Grown). c .from < placesMost) (grown i (r .id)) (s .queue) placed (S .places);
             aside = S .aside;
             others = S .others;
             steps = S .steps;
@@ -150,9 +151,9 @@ module _ (e : Engine) (T : Task) (i : ℕ) where
         frame = past-later queueWords memoryWords m _ (omega arith) beyond;
       }
 
-  pub queues-not : (m : List ℕ) (t : Counts) (id : ℕ) → queueMost ≤ t .queued → Does e T i (enqueue (byId T) (grown i id)) m t m (Turn.Refused 7)
+  pub queues-not : (m : List ℕ) (t : Counts) (id : ℕ) → queueMost ≤ t .queued → Does e T i (enqueue (byEdition T) (grown i id)) m t m (Turn.Refused 7)
   unfolding Gives
-  queues-not m t id g = record { gives = λ v s S. enqueue-stop T (byId T) (grown i id) s (omega (arith, queue-length S)); frame = refl }
+  queues-not m t id g = record { gives = λ v s S. enqueue-stop T (byEdition T) (grown i id) s (omega (arith, queue-length S)); frame = refl }
 
   -- ---- set aside
 

@@ -15,7 +15,7 @@ use Rattle.cellid.proofs.Laws.{low-cell, bit-up, sub-mul}
 use Rattle.order.specs.Order.{All}
 use Rattle.order.proofs.OrderLaws.{which}
 use Rattle.run.specs.declared.Request.{Request}
-use Rattle.run.specs.Run.{Child, State, sumOf, depth, expand, expansionOf, byId, keep, setAside, addAll, isHandedOn, stepWith, rawIds, Task, levelMod, maxCells, minLevel, memoryWords, byCost}
+use Rattle.run.specs.Run.{Child, State, sumOf, depth, expand, expansionOf, byEdition, keep, setAside, addAll, isHandedOn, stepWith, rawIds, Task, levelMod, maxCells, minLevel, memoryWords, inEdition}
 use Rattle.run.specs.Sixes.{asideFrom}
 use Rattle.run.specs.Masks.{descend, childrenIn, found}
 use Rattle.run.specs.Ground.{Domain, ChildOk, Queued}
@@ -94,7 +94,7 @@ module _ (T : Task) (D : Domain (T .asked)) where
     under-leaves : (t : Counts) (x : ℕ) → (T .asked .inner ≡ false → x ≡ sumOf leavesOf (expansionOf T id .failed))
         → asideOf (T .asked .inner) t x .aside + leavesIn (expansionOf T id .children) ≤ t .aside + leavesOf id
     under-leaves t x e =
-        let u = expansion-ok T D (byId T) (λ i m. leavesOf m) (λ i m L p c l. leaves-add m L p c l) 0 id Q in
+        let u = expansion-ok T D (byEdition T) (λ i m. leavesOf m) (λ i m L p c l. leaves-add m L p c l) 0 id Q in
         let le : leavesIn (expansionOf T id .children) + sumOf leavesOf (expansionOf T id .failed) ≤ leavesOf id = rel-le (T .asked .inner) _ _ (u .sum) in
         ⊎-elim
         (λ (b : T .asked .inner ≡ true). omega (arith, ap (λ (y : Counts). y .aside) (aside-in (T .asked .inner) t x b)))
@@ -150,22 +150,22 @@ module _ (T : Task) (D : Domain (T .asked)) where
     brood-places h g = rw places-is (places-le (depth (T .asked) (r .id)) (depth-le (T .asked) (r .id) h g))
 
     pub brood-ok : All (ChildOk T) (childrenFrom b 0)
-    brood-ok = subst (All (ChildOk T)) (sym brood-children) (expansion-ok T D (byId T) (λ i x. leavesOf x) (λ i x L p c l. leaves-add x L p c l) 0 (r .id) (B .taken .cell) .children)
+    brood-ok = subst (All (ChildOk T)) (sym brood-children) (expansion-ok T D (byEdition T) (λ i x. leavesOf x) (λ i x L p c l. leaves-add x L p c l) 0 (r .id) (B .taken .cell) .children)
 
     pub brood-leaves : (t u : Counts) → u ≡ asideOf (T .asked .inner) t ((b .places - k) * b .unit) → u .aside + leavesIn (childrenFrom b 0) ≤ t .aside + leavesOf (r .id)
     brood-leaves t u e = rw (e, brood-children) (under-leaves (r .id) (B .taken .cell) t ((b .places - k) * b .unit) brood-failed)
 
     pub hands : (E : Engine) (m₁ : List ℕ) (t u : Counts) (m₂ : List ℕ) (a : Turn) → u ≡ asideOf (T .asked .inner) t ((b .places - k) * b .unit)
-        → Does E T (b .from) (addAll (byCost T) (b .from) (childrenFrom b 0)) m₁ u m₂ a → Does E T (fromR r) (handOn T (grown (fromR r) (r .id))) m₁ t m₂ a
+        → Does E T (b .from) (addAll (inEdition T) (b .from) (childrenFrom b 0)) m₁ u m₂ a → Does E T (fromR r) (handOn T (grown (fromR r) (r .id))) m₁ t m₂ a
     unfolding handOn
     hands E m₁ t u m₂ a e d =
         let i = fromR r in
-        let d₁ : Does E T i (addAll (byCost T) i (childrenFrom b 0)) m₁ u m₂ a = subst (λ (j : ℕ). Does E T j (addAll (byCost T) j (childrenFrom b 0)) m₁ u m₂ a) brood-from d in
+        let d₁ : Does E T i (addAll (inEdition T) i (childrenFrom b 0)) m₁ u m₂ a = subst (λ (j : ℕ). Does E T j (addAll (inEdition T) j (childrenFrom b 0)) m₁ u m₂ a) brood-from d in
         record {
           gives = λ v s S.
               let s₁ : State = setAside (T .asked) i (expansionOf T (r .id) .failed) s in
               let S₁ : Stands E T i v m₁ u s₁ = rw e (sets-aside E T i v m₁ t ((b .places - k) * b .unit) (expansionOf T (r .id) .failed) s brood-failed S) in
-              subst (λ (l : List Child). Gives E T i v m₂ a (addAll (byCost T) i l s₁)) brood-children (d₁ .gives v s₁ S₁);
+              subst (λ (l : List Child). Gives E T i v m₂ a (addAll (inEdition T) i l s₁)) brood-children (d₁ .gives v s₁ S₁);
           frame = d₁ .frame;
         }
 
@@ -173,7 +173,7 @@ module _ (T : Task) (D : Domain (T .asked)) where
 
 module _ (E : Engine) (T : Task) (D : Domain (T .asked)) (m : List ℕ) (t : Counts) (long : memoryWords ≤ length m) (f : Bool) (ef : f ≡ (T .asked .inner && leb (maxCells (T .asked)) (t .kept))) where
   pub taken-full : (i id : ℕ) → f ≡ true
-      → Does E T i (stepWith (byCost T) (grown i id)) m t m (Turn.Going (record { kept = t .kept; queued = 0; aside = t .aside; steps = t .steps }))
+      → Does E T i (stepWith (inEdition T) (grown i id)) m t m (Turn.Going (record { kept = t .kept; queued = 0; aside = t .aside; steps = t .steps }))
   unfolding Gives stepWith rawIds asideFrom All
   taken-full i id e = record {
     gives = λ v s S. (
@@ -198,13 +198,13 @@ module _ (E : Engine) (T : Task) (D : Domain (T .asked)) (m : List ℕ) (t : Cou
     hands-is v s S = rw (count-children, raw-length E T i long S, queue-length E T i S) (sym eh)
 
     pub taken-handed : (m′ : List ℕ) (a : Turn) → h ≡ true → Does E T i (handOn T (grown i (r .id))) m t m′ a
-        → Does E T i (stepWith (byCost T) (grown i (r .id))) m t m′ a
+        → Does E T i (stepWith (inEdition T) (grown i (r .id))) m t m′ a
     unfolding stepWith handOn
-    taken-handed m′ a e = does-as E T i (handOn T (grown i (r .id))) (stepWith (byCost T) (grown i (r .id))) m t m′ a
+    taken-handed m′ a e = does-as E T i (handOn T (grown i (r .id))) (stepWith (inEdition T) (grown i (r .id))) m t m′ a
         (λ v s S. rw (full-is E T D i v m t s f long S ef ∙ still, stepWith, hands-is v s S ∙ e))
 
     pub taken-kept : (m′ : List ℕ) (a : Turn) → h ≡ false → Does E T i (keep (grown i (r .id))) m t m′ a
-        → Does E T i (stepWith (byCost T) (grown i (r .id))) m t m′ a
+        → Does E T i (stepWith (inEdition T) (grown i (r .id))) m t m′ a
     unfolding stepWith
-    taken-kept m′ a e = does-as E T i (keep (grown i (r .id))) (stepWith (byCost T) (grown i (r .id))) m t m′ a
+    taken-kept m′ a e = does-as E T i (keep (grown i (r .id))) (stepWith (inEdition T) (grown i (r .id))) m t m′ a
         (λ v s S. rw (full-is E T D i v m t s f long S ef ∙ still, stepWith, hands-is v s S ∙ e))

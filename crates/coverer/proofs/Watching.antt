@@ -13,7 +13,8 @@ use Rattle.cellunion.proofs.Memory.{laid-nil, laid-cons, laid-append, room-yes,
 use Rattle.order.specs.Order.{All}
 use Rattle.totals.specs.declared.Totals.{Totals}
 use Rattle.totals.specs.Totals.{totalAt}
-use Rattle.run.specs.Run.{Task, Grown, State, Outcome, refused, going, after, cost, rawIds, byCost, queueMost, rawMost, queueWords, memoryWords}
+use Rattle.run.specs.Run.{Task, Grown, State, Outcome, refused, going, after, rawIds, inEdition, queueMost, rawMost, queueWords, memoryWords}
+use Rattle.run.specs.Editions.{costIn}
 use Rattle.run.specs.Sixes.{placesMost, asideSix}
 use Rattle.records.specs.declared.Rec.{Rec}
 use Rattle.records.specs.Records.{costR, fromR, recordOf}
@@ -121,7 +122,7 @@ module _ (T : Task) where
   listed-costs [] a = refl
   listed-costs (c ∷ l) a =
       let k = rec-tells T c (a .0) in
-      ap₂ (λ (x y : ℕ). c .id ∷ x ∷ y ∷ listed (map (recOf T) l)) (k .0) (k .1) ∙ ap (λ (t : List ℕ). c .id ∷ cost T (c .id) ∷ c .from ∷ t) (listed-costs l (a .1))
+      ap₂ (λ (x y : ℕ). c .id ∷ x ∷ y ∷ listed (map (recOf T) l)) (k .0) (k .1) ∙ ap (λ (t : List ℕ). c .id ∷ costIn T (c .id) ∷ c .from ∷ t) (listed-costs l (a .1))
 
 module _ (E : Engine) (T : Task) (m : List ℕ) (t : Tally) (s : State) (out : List ℕ) (long : memoryWords ≤ length m) (H : Holds E T m t s) where
   abbrev S : Stands E T 0 (totalAt (t .aside)) m (countsAt 0 t) s
@@ -159,18 +160,18 @@ module _ (E : Engine) (T : Task) (m : List ℕ) (t : Tally) (s : State) (out : L
 
 -- ---- the whole watch
 
-module _ (E : Engine) (T : Task) (l : List ℕ) (k : ℕ) (m m₁ : List ℕ) (r : Stage) (C : Comes E T (after (byCost T) l k) m m₁ r) where
+module _ (E : Engine) (T : Task) (l : List ℕ) (k : ℕ) (m m₁ : List ℕ) (r : Stage) (C : Comes E T (after (inEdition T) l k) m m₁ r) where
   pub watch-refused : (n : ℕ) (out m₂ : List ℕ) → r ≡ Stage.Refused n → m₂ ≡ cleared 0 memoryWords m₁
-      → (Seen.Refused n ≡ seenOf T (length out) (after (byCost T) l k)) × (out ≡ seenOver T (after (byCost T) l k) out) × (m₂ ≡ cleared 0 memoryWords m)
+      → (Seen.Refused n ≡ seenOf T (length out) (after (inEdition T) l k)) × (out ≡ seenOver T (after (inEdition T) l k) out) × (m₂ ≡ cleared 0 memoryWords m)
   unfolding Leads seenOf seenOver
   watch-refused n out m₂ e d =
-      let o : after (byCost T) l k ≡ refused n = subst (λ (y : Stage). Leads E T m₁ y (after (byCost T) l k)) e (C .gives) in
+      let o : after (inEdition T) l k ≡ refused n = subst (λ (y : Stage). Leads E T m₁ y (after (inEdition T) l k)) e (C .gives) in
       (rw o refl, rw o refl, d ∙ cleared-front memoryWords m m₁ (C .frame))
 
   module _ (t : Tally) (e : r ≡ Stage.Going t) where
-    ended : (s : State) × (after (byCost T) l k ≡ going s) × Holds E T m₁ t s
+    ended : (s : State) × (after (inEdition T) l k ≡ going s) × Holds E T m₁ t s
     unfolding Leads
-    ended = subst (λ (y : Stage). Leads E T m₁ y (after (byCost T) l k)) e (C .gives)
+    ended = subst (λ (y : Stage). Leads E T m₁ y (after (inEdition T) l k)) e (C .gives)
 
     pub watch-few : (t .kept ≤ rawMost) × (t .queued ≤ queueMost)
     watch-few = (ended .2 .at 0 .room, ended .2 .at 0 .few)
@@ -178,7 +179,7 @@ module _ (E : Engine) (T : Task) (l : List ℕ) (k : ℕ) (m m₁ : List ℕ) (r
     pub watch-told : (v : Seen) (out out₂ m₂ m₃ : List ℕ)
         → ((T : Task) (s : State) → Holds E T m₁ t s → (v ≡ seenOf T (length out) (going s)) × (out₂ ≡ seenOver T (going s) out))
         → past memoryWords m₂ ≡ past memoryWords m₁ → m₃ ≡ cleared 0 memoryWords m₂
-        → (v ≡ seenOf T (length out) (after (byCost T) l k)) × (out₂ ≡ seenOver T (after (byCost T) l k) out) × (m₃ ≡ cleared 0 memoryWords m)
+        → (v ≡ seenOf T (length out) (after (inEdition T) l k)) × (out₂ ≡ seenOver T (after (inEdition T) l k) out) × (m₃ ≡ cleared 0 memoryWords m)
     watch-told v out out₂ m₂ m₃ f p d =
         let a = f T (ended .0) (ended .2) in
         (rw (ended .1) (a .0), rw (ended .1) (a .1), d ∙ cleared-front memoryWords m m₂ (p ∙ C .frame))

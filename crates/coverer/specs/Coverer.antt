@@ -6,7 +6,7 @@ use lib.ListN.{length, drop}
 use Rattle.cellunion.specs.Memory.{zeros, laid}
 use Rattle.region.specs.Region.{Area}
 use Rattle.run.specs.declared.Request.{Request}
-use Rattle.run.specs.Run.{queueWords, memoryWords, Course, Outcome, refused, going, byCost, run, rawIds}
+use Rattle.run.specs.Run.{queueWords, memoryWords, Course, Outcome, refused, going, inEdition, run, rawIds}
 use Rattle.run.specs.Sixes.{asideSix}
 use Rattle.candidate.specs.Candidate.{taskOf}
 use Rattle.coverer.specs.declared.Ran.{Ran}
@@ -19,9 +19,9 @@ cleared a b m = laid a (zeros (b - a)) m
 unfoldable pub onlyWords : ℕ → ℕ → List ℕ → List ℕ → List ℕ
 onlyWords a b l m = zeros a ++ (l ++ (zeros (b - (a + length l)) ++ drop b m))
 
--- what a request's run on a region goes by: the region's two tests; the least cost first, of equal costs the smaller id, of equal ids the earlier start cell
+-- what a request's run on a region goes by: the region's two tests; the order of its edition
 abbrev pub courseOf : Request → Area → Course
-courseOf q a = byCost (taskOf q a)
+courseOf q a = inEdition (taskOf q a)
 
 -- the defined run
 unfoldable pub outcomeOf : Request → Area → List ℕ → ℕ → Outcome

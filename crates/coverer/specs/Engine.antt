@@ -13,7 +13,8 @@ use Rattle.cellid.specs.CellId.{lowBit, leavesOf}
 use Rattle.order.specs.Order.{All}
 use Rattle.totals.specs.declared.Totals.{Totals}
 use Rattle.totals.specs.Totals.{totalAt, withTotal}
-use Rattle.run.specs.Run.{queueMost, rawMost, Task, Grown, Child, State, Outcome, refused, going, full, depth, sumOf, look, expansionOf, setAside, addAll, startAs, after, rawIds, queueWords, memoryWords, byCost}
+use Rattle.run.specs.Run.{queueMost, rawMost, Task, Grown, Child, State, Outcome, refused, going, depth, sumOf, look, expansionOf, setAside, addAll, startAs, after, rawIds, queueWords, memoryWords, inEdition}
+use Rattle.run.specs.Editions.{base}
 use Rattle.run.specs.Masks.{found, consIf, childrenIn}
 use Rattle.run.specs.Ground.{Fit, Queued}
 use Rattle.run.specs.Sixes.{placesMost, asideFrom}
@@ -86,7 +87,7 @@ AsideUpTo n (Turn.Going t) = t .aside ≤ n
 module _ (T : Task) where
   -- a queued cell's record: the cell, the two sets of its expansion, its cost and its start cell's place
   abbrev pub recOf : Grown → Rec
-  recOf c = let f = found T (depth (T .asked) (c .id)) (c .id) in recordOf (full (T .asked)) (c .from) (c .id) (f .present) (f .terminal)
+  recOf c = let f = found T (depth (T .asked) (c .id)) (c .id) in recordOf (base (T .asked)) (c .from) (c .id) (f .present) (f .terminal)
 
   -- a record that was queued
   pub record Taken (r : Rec) : Type 0 where
@@ -96,11 +97,11 @@ module _ (T : Task) where
 
   -- the taken cell handed on to its children: what failed is set aside, then the children are added
   unfoldable pub handOn : Grown → State → Outcome
-  handOn c s = addAll (byCost T) (c .from) (expansionOf T (c .id) .children) (setAside (T .asked) (c .from) (expansionOf T (c .id) .failed) s)
+  handOn c s = addAll (inEdition T) (c .from) (expansionOf T (c .id) .children) (setAside (T .asked) (c .from) (expansionOf T (c .id) .failed) s)
 
   -- a start cell, by what the look at it says
   abbrev pub startOne : Grown → State → Outcome
-  startOne c = startAs (byCost T) (look T (c .id)) c
+  startOne c = startAs (inEdition T) (look T (c .id)) c
 
 -- how far a run is, for work on the cells of the start cell i
 abbrev pub countsAt : ℕ → Tally → Counts
@@ -150,7 +151,7 @@ module _ (e : Engine) (T : Task) where
   -- m and t stand for the state of the defined run from the start cells l after t's steps
   pub record Reached (l : List ℕ) (m : List ℕ) (t : Tally) : Type 0 where
     pub state : State
-    pub is : after (byCost T) l (t .steps) ≡ going state
+    pub is : after (inEdition T) l (t .steps) ≡ going state
     pub holds : Holds m t state
 
   -- the same, from some start cells

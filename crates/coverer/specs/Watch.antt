@@ -6,14 +6,15 @@ use Prim.Native.Nat.{ℕ}
 use lib.Dec.{leb}
 use lib.ListN.{length}
 use Rattle.cellunion.specs.Memory.{laidOver}
-use Rattle.run.specs.Run.{Task, Grown, State, Outcome, refused, going, cost, rawIds}
+use Rattle.run.specs.Run.{Task, Grown, State, Outcome, refused, going, rawIds}
+use Rattle.run.specs.Editions.{costIn}
 use Rattle.run.specs.Sixes.{asideSix}
 use Rattle.coverer.specs.declared.Seen.{Seen}
 
--- each cell's id followed by its cost and its start cell's place
+-- each cell's id followed by its cost in the request's edition and its start cell's place
 unfoldable pub withCosts : Task → List Grown → List ℕ
 withCosts T [] = []
-withCosts T (c ∷ l) = c .id ∷ cost T (c .id) ∷ c .from ∷ withCosts T l
+withCosts T (c ∷ l) = c .id ∷ costIn T (c .id) ∷ c .from ∷ withCosts T l
 
 -- the kept ids, in the order kept, then the queued cells, the next one first
 unfoldable pub standing : Task → State → List ℕ

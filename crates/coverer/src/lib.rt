@@ -10,7 +10,7 @@ ghost use Rattle.order.specs.Order.{All};
 ghost use Rattle.cellunion.specs.Memory.{laid};
 ghost use Rattle.records.specs.declared.Rec.{Rec};
 ghost use Rattle.region.specs.Region.{areaOf};
-ghost use Rattle.run.specs.Run.{queueMost, rawMost, Task, State, going, keep, enqueue, byId, add, addAll, stepWith, after, levelMod, full, queueWords, memoryWords};
+ghost use Rattle.run.specs.Run.{queueMost, rawMost, Task, State, going, keep, enqueue, byEdition, add, addAll, stepWith, after, levelMod, full, queueWords, memoryWords};
 ghost use Rattle.run.specs.Ground.{Fit, ChildOk};
 ghost use Rattle.run.specs.Sixes.{placesMost};
 ghost use Rattle.candidate.specs.Candidate.{taskOf, Asks};
@@ -114,7 +114,7 @@ fn keep(m: &mut [u64], t: Counts, id: u64) -> Turn
 // Queues a record: refused with 7 where the queue is full.
 fn enqueue(m: &mut [u64], t: Counts, e: Engine, r: Rec) -> Turn
     requires { ⌜ memoryWords ≤ length (now m) ⌝ }
-    ensures { λ a. ⌜ ((T : Task) (i : ℕ) → i < placesMost → r ≡ recOf T (grown i (r .id)) → Does e T i (enqueue (byId T) (grown i (r .id))) (now (m .entry)) t (now (m .exit)) a) ⌝ }
+    ensures { λ a. ⌜ ((T : Task) (i : ℕ) → 0 < levelMod (T .asked) → i < placesMost → r ≡ recOf T (grown i (r .id)) → Does e T i (enqueue (byEdition T) (grown i (r .id))) (now (m .entry)) t (now (m .exit)) a) ⌝ }
     ensures { λ a. ⌜ AsideUpTo (t .aside) a ⌝ }
 {
     if t.queued < QUEUE_MOST {
@@ -187,7 +187,8 @@ fn add_candidate(
     if decide::lifts(q, full, id, f.terminal) {
         return keep(m, t, id);
     }
-    let r = records::record_of(full, from, id, f.present, f.terminal);
+    let base = decide::base_of(q, full);
+    let r = records::record_of(base, from, id, f.present, f.terminal);
     enqueue(m, t, e, r)
 }
 

@@ -3,7 +3,7 @@
 use mathlib.Core.Path.{_≡_, refl, sym, ap, _∙_, subst}
 use mathlib.Core.Bool.{Bool, true, false}
 use mathlib.Core.List.{List}
-use mathlib.Core.Logic.{_↔_}
+use mathlib.Core.Logic.{_↔_, _⊎_, inl, inr, ⊎-elim}
 use Prim.Native.Nat.{ℕ, _≤_, _<_}
 use native.Mathlib.Omega.{arith}
 use lib.Dec.{leb}
@@ -25,15 +25,15 @@ use Rattle.covering.specs.declared.Answer.{Answer}
 use Rattle.bars.specs.declared.Bar.{Bar}
 use Rattle.covering.specs.declared.Ending.{Ending}
 use Rattle.covering.specs.declared.Kind.{Kind}
-use Rattle.bars.specs.Bars.{barOf}
+use Rattle.bars.specs.Bars.{barOf, numbersBar, regionBar, memoryBar, firstBar}
 use Rattle.covering.specs.Covering.{Result, barred, refused, done, fitted, checked, listOf, endedAs, ranOf, comesTo, resultOf, refusal, answerOf, outputAfter, memoryAfter, Answered}
-use Rattle.bars.proofs.Early.{Early, early-is, early-given, early-low, Valid, early-none}
+use Rattle.bars.proofs.Early.{Early, IsBar, UpTo, edition-open, early-is, early-given, early-low, Valid, early-none}
 
 -- the paper's number of a result
 abbrev pub numberOf : Result → ℕ
 numberOf R = answerOf R .number
 
--- ---- 1 to 6 first, else what the request comes to
+-- ---- 1 to 6 and 14 first, else what the request comes to
 
 number-refused : (n : ℕ) → numberOf (refused n) ≡ n
 unfolding answerOf
@@ -170,22 +170,22 @@ module _ (k : Kind) (c : RegionCoverer) (a : Area) (allowance memory room : ℕ)
   given-number n (ended {l = l} {steps} {aside} E F h) =
       ap numberOf (first-passed c a memory (comesTo k c a allowance room) E ∙ finished-comes c a allowance room k l steps aside F) ∙ fitted-given room l steps aside n h
 
-  -- 1 to 6: `Early` has the rows, each with the earlier ones not true
-  pub when-early : (n : ℕ) → n ≤ 6 → 0 < n → (number ≡ n) ↔ Early c a memory (Bar.Barred n)
-  when-early n h p = (λ x. of n h p (subst Given x given-is), λ E. given-number n (first E))
+  -- 1 to 6 and 14: `Early` has the rows, each with the earlier ones not true
+  pub when-early : (n : ℕ) → IsBar n → (number ≡ n) ↔ Early c a memory (Bar.Barred n)
+  when-early n h = (λ x. of n h (subst Given x given-is), λ E. given-number n (first E))
     where
-      of : (n : ℕ) → n ≤ 6 → 0 < n → Given n → Early c a memory (Bar.Barred n)
-      of n h p (first E) = E
-      of n h p (late E S) = absurd (omega (arith, stopped-late c a allowance room k n S .0))
-      of n h p (ended E F (long q)) = absurd (omega arith)
-      of n h p (ended E F (fits q)) = absurd (omega arith)
+      of : (n : ℕ) → IsBar n → Given n → Early c a memory (Bar.Barred n)
+      of n h (first E) = E
+      of n h (late E S) = absurd (⊎-elim (λ b. omega (arith, stopped-late c a allowance room k n S .0)) (λ b. omega (arith, stopped-late c a allowance room k n S .1)) h)
+      of n h (ended E F (long q)) = absurd (⊎-elim (λ b. omega arith) (λ b. omega arith) h)
+      of n h (ended E F (fits q)) = absurd (⊎-elim (λ b. omega arith) (λ b. omega arith) h)
 
   -- 7 to 9: none of these, and the defined run is refused with the number
   pub when-late : (n : ℕ) → 7 ≤ n → n ≤ 9 → (number ≡ n) ↔ (Early c a memory Bar.Open × RunRefused k c a allowance n)
   when-late n h p = (λ x. of n h p (subst Given x given-is), λ w. given-number n (late (w .0) (w .1)))
     where
       of : (n : ℕ) → 7 ≤ n → n ≤ 9 → Given n → Early c a memory Bar.Open × RunRefused k c a allowance n
-      of n h p (first E) = absurd (omega (arith, early-low c a memory E .1))
+      of n h p (first E) = absurd (⊎-elim (λ b. omega arith) (λ b. omega arith) (early-low c a memory E))
       of n h p (late E S) = (E, S)
       of n h p (ended E F (long q)) = absurd (omega arith)
       of n h p (ended E F (fits q)) = absurd (omega arith)
@@ -199,35 +199,43 @@ module _ (k : Kind) (c : RegionCoverer) (a : Area) (allowance memory room : ℕ)
   when-long = (λ x. of 10 refl (subst Given x given-is), λ w. given-number 10 (ended (w .0) (w .1 .3) (long (w .1 .4))))
     where
       of : (n : ℕ) → n ≡ 10 → Given n → FinishedWith (λ l. room < length l)
-      of n z (first E) = absurd (omega (arith, early-low c a memory E .1))
+      of n z (first E) = absurd (⊎-elim (λ b. omega arith) (λ b. omega arith) (early-low c a memory E))
       of n z (late E S) = absurd (omega (arith, stopped-late c a allowance room k n S .1))
       of n z (ended E F (long q)) = (E, (_, _, _, F, q))
       of n z (ended E F (fits q)) = absurd (omega arith)
 
-  -- a success: none of the ten
+  -- a success: none of these
   pub when-done : (number ≡ 0) ↔ FinishedWith (λ l. length l ≤ room)
   when-done = (λ x. of 0 refl (subst Given x given-is), λ w. given-number 0 (ended (w .0) (w .1 .3) (fits (w .1 .4))))
     where
       of : (n : ℕ) → n ≡ 0 → Given n → FinishedWith (λ l. length l ≤ room)
-      of n z (first E) = absurd (omega (arith, early-low c a memory E .0))
+      of n z (first E) = absurd (⊎-elim (λ b. omega arith) (λ b. omega arith) (early-low c a memory E))
       of n z (late E S) = absurd (omega (arith, stopped-late c a allowance room k n S .0))
       of n z (ended E F (long q)) = absurd (omega arith)
       of n z (ended E F (fits q)) = (E, (_, _, _, F, q))
 
   -- and no other number is given
-  pub number-small : number ≤ 10
-  number-small = of given-is
+  pub number-known : (number ≤ 10) ⊎ (number ≡ 14)
+  number-known = of given-is
     where
-      of : {n : ℕ} → Given n → n ≤ 10
-      of {n} (first E) = omega (arith, early-low c a memory E .1)
-      of {n} (late E S) = omega (arith, stopped-late c a allowance room k n S .1)
-      of (ended E F (long q)) = omega arith
-      of (ended E F (fits q)) = omega arith
+      of : {n : ℕ} → Given n → (n ≤ 10) ⊎ (n ≡ 14)
+      of {n} (first E) = ⊎-elim (λ b. inl (omega arith)) inr (early-low c a memory E)
+      of {n} (late E S) = inl (omega (arith, stopped-late c a allowance room k n S .1))
+      of (ended E F (long q)) = inl (omega arith)
+      of (ended E F (fits q)) = inl (omega arith)
 
--- "`fast_covering` gives only 1 to 6 and 10"
+-- "`fast_covering` gives only 1 to 6 and 10", and 14 as any request
 pub fast-numbers : (c : RegionCoverer) (a : Area) (allowance memory room n : ℕ) → 7 ≤ n → n ≤ 9 → numberOf (resultOf Kind.Fast c a allowance memory room) ≡ n → ⊥
 unfolding RunRefused
 fast-numbers c a allowance memory room n h p x = when-late Kind.Fast c a allowance memory room n h p .0 x .1
+
+-- "fast ignores it": whichever of the two editions a request names
+pub fast-ignores : (c : RegionCoverer) (a : Area) (allowance memory room n : ℕ) → UpTo 2 (c .edition) → UpTo 2 n
+    → resultOf Kind.Fast (record { «min_level» = c .«min_level»; «max_level» = c .«max_level»; «level_mod» = c .«level_mod»; «max_cells» = c .«max_cells»; edition = n }) a allowance memory room
+    ≡ resultOf Kind.Fast c a allowance memory room
+unfolding resultOf comesTo barOf numbersBar
+fast-ignores c a allowance memory room n h k =
+    ap (λ (b : Bar). checked (firstBar (numbersBar c) (firstBar b (firstBar (regionBar a) (memoryBar memory)))) (comesTo Kind.Fast c a allowance room)) (edition-open n k ∙ sym (edition-open (c .edition) h))
 
 -- ---- what any result is: a refusal's number is not 0, and a list is no longer than the output has places
 
@@ -252,7 +260,7 @@ module _ (k : Kind) (c : RegionCoverer) (a : Area) (allowance memory room : ℕ)
     where
       of : (b : Bar) → Early c a memory b → Sound room (checked b (comesTo k c a allowance room))
       of Bar.Open E = comes-sound (comes-is c a allowance room k)
-      of (Bar.Barred n) E = early-low c a memory E .0
+      of (Bar.Barred n) E = ⊎-elim (λ b. b .0) (λ b. omega arith) (early-low c a memory E)
 
 -- ---- what a refusal leaves
 
@@ -273,10 +281,10 @@ module _ (k : Kind) (c : RegionCoverer) (a : Area) (allowance memory room : ℕ)
   comes-cleared (stopped S) = refl
   comes-cleared (finished l steps aside F) = fitted-cleared l steps aside
 
-  -- 1 to 6: "unchanged"
-  pub refusal-early : (n : ℕ) → n ≤ 6 → 0 < n → numberOf (resultOf k c a allowance memory room) ≡ n → memoryAfter (resultOf k c a allowance memory room) m ≡ m
+  -- 1 to 6 and 14: "unchanged"
+  pub refusal-early : (n : ℕ) → IsBar n → numberOf (resultOf k c a allowance memory room) ≡ n → memoryAfter (resultOf k c a allowance memory room) m ≡ m
   unfolding resultOf checked memoryAfter
-  refusal-early n h p x = ap (λ (b : Bar). memoryAfter (checked b (comesTo k c a allowance room)) m) (early-given c a memory (Bar.Barred n) (when-early k c a allowance memory room n h p .0 x))
+  refusal-early n h x = ap (λ (b : Bar). memoryAfter (checked b (comesTo k c a allowance room)) m) (early-given c a memory (Bar.Barred n) (when-early k c a allowance memory room n h .0 x))
 
   -- 7 to 10, and a success: the words of a run are zero
   pub refusal-late : Early c a memory Bar.Open → memoryAfter (resultOf k c a allowance memory room) m ≡ cleared 0 memoryWords m

@@ -39,7 +39,7 @@ pub data Result : Type 0 where
 unfoldable pub fitted : ℕ → List ℕ → ℕ → Totals → Result
 fitted room l steps aside = elim (leb (length l) room) [ true ↦ done l steps aside | false ↦ refused 10 ]
 
--- 1 to 6 come before anything else
+-- 1 to 6 and 14 come before anything else
 unfoldable pub checked : Bar → Result → Result
 checked Bar.Open R = R
 checked (Bar.Barred n) R = barred n
@@ -63,7 +63,7 @@ askedOf c inner = record { coverer = c; inner = inner }
 unfoldable pub ranOf : Bool → RegionCoverer → Area → ℕ → Outcome
 ranOf inner c a allowance = outcomeOf (askedOf c inner) a (startsFor c (boundOf a)) allowance
 
--- what a request of each kind comes to, once nothing bars it; "`fast_covering` gives only 1 to 6 and 10, with 0 steps"
+-- what a request of each kind comes to, once nothing bars it; "`fast_covering` gives only 1 to 6 and 10, with 0 steps"; of editions, "fast ignores it"
 unfoldable pub comesTo : Kind → RegionCoverer → Area → ℕ → ℕ → Result
 comesTo (Kind.Outer e) c a allowance room = endedAs e c room (ranOf false c a allowance)
 comesTo (Kind.Inner e) c a allowance room = endedAs e c room (ranOf true c a allowance)
@@ -91,7 +91,7 @@ outputAfter (barred n) out = out
 outputAfter (refused n) out = out
 outputAfter (done l steps aside) out = l ++ drop (length l) out
 
--- 1 to 6: "unchanged"; 7 to 10 and success: the words of a run, 5,120, are zero; working memory past them "never changes"
+-- 1 to 6 and 14: "unchanged"; 7 to 10 and success: the words of a run, 5,120, are zero; working memory past them "never changes"
 unfoldable pub memoryAfter : Result → List ℕ → List ℕ
 memoryAfter (barred n) mem = mem
 memoryAfter (refused n) mem = cleared 0 memoryWords mem

@@ -1,4 +1,4 @@
--- What is seen of a request's run after so many steps, for those who follow it: the bars 1 to 6 first, then the run's own refusals, or how it stands.
+-- What is seen of a request's run after so many steps, for those who follow it: the bars 1 to 6 and 14 first, then the run's own refusals, or how it stands.
 -- Assumes nothing.
 use mathlib.Core.Path.{_≡_}
 use mathlib.Core.Bool.{Bool}
@@ -21,7 +21,7 @@ use Rattle.covering.specs.Covering.{askedOf}
 unfoldable pub afterOf : Bool → RegionCoverer → Area → ℕ → Outcome
 afterOf inner c a steps = after (courseOf (askedOf c inner) a) (startsFor c (boundOf a)) steps
 
--- the answer, the output and the working memory afterwards: 1 to 6 leave both as they were, all else leaves the words of a run zero
+-- the answer, the output and the working memory afterwards: 1 to 6 and 14 leave both as they were, all else leaves the words of a run zero
 unfoldable pub seenAs : Bar → Task → ℕ → Outcome → Seen
 seenAs Bar.Open T room o = seenOf T room o
 seenAs (Bar.Barred n) T room o = Seen.Refused n

@@ -396,7 +396,7 @@ fn watch_from_starts(
 }
 
 // A request's run as it stands after so many steps, or where its queue is empty before, by either engine: in the output's first places the kept ids, in the
-// order kept, then the queued cells, the next one first, each id followed by its cost and its start cell's place. Refused with 1 to 6 as any request; with 7 or 8
+// order kept, then the queued cells, the next one first, each id followed by its cost and its start cell's place. Refused with 1 to 6 and 14 as any request; with 7 or 8
 // as the run meets them up to there; with 10 where the output has no room for all that.
 pub fn watch(
     engine: Engine,

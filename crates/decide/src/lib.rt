@@ -1,12 +1,13 @@
-// What a run decides of a cell by its numbers: how far it is expanded, whether its parent is kept in its children's place, whether it is handed on, whether
-// an inner run is done. Nothing here looks at the region.
+// What a run decides of a cell by its numbers: how far it is expanded, whether its parent is kept in its children's place, what its children weigh in the
+// queue's order, whether it is handed on, whether an inner run is done. Nothing here looks at the region.
 ghost use mathlib.Core.Path.{_≡_};
 ghost use mathlib.Core.Bool.{_&&_, _||_, not};
 ghost use Prim.Native.Nat.{_+_, _≤_};
 ghost use lib.Dec.{leb, ltb, eqb};
 ghost use lib.Count.{ones};
 ghost use Rattle.cellid.specs.CellId.{levelOf};
-ghost use Rattle.run.specs.Run.{minLevel, maxCells, queueMost, rawMost, depth};
+ghost use Rattle.run.specs.Run.{minLevel, maxCells, queueMost, rawMost, depth, full};
+ghost use Rattle.run.specs.Editions.{base};
 use run::Request;
 
 // How far down a candidate is expanded: one level below min, else level_mod.
@@ -31,6 +32,17 @@ pub fn lifts(q: Request, full: u64, id: u64, terminal: u64) -> bool
         return false;
     }
     !q.inner
+}
+
+// What a child weighs in the queue's order, and a level in children, where a full set has `all` of them: in edition 2 one more, so that no count carries.
+pub fn base_of(q: Request, all: u64) -> u64
+    requires { ⌜ (all ≡ full q) × (all ≤ 64) ⌝ }
+    ensures { λ r. ⌜ (r ≡ base q) × (r ≤ 65) ⌝ }
+{
+    if q.coverer.edition == 2 {
+        return all + 1;
+    }
+    all
 }
 
 // Whether a taken candidate is handed on: inner, or below min, or one child, or few enough in all.

@@ -215,6 +215,7 @@ fn start_cells(c: RegionCoverer, mem: &mut [u64], n: usize) -> usize
         max_level: c.max_level,
         level_mod: 1,
         max_cells: lesser(c.max_cells, 4),
+        edition: c.edition,
     };
     let k = merge_covering(rough, mem, n);
     if c.level_mod <= 1 {

@@ -85,7 +85,7 @@ noOrder = record {
   cell = true;
   id = 0;
   cap = record { center = record { x = ofBits binary64 0; y = ofBits binary64 0; z = ofBits binary64 0 }; radius = ofBits binary64 0 };
-  coverer = record { «min_level» = 0; «max_level» = 0; «level_mod» = 0; «max_cells» = 0 };
+  coverer = record { «min_level» = 0; «max_level» = 0; «level_mod» = 0; «max_cells» = 0; edition = 0 };
   allowance = 0;
 }
 

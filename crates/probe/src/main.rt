@@ -268,6 +268,7 @@ fn read_levels(line: &[u8], p: Place) -> CovererRead {
         max_level: 30,
         level_mod: n[1],
         max_cells: 8,
+        edition: 1,
     };
     CovererRead { coverer, after }
 }
@@ -284,6 +285,7 @@ fn read_coverer(k: u64, line: &[u8], p: Place) -> CovererRead {
                 max_level: 30,
                 level_mod: 1,
                 max_cells: 8,
+                edition: 1,
             },
             after: p,
         },

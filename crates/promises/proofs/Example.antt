@@ -13,7 +13,7 @@ use Rattle.cellunion.specs.CellUnion.{normalise, pass, collapse, clearOf, isFou
 use Rattle.denorm.specs.Denorm.{denormalise, goal, below, cellsFrom}
 use Rattle.cellunion.specs.CellUnion as Union
 use Rattle.fast.specs.Fast.{adjusted, lifted, mergedIn, mergedCovering, fastCovering, keepStart, keepStarts, adjustedCells, startsOf}
-use Rattle.run.specs.Run.{Task, byCost, Outcome, refused, going, then, isEmpty, look, part, expand, reached, join, fourOf, expansionOf, depth, full, ending, lifts, cost, costOf, byId, keep, enqueue, setAside, isFull, isHandedOn, add, addAll, stepWith, stepOn, step, startAs, startAll, placed, after, loop, run, rawIds}
+use Rattle.run.specs.Run.{Task, inEdition, Outcome, refused, going, then, isEmpty, look, part, expand, reached, join, fourOf, expansionOf, depth, full, ending, lifts, cost, costOf, byId, keep, enqueue, setAside, isFull, isHandedOn, add, addAll, stepWith, stepOn, step, startAs, startAll, placed, after, loop, run, rawIds}
 
 abbrev pub face0 : ℕ
 face0 = 0x1000000000000000
@@ -23,14 +23,14 @@ pub within : ℕ → Bool
 within id = not (eqb id face0)
 
 pub task : Task
-task = record { asked = record { coverer = record { «min_level» = 0; «max_level» = 1; «level_mod» = 1; «max_cells» = 8 }; inner = true }; hits = λ id. true; within = within }
+task = record { asked = record { coverer = record { «min_level» = 0; «max_level» = 1; «level_mod» = 1; «max_cells» = 8; edition = 1 }; inner = true }; hits = λ id. true; within = within }
 
 pub rawOf : Outcome → List ℕ
 rawOf (refused n) = []
 rawOf (going s) = rawIds s
 
 pub raw : List ℕ
-raw = rawOf (run (byCost task) (face0 ∷ []) 10)
+raw = rawOf (run (inEdition task) (face0 ∷ []) 10)
 
 pub parent-fails :
     (raw ≡ 0x0400000000000000 ∷ 0x0c00000000000000 ∷ 0x1400000000000000 ∷ 0x1c00000000000000 ∷ [])

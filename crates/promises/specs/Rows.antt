@@ -22,7 +22,7 @@ Right (float n given said) = given ≡ said
 
 -- the run's own 4 ^ level_mod, for a request with that level_mod
 abbrev pub four : ℕ → ℕ
-four m = full (record { coverer = record { «min_level» = 0; «max_level» = 30; «level_mod» = m; «max_cells» = 8 }; inner = false })
+four m = full (record { coverer = record { «min_level» = 0; «max_level» = 30; «level_mod» = m; «max_cells» = 8; edition = 1 }; inner = false })
 
 unfoldable pub table : List Row
 table =

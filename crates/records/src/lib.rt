@@ -1,6 +1,6 @@
 // Queued candidates as records of four words in lent memory, place i in the words from 4i on; what each costs, and which of two goes first: the one of the
-// lesser cost; of equal costs, the one of the smaller id; of equal ids, the one that grew from the earlier start cell. How a queue keeps them is the crates
-// heap, plain and queue.
+// lesser cost; of equal costs, the one of the smaller id; of equal ids, the one that grew from the earlier start cell. What a level and a child weigh is the
+// caller's choice: by it the order is that of one edition or the other. How a queue keeps the records is the crates heap, plain and queue.
 ghost use mathlib.Core.Path.{_≡_};
 ghost use Prim.Native.Nat.{_+_, _*_, _/_, _<_, _≤_};
 ghost use lib.Count.{ones};
@@ -27,24 +27,24 @@ pub fn count(x: u64) -> u64
     u64::count_ones(x) as u64
 }
 
-// What a cell with these children costs: smaller cells, more children and more terminals cost more.
-fn cost_of(full: u64, id: u64, present: u64, terminal: u64) -> u64
-    requires { ⌜ full ≤ 64 ⌝ }
-    ensures { λ r. ⌜ (r ≡ costOf full (levelOf id) (ones present) (ones terminal)) × (r ≤ 130000) ⌝ }
+// What a cell with these children costs, where a child weighs `base` and a level `base` children: smaller cells, more children and more terminals cost more.
+fn cost_of(base: u64, id: u64, present: u64, terminal: u64) -> u64
+    requires { ⌜ base ≤ 65 ⌝ }
+    ensures { λ r. ⌜ (r ≡ costOf base (levelOf id) (ones present) (ones terminal)) × (r ≤ 131000) ⌝ }
 {
-    (cellid::level(id) * full + count(present)) * full + count(terminal)
+    (cellid::level(id) * base + count(present)) * base + count(terminal)
 }
 
 // The record of a cell with these children that grew from the start cell at the place `from`.
-pub fn record_of(full: u64, from: u64, id: u64, present: u64, terminal: u64) -> Rec
-    requires { ⌜ (full ≤ 64) × (from < 8) ⌝ }
-    ensures { λ r. ⌜ r ≡ recordOf full from id present terminal ⌝ }
+pub fn record_of(base: u64, from: u64, id: u64, present: u64, terminal: u64) -> Rec
+    requires { ⌜ (base ≤ 65) × (from < 8) ⌝ }
+    ensures { λ r. ⌜ r ≡ recordOf base from id present terminal ⌝ }
 {
     Rec {
         id,
         present,
         terminal,
-        rank: 8 * cost_of(full, id, present, terminal) + from,
+        rank: 8 * cost_of(base, id, present, terminal) + from,
     }
 }
 

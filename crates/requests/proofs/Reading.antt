@@ -14,6 +14,7 @@ use Rattle.text.specs.declared.Read.{Read}
 use Rattle.text.specs.Text.{until, fieldAt, bytesOf, placeAmong, chosen, faulty, numberIn, numberAfter, numbersAfter, listAfter, ReadList, choiceAfter, endAfter, startOf, wordsWith}
 use Rattle.cell.specs.declared.Cap.{Cap}
 use Rattle.region.specs.declared.Region.{Region}
+use Rattle.run.specs.declared.RegionCoverer.{RegionCoverer}
 use Rattle.run.specs.Run.{memoryWords}
 use Rattle.covering.specs.declared.Kind.{Kind}
 use Rattle.selftest.specs.declared.Engines.{Engines}
@@ -23,7 +24,7 @@ use Rattle.requests.specs.declared.line.CovererRead.{CovererRead}
 use Rattle.requests.specs.declared.line.RegionRead.{RegionRead}
 use Rattle.requests.specs.declared.line.Options.{Options}
 use Rattle.selftest.specs.Selftest.{enginesOf}
-use Rattle.requests.specs.Line.{kinds, kindOf, fourAfter, covererAfter, capOf, AreaRead, capAfter, cellAfter, idsAfter, shapes, areaAfter, keys, mostOf, none, valueOr, formOf, engineWords, engineIn, valueIn, badOption, optionGiven, optionOf, optionFrom, nextOption, optionsAfter, wishOf, regionOf, idsOf, regionPart, ReadRegion, ReadAsked}
+use Rattle.requests.specs.Line.{kinds, kindOf, fourAfter, covererAfter, capOf, AreaRead, capAfter, cellAfter, idsAfter, shapes, areaAfter, keys, mostOf, none, valueOr, formOf, withEdition, engineWords, engineIn, valueIn, badOption, optionGiven, optionOf, optionFrom, nextOption, optionsAfter, wishOf, regionOf, idsOf, regionPart, ReadRegion, ReadAsked}
 
 -- ---- the parts of a request
 
@@ -33,7 +34,7 @@ module _ (l : List ℕ) (p : Place) where
   four-read base v after h = rw (h .0, h .1)
 
   pub coverer-read : (n : Four) → n ≡ fourAfter Base.Ten l p
-      → record { coverer = record { «min_level» = getD (n .values) 0 0; «max_level» = getD (n .values) 1 0; «level_mod» = getD (n .values) 2 0; «max_cells» = getD (n .values) 3 0 }; after = n .after } ≡ covererAfter l p
+      → record { coverer = record { «min_level» = getD (n .values) 0 0; «max_level» = getD (n .values) 1 0; «level_mod» = getD (n .values) 2 0; «max_cells» = getD (n .values) 3 0; edition = 1 }; after = n .after } ≡ covererAfter l p
   unfolding covererAfter
   coverer-read n e = rw e
 
@@ -81,11 +82,11 @@ module _ (next : ℕ) (w : List ℕ) where
     engine-other h = rw (engineIn, ← e, chosen, le-ltb _ _ h)
 
   module _ (k : ℕ) (r : Read) where
-    pub value-number : (most : ℕ) → k < 4 → most ≡ mostOf k → r ≡ numberIn Base.Ten most next w → r ≡ valueIn k next w
+    pub value-number : (most : ℕ) → k < 5 → most ≡ mostOf k → r ≡ numberIn Base.Ten most next w → r ≡ valueIn k next w
     unfolding valueIn
     value-number most h m e = rw (valueIn, lt-ltb _ _ h, ← m) e
 
-    pub value-engine : 4 ≤ k → r ≡ engineIn next w → r ≡ valueIn k next w
+    pub value-engine : 5 ≤ k → r ≡ engineIn next w → r ≡ valueIn k next w
     unfolding valueIn
     value-engine h e = rw (valueIn, le-ltb _ _ h) e
 
@@ -106,12 +107,12 @@ module _ (w : List ℕ) (next : ℕ) (o r : Options) (e : ℕ) (at : e ≡ until
   unfolding optionOf
   option-none h d = rw (optionOf, ← at, le-ltb _ _ h) d
 
-  module _ (k : ℕ) (h : e < length w) (i : k ≡ placeAmong 5 keys 0 (take (e + 1) w)) where
-    pub option-other : 5 ≤ k → r ≡ badOption o Fault.ExtraField → r ≡ optionOf w next o
+  module _ (k : ℕ) (h : e < length w) (i : k ≡ placeAmong 6 keys 0 (take (e + 1) w)) where
+    pub option-other : 6 ≤ k → r ≡ badOption o Fault.ExtraField → r ≡ optionOf w next o
     unfolding optionOf
     option-other g d = rw (optionOf, ← at, lt-ltb _ _ h, ← at, ← i, le-ltb _ _ g) d
 
-    pub option-key : k < 5 → r ≡ optionGiven k (take (length w - (e + 1)) (drop (e + 1) w)) next o → r ≡ optionOf w next o
+    pub option-key : k < 6 → r ≡ optionGiven k (take (length w - (e + 1)) (drop (e + 1) w)) next o → r ≡ optionOf w next o
     unfolding optionOf
     option-key g d = rw (optionOf, ← at, lt-ltb _ _ h, ← at, ← i, lt-ltb _ _ g, ← at, ← i) (rw (rest-is (e + 1) w) at d)
 
@@ -129,19 +130,20 @@ module _ (l : List ℕ) (p : Place) (o : Options) where
   unfolding optionFrom
   next-bad f h = rw h
 
-pub options-read : (l : List ℕ) (p : Place) (a b c d e f : Options) → a ≡ nextOption l (record { values = none ∷ none ∷ none ∷ none ∷ none ∷ []; after = p }) → b ≡ nextOption l a → c ≡ nextOption l b
-    → d ≡ nextOption l c → e ≡ nextOption l d → f ≡ nextOption l e → f ≡ optionsAfter l p
+pub options-read : (l : List ℕ) (p : Place) (a b c d e f g : Options) → a ≡ nextOption l (record { values = none ∷ none ∷ none ∷ none ∷ none ∷ none ∷ []; after = p }) → b ≡ nextOption l a → c ≡ nextOption l b
+    → d ≡ nextOption l c → e ≡ nextOption l d → f ≡ nextOption l e → g ≡ nextOption l f → g ≡ optionsAfter l p
 unfolding optionsAfter
-options-read l p a b c d e f ea eb ec ed ee ef = rw (ef, ee, ed, ec, eb, ea)
+options-read l p a b c d e f g ea eb ec ed ee ef eg = rw (eg, ef, ee, ed, ec, eb, ea)
 
 -- ---- all that a line asks
 
-pub asked-read : (most : ℕ) (l words words' : List ℕ) (start : Place) (word : Read) (c : CovererRead) (g : RegionRead) (o : Options) (end : Place) (k : Kind) (allowance out mem : ℕ) (form : Form) (engines : Engines)
+pub asked-read : (most : ℕ) (l words words' : List ℕ) (start : Place) (word : Read) (c : CovererRead) (g : RegionRead) (o : Options) (end : Place) (edition : ℕ) (n : RegionCoverer) (k : Kind) (allowance out mem : ℕ) (form : Form) (which : ℕ) (engines : Engines)
     → start ≡ startOf l → word ≡ choiceAfter kinds 7 Fault.UnknownKind l start → c ≡ covererAfter l (word .after) → ReadRegion (areaAfter most l (c .after)) g words words' → o ≡ optionsAfter l (g .after)
-    → end ≡ endAfter l (o .after) → k ≡ kindOf (word .value) → allowance ≡ valueOr 4294967295 (getD (o .values) 0 0) → out ≡ valueOr 65536 (getD (o .values) 1 0) → mem ≡ valueOr memoryWords (getD (o .values) 2 0) → form ≡ formOf (getD (o .values) 3 0)
-    → engines ≡ enginesOf (valueOr 0 (getD (o .values) 4 0)) → ReadAsked (wishOf most l) (record { kind = k; coverer = c .coverer; region = g .region; count = g .count; allowance = allowance; out = out; mem = mem; form = form; engines = engines; after = end }) words words'
+    → end ≡ endAfter l (o .after) → edition ≡ valueOr 1 (getD (o .values) 4 0) → n ≡ withEdition (c .coverer) edition → k ≡ kindOf (word .value) → allowance ≡ valueOr 4294967295 (getD (o .values) 0 0) → out ≡ valueOr 65536 (getD (o .values) 1 0)
+    → mem ≡ valueOr memoryWords (getD (o .values) 2 0) → form ≡ formOf (getD (o .values) 3 0) → which ≡ valueOr 0 (getD (o .values) 5 0) → engines ≡ enginesOf which
+    → ReadAsked (wishOf most l) (record { kind = k; coverer = n; region = g .region; count = g .count; allowance = allowance; out = out; mem = mem; form = form; engines = engines; after = end }) words words'
 unfolding wishOf
-asked-read most l words words' start word c g o end k allowance out mem form engines es ek ec G eo ee e1 e2 e3 e4 e5 e6 = record {
-  read = rw (e1, e2, e3, e4, e5, e6, ee, eo, G .read, ec, ek, es);
+asked-read most l words words' start word c g o end edition n k allowance out mem form which engines es ek ec G eo ee en e1 e2 e3 e4 e5 e6 e7 e8 = record {
+  read = rw (e1, en, e2, e3, e4, e5, e6, e8, e7, ee, eo, G .read, ec, ek, es);
   ids = rw (← es, ← ek, ← ec) (G .ids);
 }

@@ -1,4 +1,5 @@
--- A request of `cover` as a line: `KIND MIN MAX MOD MAX_CELLS REGION [allow=N] [out=N] [mem=N] [tokens=N] [engine=WORD]`, the options in any order.
+-- A request of `cover` as a line: `KIND MIN MAX MOD MAX_CELLS REGION [allow=N] [out=N] [mem=N] [tokens=N] [edition=N] [engine=WORD]`, the options in any
+-- order.
 use mathlib.Core.Path.{_≡_}
 use mathlib.Core.Bool.{true, false}
 use mathlib.Core.List.{List, [], _∷_}
@@ -48,7 +49,7 @@ runKinds =
 unfoldable pub kindOf : ℕ → Kind
 kindOf k = getD runKinds k Kind.Fast
 
--- ---- MIN MAX MOD MAX_CELLS
+-- ---- MIN MAX MOD MAX_CELLS, of edition 1: another is an option's to name
 
 -- four numbers, and the place after them
 unfoldable pub fourAfter : Base → List ℕ → Place → Four
@@ -64,6 +65,7 @@ covererAfter l p =
             «max_level» = getD (n .values) 1 0;
             «level_mod» = getD (n .values) 2 0;
             «max_cells» = getD (n .values) 3 0;
+            edition = 1;
           };
       after = n .after;
     }
@@ -111,10 +113,10 @@ areaAfter most l p =
       ]
     ]
 
--- ---- options: the allowance, the places of output, the words of working memory, whether ids are written as tokens, the engines that answer
+-- ---- options: the allowance, the places of output, the words of working memory, whether ids are written as tokens, the edition, the engines that answer
 
 abbrev pub keys : List ℕ
-keys = ascii "allow= out= mem= tokens= engine="
+keys = ascii "allow= out= mem= tokens= edition= engine="
 
 -- the words for engines, in the order of their numbers
 abbrev pub engineWords : List ℕ
@@ -122,7 +124,7 @@ engineWords = ascii "quick plain both"
 
 -- the most that each of the others may be
 unfoldable pub mostOf : ℕ → ℕ
-mostOf k = getD (4294967295 ∷ 65536 ∷ 8192 ∷ []) k 1
+mostOf k = getD (4294967295 ∷ 65536 ∷ 8192 ∷ 1 ∷ []) k 4294967295
 
 -- what stands for an option that is not given: more than any may be
 abbrev pub none : ℕ
@@ -135,13 +137,17 @@ valueOr default v = elim (eqb v none) [ true ↦ default | false ↦ v ]
 unfoldable pub formOf : ℕ → Form
 formOf v = elim (eqb v 1) [ true ↦ Form.Token | false ↦ Form.Digits ]
 
+-- the same numbers in that edition
+abbrev pub withEdition : RegionCoverer → ℕ → RegionCoverer
+withEdition c edition = record { «min_level» = c .«min_level»; «max_level» = c .«max_level»; «level_mod» = c .«level_mod»; «max_cells» = c .«max_cells»; edition = edition }
+
 -- the number of the engines that a word names
 unfoldable pub engineIn : ℕ → List ℕ → Read
 engineIn next w = chosen 3 Fault.UnknownEngine (placeAmong 3 engineWords 0 w) next
 
 -- what the bytes after the k-th key give: for engine= the place of a word, for any other a number
 unfoldable pub valueIn : ℕ → ℕ → List ℕ → Read
-valueIn k next w = elim (ltb k 4) [ true ↦ numberIn Base.Ten (mostOf k) next w | false ↦ engineIn next w ]
+valueIn k next w = elim (ltb k 5) [ true ↦ numberIn Base.Ten (mostOf k) next w | false ↦ engineIn next w ]
 
 -- a fault among the options
 unfoldable pub badOption : Options → Fault → Options
@@ -161,8 +167,8 @@ unfoldable pub optionOf : List ℕ → ℕ → Options → Options
 optionOf w next o = elim (ltb (until 61 w) (length w)) [
   | false ↦ badOption o Fault.ExtraField
   | true ↦
-      let k = placeAmong 5 keys 0 (take (until 61 w + 1) w) in
-      elim (ltb k 5) [ true ↦ optionGiven k (drop (until 61 w + 1) w) next o | false ↦ badOption o Fault.ExtraField ]
+      let k = placeAmong 6 keys 0 (take (until 61 w + 1) w) in
+      elim (ltb k 6) [ true ↦ optionGiven k (drop (until 61 w + 1) w) next o | false ↦ badOption o Fault.ExtraField ]
 ]
 
 -- one option more, if there is one
@@ -173,9 +179,9 @@ optionFrom l (Place.At at) o = elim (isThere (fieldAt l at)) [ true ↦ optionOf
 abbrev pub nextOption : List ℕ → Options → Options
 nextOption l o = optionFrom l (o .after) o
 
--- five options at most; a sixth field is a fault, and which it is is told by its own turn
+-- six options at most; a seventh field is a fault, and which it is is told by its own turn
 unfoldable pub optionsAfter : List ℕ → Place → Options
-optionsAfter l p = nextOption l (nextOption l (nextOption l (nextOption l (nextOption l (nextOption l (record { values = none ∷ none ∷ none ∷ none ∷ none ∷ []; after = p }))))))
+optionsAfter l p = nextOption l (nextOption l (nextOption l (nextOption l (nextOption l (nextOption l (nextOption l (record { values = none ∷ none ∷ none ∷ none ∷ none ∷ none ∷ []; after = p })))))))
 
 -- ---- what a line asks: one part after another; the place after it is a fault's where the line is no request
 
@@ -199,13 +205,13 @@ wishOf most l =
     let o = optionsAfter l (g .after) in
     record {
       kind = kindOf (word .value);
-      coverer = c .coverer;
+      coverer = withEdition (c .coverer) (valueOr 1 (getD (o .values) 4 0));
       area = g .area;
       allowance = valueOr 4294967295 (getD (o .values) 0 0);
       out = valueOr 65536 (getD (o .values) 1 0);
       mem = valueOr memoryWords (getD (o .values) 2 0);
       form = formOf (getD (o .values) 3 0);
-      engines = enginesOf (valueOr 0 (getD (o .values) 4 0));
+      engines = enginesOf (valueOr 0 (getD (o .values) 5 0));
       after = endAfter l (o .after);
     }
 

@@ -23,6 +23,7 @@ pub use line::read_four;
 pub use line::read_options;
 pub use line::read_region;
 pub use line::value_or;
+pub use line::with_edition;
 use selftest::Tested;
 use text::Place;
 use tokens::Form;

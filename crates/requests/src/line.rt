@@ -1,10 +1,10 @@
-// A request of `cover` as a line: `KIND MIN MAX MOD MAX_CELLS REGION [allow=N] [out=N] [mem=N] [tokens=N] [engine=WORD]`, the options in any order. Any numbers and
-// any bits of floats are taken: whoever answers the request tests its domain.
+// A request of `cover` as a line: `KIND MIN MAX MOD MAX_CELLS REGION [allow=N] [out=N] [mem=N] [tokens=N] [edition=N] [engine=WORD]`, the options in any
+// order. Any numbers and any bits of floats are taken: whoever answers the request tests its domain.
 ghost use mathlib.Core.Path.{_≡_};
 ghost use Prim.Native.Nat.{_<_};
 ghost use Rattle.text.specs.Text.{choiceAfter};
 ghost use Rattle.text.specs.declared.Fault.{Fault};
-ghost use Rattle.requests.specs.Line.{kinds, shapes, kindOf, fourAfter, covererAfter, pointOf, capOf, capAfter, cellAfter, idsAfter, areaAfter, regionPart, ReadRegion, mostOf, valueOr, formOf, engineIn, valueIn, badOption, optionGiven, optionOf, nextOption, optionsAfter, wishOf, ReadAsked};
+ghost use Rattle.requests.specs.Line.{kinds, shapes, kindOf, fourAfter, covererAfter, pointOf, capOf, capAfter, cellAfter, idsAfter, areaAfter, regionPart, ReadRegion, mostOf, valueOr, formOf, withEdition, engineIn, valueIn, badOption, optionGiven, optionOf, nextOption, optionsAfter, wishOf, ReadAsked};
 ghost use lib.ListN.{length};
 use cell::Cap;
 use covering::Ending;
@@ -26,7 +26,7 @@ pub struct Four {
     pub after: Place,
 }
 
-// The four numbers of a request, and the place after them.
+// The numbers of a request, of edition 1, and the place after them.
 pub struct CovererRead {
     pub coverer: RegionCoverer,
     pub after: Place,
@@ -39,9 +39,9 @@ pub struct RegionRead {
     pub after: Place,
 }
 
-// The options that were given, in the order allow, out, mem, tokens, engine, and the place after them; u64::MAX stands for one that was not.
+// The options that were given, in the order allow, out, mem, tokens, edition, engine, and the place after them; u64::MAX stands for one that was not.
 pub struct Options {
-    pub values: [u64; 5],
+    pub values: [u64; 6],
     pub after: Place,
 }
 
@@ -92,7 +92,7 @@ pub fn read_four(line: &[u8], p: Place, base: Base) -> Four
     Four { values, after }
 }
 
-// `MIN MAX MOD MAX_CELLS`.
+// `MIN MAX MOD MAX_CELLS`, of edition 1: another is an option's to name.
 pub fn read_coverer(line: &[u8], p: Place) -> CovererRead
     ensures { λ r. ⌜ r ≡ covererAfter (now (line .entry)) p ⌝ }
 {
@@ -104,6 +104,7 @@ pub fn read_coverer(line: &[u8], p: Place) -> CovererRead
         max_level: v[1],
         level_mod: v[2],
         max_cells: v[3],
+        edition: 1,
     };
     CovererRead { coverer, after }
 }
@@ -202,7 +203,8 @@ fn most_of(k: u64) -> u64
         0 => 4294967295,
         1 => 65536,
         2 => 8192,
-        _ => 1,
+        3 => 1,
+        _ => 4294967295,
     }
 }
 
@@ -227,7 +229,7 @@ fn read_engine(word: &[u8], next: usize) -> Read
 fn read_value(k: u64, s: &[u8], next: usize) -> Read
     ensures { λ r. ⌜ r ≡ valueIn k next (now (s .entry)) ⌝ }
 {
-    if k < 4 {
+    if k < 5 {
         return text::read_bytes(s, Base::Ten, most_of(k), next);
     }
     read_engine(s, next)
@@ -245,7 +247,7 @@ fn bad_option(o: Options, f: Fault) -> Options
 
 // The k-th option, with the bytes after its key.
 fn option_given(k: u64, s: &[u8], next: usize, o: Options) -> Options
-    requires { ⌜ k < 5 ⌝ }
+    requires { ⌜ k < 6 ⌝ }
     ensures { λ r. ⌜ r ≡ optionGiven k (now (s .entry)) next o ⌝ }
 {
     let mut values = o.values;
@@ -266,8 +268,12 @@ fn option_of(field: &[u8], next: usize, o: Options) -> Options
     let e = text::find(field, b'=');
     if e < field.len() {
         let from = e + 1;
-        let k = text::place_among(&field[..from], b"allow= out= mem= tokens= engine=", 5);
-        if k < 5 {
+        let k = text::place_among(
+            &field[..from],
+            b"allow= out= mem= tokens= edition= engine=",
+            6,
+        );
+        if k < 6 {
             return option_given(k, &field[from..], next, o);
         }
         return bad_option(o, Fault::ExtraField);
@@ -294,12 +300,12 @@ fn next_option(line: &[u8], o: Options) -> Options
     }
 }
 
-// The options: five at most, each once. A sixth field is a fault, and which it is is told by its own turn.
+// The options: six at most, each once. A seventh field is a fault, and which it is is told by its own turn.
 pub fn read_options(line: &[u8], p: Place) -> Options
     ensures { λ r. ⌜ r ≡ optionsAfter (now (line .entry)) p ⌝ }
 {
     let none = Options {
-        values: [u64::MAX; 5],
+        values: [u64::MAX; 6],
         after: p,
     };
     let one = next_option(line, none);
@@ -307,7 +313,8 @@ pub fn read_options(line: &[u8], p: Place) -> Options
     let three = next_option(line, two);
     let four = next_option(line, three);
     let five = next_option(line, four);
-    next_option(line, five)
+    let six = next_option(line, five);
+    next_option(line, six)
 }
 
 // An option's value, or its default where it was not given.
@@ -330,6 +337,19 @@ pub fn form_of(v: u64) -> Form
     Form::Digits
 }
 
+// The same numbers in that edition.
+pub fn with_edition(c: RegionCoverer, edition: u64) -> RegionCoverer
+    ensures { λ r. ⌜ r ≡ withEdition c edition ⌝ }
+{
+    RegionCoverer {
+        min_level: c.min_level,
+        max_level: c.max_level,
+        level_mod: c.level_mod,
+        max_cells: c.max_cells,
+        edition,
+    }
+}
+
 // What a line asks, the ids of a list into the words that are lent.
 pub fn read_asked(line: &[u8], words: &mut [u64]) -> Asked
     ensures { λ r. ⌜ ReadAsked (wishOf (length (now (words .entry))) (now (line .entry))) r (now (words .entry)) (now (words .exit)) ⌝ }
@@ -343,10 +363,11 @@ pub fn read_asked(line: &[u8], words: &mut [u64]) -> Asked
     let pg = g.after;
     let o = read_options(line, pg);
     let po = o.after;
-    let coverer = c.coverer;
+    let numbers = c.coverer;
     let region = g.region;
     let values = o.values;
     let after = text::read_end(line, po);
+    let coverer = with_edition(numbers, value_or(1, values[4]));
     let kind = kind_of(word.value);
     Asked {
         kind,
@@ -357,7 +378,7 @@ pub fn read_asked(line: &[u8], words: &mut [u64]) -> Asked
         out: value_or(65536, values[1]),
         mem: value_or(MEMORY_WORDS as u64, values[2]),
         form: form_of(values[3]),
-        engines: selftest::engines_of(value_or(0, values[4])),
+        engines: selftest::engines_of(value_or(0, values[5])),
         after,
     }
 }

@@ -1,19 +1,22 @@
--- The counts of the sets are those of the list of children.
+-- The counts of the sets are those of the list of children; and how large they can be.
 use mathlib.Core.Path.{_≡_, refl, sym, ap, _∙_}
 use mathlib.Core.Bool.{Bool, true, false, true≢false}
 use mathlib.Core.List.{List, [], _∷_, _++_}
 use Prim.Native.Nat.{ℕ, zero, suc, _+_, _*_, _/_, _%_, _^_, _≤_, _<_}
+use native.Mathlib.Nat.{pow-suc}
 use native.Mathlib.Omega.{arith}
 use lib.Count.{ones, onesIn, ones-cat, ones-step}
 use lib.Arith.{bin-ind}
-use lib.Dec.{eqb}
+use lib.Dec.{eqb, ltb}
+use lib.Pow.{pow-mono}
 use borrow.Author.Tests.{eq-eqb, eqb-true}
 use lib.ListN.{length, length-append}
-use Rattle.cellid.specs.CellId.{childOf}
+use Rattle.cellid.specs.CellId.{childOf, levelOf}
 use Rattle.cellid.proofs.Laws.{bool-iff}
 use Rattle.run.specs.declared.Found.{Found}
-use Rattle.run.specs.Run.{isEmpty, Child, Expansion, Look, divide, ending, expand, fails, fourOf, join, look, none, reached, terminal, Task, part, failing}
+use Rattle.run.specs.Run.{isEmpty, Child, Expansion, Look, divide, ending, expand, expansionOf, depth, full, levelMod, minLevel, fails, fourOf, join, look, none, reached, terminal, Task, part, failing}
 use Rattle.run.specs.Masks.{noneFound, found, foundPart, foundAt, placeIn, upTo}
+use Rattle.run.proofs.Lists.{if-ok}
 use Rattle.run.proofs.Masks.{Small, up-small, part-small}
 
 ending-one : (b : Bool) (m n k : ℕ) → m ≡ n + k → elim b [ true ↦ suc m | false ↦ m ] ≡ (elim b as (λ x. ℕ) [ true ↦ suc n | false ↦ n ]) + k
@@ -115,3 +118,46 @@ empty-set T n id =
     empty-length (expand T n id .children) ∙ bool-iff _ _
     (λ t. let z : length (expand T n id .children) ≡ 0 = eqb-true _ _ t in eq-eqb (found T n id .present) 0 (ones-zero (found T n id .present) (k ∙ z)))
     (λ t. let z : found T n id .present ≡ 0 = eqb-true _ _ t in eq-eqb (length (expand T n id .children)) 0 (sym k ∙ ap ones z))
+
+-- ---- how many there are at most
+
+-- no more are terminal than there are
+pub ending-le : (l : List Child) → ending l ≤ length l
+unfolding ending
+ending-le [] = omega arith
+ending-le (k ∷ l) = if-ok (λ (n : ℕ). n ≤ length (k ∷ l)) (k .ends) _ _ (λ t. omega (arith, ending-le l)) (λ t. omega (arith, ending-le l))
+
+four-times : (n : ℕ) → 2 ^ (2 * suc n) ≡ 4 * 2 ^ (2 * n)
+four-times n = let e : 2 * suc n ≡ suc (suc (2 * n)) = omega arith in rw e (omega (arith, pow-suc 2 (suc (2 * n)), pow-suc 2 (2 * n)))
+
+module _ (T : Task) where
+  reached-one : (id : ℕ) (v : Look) → length (reached id v .children) ≤ 1
+  unfolding reached
+  reached-one id fails = omega arith
+  reached-one id none = omega arith
+  reached-one id terminal = omega arith
+  reached-one id divide = omega arith
+
+  four-short : (n id : ℕ) → ((c : ℕ) → length (part T n c .children) ≤ 2 ^ (2 * n)) → length (fourOf (part T n) id .children) ≤ 2 ^ (2 * suc n)
+  four-short n id h = omega (arith, four-times n, four-length (part T n) id, h (childOf id 0), h (childOf id 1), h (childOf id 2), h (childOf id 3))
+
+  -- n levels down are at most 4^n cells
+  part-short : (n c : ℕ) → length (part T n c .children) ≤ 2 ^ (2 * n)
+  unfolding part
+  part-short zero c = reached-one c (look T c)
+  part-short (suc n) c = if-ok (λ (e : Expansion). length (e .children) ≤ 2 ^ (2 * suc n)) (T .hits c) _ _ (λ t. four-short n c (part-short n)) (λ t. omega arith)
+
+  pub expand-short : (n id : ℕ) → length (expand T n id .children) ≤ 2 ^ (2 * n)
+  unfolding expand
+  expand-short zero id = part-short zero id
+  expand-short (suc n) id = four-short n id (part-short n)
+
+  -- a cell has at most 4^level_mod children, and no more terminals
+  pub counts-most : 0 < levelMod (T .asked) → (id : ℕ) → (length (expansionOf T id .children) ≤ full (T .asked)) × (ending (expansionOf T id .children) ≤ full (T .asked))
+  unfolding expansionOf depth full
+  counts-most h id =
+      let few : length (expansionOf T id .children) ≤ 2 ^ (2 * levelMod (T .asked)) =
+      if-ok (λ (n : ℕ). length (expand T n id .children) ≤ 2 ^ (2 * levelMod (T .asked))) (ltb (levelOf id) (minLevel (T .asked))) 1 (levelMod (T .asked))
+      (λ t. omega (arith, expand-short 1 id, pow-mono {i = 2 * 1} {j = 2 * levelMod (T .asked)} (omega arith)))
+      (λ t. expand-short (levelMod (T .asked)) id) in
+      (few, omega (arith, few, ending-le (expansionOf T id .children)))

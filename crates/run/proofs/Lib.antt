@@ -13,3 +13,6 @@ pub mod Totals
 pub mod Sixes
 pub mod Rows
 pub mod Places
+pub mod Ties
+pub mod Untied
+pub mod Tied

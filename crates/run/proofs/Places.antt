@@ -5,18 +5,18 @@ use mathlib.Core.Bool.{Bool, true, false}
 use mathlib.Core.Logic.{⊎-elim}
 use mathlib.Core.List.{List, [], _∷_, _++_, map, map-map, map-append}
 use Prim.Native.Nat.{ℕ, zero, suc}
-use lib.Dec.{ltb}
+use lib.Dec.{ltb, eqb}
 use lib.ListN.{length, length-map, getD}
 use Rattle.order.specs.Order.{Order, Le, insert, sort, Sorted}
 use Rattle.order.specs.Lex.{first, lexb}
 use Rattle.order.proofs.LexLaws.{by-key}
 use Rattle.order.proofs.OrderLaws.{which, all-weak, insert-past, insert-front, insert-comm}
 use Rattle.order.proofs.SortLaws.{insert-sorted, sorted-sort}
-use Rattle.run.specs.Run.{Task, _by_, Grown, Child, State, Outcome, refused, going, then, Look, fails, none, terminal, divide, isEmpty, look, expansionOf, cost, byId, byCost, keep, enqueue, setAside, add, isFull, addAll, lifts, isHandedOn, stepWith, stepOn, step, startAs, startAll, placed, nothing, after, loop, run, rawIds, asideTotal, leavesOf, queueMost, rawMost}
+use Rattle.run.specs.Run.{Task, _by_, Grown, Child, State, Outcome, refused, going, then, Look, fails, none, terminal, divide, isEmpty, look, expansionOf, cost, edition, byId, inEdition, keep, enqueue, setAside, add, isFull, addAll, lifts, isHandedOn, stepWith, stepOn, step, startAs, startAll, placed, nothing, after, loop, run, rawIds, asideTotal, leavesOf, queueMost, rawMost}
 use Rattle.run.specs.declared.Request.{Request}
 use Rattle.run.specs.Places.{byIdAlone}
 use Rattle.run.proofs.Lists.{Fares, if-ok, if-two, all-of, all-map, sum-map}
-use Rattle.run.proofs.Records.{map-insert, by-id-decides}
+use Rattle.run.proofs.Records.{map-insert, by-id-decides, first-edition}
 use Rattle.run.proofs.Rows.{rowOf}
 
 -- ---- without places
@@ -27,7 +27,7 @@ idOf c = c .id
 abbrev bareCell : ℕ → Grown
 bareCell id = record { from = 0; id = id }
 
-abbrev bareOf : Grown → Grown
+abbrev pub bareOf : Grown → Grown
 bareOf c = bareCell (c .id)
 
 abbrev bare : State → State
@@ -48,8 +48,13 @@ bare-aside q i l s = if-two (λ (x u : State). u ≡ bare x) (q .inner) refl
 -- ---- a run by any order `lt`, and beside it the run by `alone` without places: a fact of queues that inserting and taking keep, and under which inserting is the
 -- same in both
 
+-- a cell that is queued: it has children, and isn't kept in their place
+pub record Waits (T : Task) (c : Grown) : Type 0 where
+  pub some : isEmpty (expansionOf T (c .id) .children) ≡ false
+  pub split : lifts T (c .id) ≡ false
+
 module _ (T : Task) (alone lt : Grown → Grown → Bool) (Good : List Grown → Type 0) (empty : Good []) (rest : (c : Grown) (l : List Grown) → Good (c ∷ l) → Good l)
-    (more : (c : Grown) (l : List Grown) → Good l → Good (insert lt c l)) (same : (c : Grown) (l : List Grown) → Good l → insert alone (bareOf c) (map bareOf l) ≡ map bareOf (insert lt c l)) where
+    (more : (c : Grown) (l : List Grown) → Waits T c → Good l → Good (insert lt c l)) (same : (c : Grown) (l : List Grown) → Waits T c → Good l → insert alone (bareOf c) (map bareOf l) ≡ map bareOf (insert lt c l)) where
   abbrev Mirrors : Outcome → Outcome → Type 0
   Mirrors o u = Fares (λ (s : State). Good (s .queue) × (u ≡ going (bare s))) (λ (n : ℕ). u ≡ refused n) o
 
@@ -64,10 +69,10 @@ module _ (T : Task) (alone lt : Grown → Grown → Bool) (Good : List Grown →
       (λ t. (h, ap (λ (k : List Grown). going (record { raw = k; queue = map bareOf (s .queue); aside = map bareOf (s .aside); steps = s .steps })) (sym (map-append bareOf (s .raw) (c ∷ [])))))
       (λ t. refl)
 
-  enqueue-mirrors : (c : Grown) (s : State) → Good (s .queue) → Mirrors (enqueue lt c s) (enqueue alone (bareOf c) (bare s))
+  enqueue-mirrors : (c : Grown) (s : State) → Waits T c → Good (s .queue) → Mirrors (enqueue lt c s) (enqueue alone (bareOf c) (bare s))
   unfolding enqueue Fares
-  enqueue-mirrors c s h = if-two Mirrors (ltb (length (s .queue)) queueMost) (ap (λ (n : ℕ). ltb n queueMost) (sym (length-map (s .queue) bareOf)))
-      (λ t. (more c (s .queue) h, ap (λ (k : List Grown). going (record { raw = map bareOf (s .raw); queue = k; aside = map bareOf (s .aside); steps = s .steps })) (same c (s .queue) h)))
+  enqueue-mirrors c s w h = if-two Mirrors (ltb (length (s .queue)) queueMost) (ap (λ (n : ℕ). ltb n queueMost) (sym (length-map (s .queue) bareOf)))
+      (λ t. (more c (s .queue) w h, ap (λ (k : List Grown). going (record { raw = map bareOf (s .raw); queue = k; aside = map bareOf (s .aside); steps = s .steps })) (same c (s .queue) w h)))
       (λ t. refl)
 
   aside-mirrors : (i : ℕ) (l : List ℕ) (s : State) → Good (s .queue) → Mirrors (going (setAside (T .asked) i l s)) (going (setAside (T .asked) 0 l (bare s)))
@@ -79,7 +84,7 @@ module _ (T : Task) (alone lt : Grown → Grown → Bool) (Good : List Grown →
   add-mirrors c true s h = keep-mirrors c s h
   add-mirrors c false s h = if-two Mirrors (isEmpty (expansionOf T (c .id) .children)) refl
       (λ t. aside-mirrors (c .from) (expansionOf T (c .id) .failed) s h)
-      (λ t. if-two Mirrors (lifts T (c .id)) refl (λ u. keep-mirrors c s h) (λ u. enqueue-mirrors c s h))
+      (λ t. if-two Mirrors (lifts T (c .id)) refl (λ u. keep-mirrors c s h) (λ u. enqueue-mirrors c s (record { some = t; split = u }) h))
 
   full-mirrors : (s : State) → isFull (T .asked) s ≡ isFull (T .asked) (bare s)
   unfolding isFull
@@ -134,7 +139,7 @@ module _ (T : Task) (alone lt : Grown → Grown → Bool) (Good : List Grown →
   mirrored (refused n) u h = sym (ap rowOf h)
   mirrored (going s) u h = rw (h .1, map-map idOf bareOf (s .raw), sum-map bareOf (λ (c : Grown). leavesOf (c .id)) (s .aside))
 
-  run-mirrored : (starts : List ℕ) (a : ℕ) → rowOf (run (T by lt) starts a) ≡ rowOf (then (startAll (T by alone) (map bareOf (placed 0 starts)) nothing) (loop (T by alone) a))
+  pub run-mirrored : (starts : List ℕ) (a : ℕ) → rowOf (run (T by lt) starts a) ≡ rowOf (then (startAll (T by alone) (map bareOf (placed 0 starts)) nothing) (loop (T by alone) a))
   unfolding run after
   run-mirrored starts a = mirrored _ _ (then-mirrors _ _ _ _ (starts-mirror (placed 0 starts) nothing empty) (loop-mirrors a))
 
@@ -181,16 +186,21 @@ module _ (T : Task) where
       (λ (e : byId T y x ≡ false). rw (insert-front (byId T) x y l e))
       (which (byId T y x))
 
-  ids-insert : (x : Grown) (l : List Grown) → Sorted (byId T) l → insert (byIdAlone T) (bareOf x) (map bareOf l) ≡ map bareOf (insert (byId T) x l)
+  pub ids-insert : (x : Grown) (l : List Grown) → Sorted (byId T) l → insert (byIdAlone T) (bareOf x) (map bareOf l) ≡ map bareOf (insert (byId T) x l)
   ids-insert x l s =
       let own : (k : List Grown) → Sorted (byId T) k → map idOf k ≡ sort less (map idOf k) = λ k t. sym (sorted-sort less less-decides (map idOf k) (sorted-ids k t)) in
       sym (sym (map-map bareCell idOf (insert (byId T) x l))
       ∙ ap (map bareCell) (own (insert (byId T) x l) (insert-sorted (byId T) (by-id-decides T) x l s) ∙ ids-sort x l ∙ ap (insert less (x .id)) (sym (own l s)))
       ∙ bare-insert (x .id) (map idOf l) ∙ ap (insert (byIdAlone T) (bareOf x)) (map-map bareCell idOf l))
 
-  -- the number of a refusal, the raw ids, the steps and the set-aside total
-  pub places-change-nothing : (starts : List ℕ) (a : ℕ) → rowOf (run (byCost T) starts a) ≡ rowOf (run (T by byIdAlone T) starts a)
+  -- edition 1's run, beside the one without places
+  pub id-mirrored : (starts : List ℕ) (a : ℕ) → rowOf (run (T by byId T) starts a) ≡ rowOf (then (startAll (T by byIdAlone T) (map bareOf (placed 0 starts)) nothing) (loop (T by byIdAlone T) a))
   unfolding Sorted
-  places-change-nothing starts a =
-      run-mirrored T (byIdAlone T) (byId T) (Sorted (byId T)) tt (λ c l s. s .1) (insert-sorted (byId T) (by-id-decides T)) ids-insert starts a
-      ∙ sym (run-mirrored T (byIdAlone T) (byIdAlone T) (λ l. Unit) tt (λ c l s. tt) (λ c l s. tt) (λ c l s. alone-insert c l) starts a)
+  id-mirrored = run-mirrored T (byIdAlone T) (byId T) (Sorted (byId T)) tt (λ c l s. s .1) (λ c l w. insert-sorted (byId T) (by-id-decides T) c l) (λ c l w. ids-insert c l)
+
+  -- the number of a refusal, the raw ids, the steps and the set-aside total, in edition 1
+  pub places-change-nothing : eqb (edition (T .asked)) 2 ≡ false → (starts : List ℕ) (a : ℕ) → rowOf (run (inEdition T) starts a) ≡ rowOf (run (T by byIdAlone T) starts a)
+  places-change-nothing e starts a =
+      ap (λ (lt : Grown → Grown → Bool). rowOf (run (T by lt) starts a)) (first-edition T e)
+      ∙ id-mirrored starts a
+      ∙ sym (run-mirrored T (byIdAlone T) (byIdAlone T) (λ l. Unit) tt (λ c l s. tt) (λ c l w s. tt) (λ c l w s. alone-insert c l) starts a)

@@ -8,7 +8,7 @@ use lib.Count.{trailingZeros}
 use Rattle.cellid.specs.CellId.{faceCell, sixFaces, levelOf, childOf, leavesOf, holds, meets, lowBit, firstLeaf, lastLeaf}
 use Rattle.order.specs.Order.{insert}
 use Rattle.order.specs.Lex.{lexb, first}
-use Rattle.run.specs.Run.{Outcome, refused, going, then, isEmpty, sumOf, look, join, fourOf, reached, ending, full, costOf, depth, expand, expansionOf, lifts, cost, byId, keep, enqueue, setAside, isFull, isHandedOn, add, addAll, stepWith, stepOn, step, startAs, startAll, placed, after, loop, run, rawIds, asideTotal, Task, part, byCost}
+use Rattle.run.specs.Run.{Outcome, refused, going, then, isEmpty, sumOf, look, join, fourOf, reached, ending, full, costOf, depth, expand, expansionOf, lifts, cost, byId, keep, enqueue, setAside, isFull, isHandedOn, add, addAll, stepWith, stepOn, step, startAs, startAll, placed, after, loop, run, rawIds, asideTotal, Task, part, byEdition, inEdition}
 
 -- the number of a refusal, or 0; the raw list, the steps and the set-aside total
 pub record Row : Type 0 where
@@ -21,11 +21,11 @@ unfoldable pub rowOf : Outcome → Row
 rowOf (refused n) = record { number = n; raw = []; steps = 0; aside = 0 }
 rowOf (going s) = record { number = 0; raw = rawIds s; steps = s .steps; aside = asideTotal s }
 
--- max 30, mod 1
+-- max 30, mod 1, edition 1
 pub asked : Bool → ℕ → ℕ → (ℕ → Bool) → (ℕ → Bool) → ℕ → Row
 asked inner min cells hits within allowance =
-    let T : Task = record { asked = record { coverer = record { «min_level» = min; «max_level» = 30; «level_mod» = 1; «max_cells» = cells }; inner = inner }; hits = hits; within = within } in
-    rowOf (run (byCost T) sixFaces allowance)
+    let T : Task = record { asked = record { coverer = record { «min_level» = min; «max_level» = 30; «level_mod» = 1; «max_cells» = cells; edition = 1 }; inner = inner }; hits = hits; within = within } in
+    rowOf (run (inEdition T) sixFaces allowance)
 
 pub everyCell : ℕ → Bool
 everyCell id = true
@@ -46,5 +46,5 @@ pub rows :
     × (asked false 0 8 noCell noCell 100 .raw ≡ [])  -- empty cap: empty list,
     × (asked false 0 8 noCell noCell 100 .steps ≡ 0)  -- 0 steps;
     × (asked true 0 8 noCell noCell 100 ≡ record { number = 0; raw = []; steps = 0; aside = 0 })  -- inner likewise
-unfolding run after loop step stepOn stepWith startAll startAs add addAll isFull isHandedOn lifts keep enqueue setAside byId cost costOf expansionOf expand part reached look depth full fourOf join ending sumOf leavesOf isEmpty then placed rawIds asideTotal insert lexb first levelOf childOf lowBit trailingZeros meets holds firstLeaf lastLeaf faceCell sixFaces rowOf asked everyCell noCell
+unfolding run after loop step stepOn stepWith startAll startAs add addAll isFull isHandedOn lifts keep enqueue setAside byEdition byId cost costOf expansionOf expand part reached look depth full fourOf join ending sumOf leavesOf isEmpty then placed rawIds asideTotal insert lexb first levelOf childOf lowBit trailingZeros meets holds firstLeaf lastLeaf faceCell sixFaces rowOf asked everyCell noCell
 rows = (refl, refl, refl, refl, refl, refl, refl, refl, refl, refl, refl)

@@ -1,4 +1,5 @@
 pub mod Run
+pub mod Editions
 pub mod Masks
 pub mod Ground
 pub mod Sixes

@@ -13,7 +13,7 @@ use Rattle.run.specs.declared.Request.{Request}
 
 -- ---- what is asked, what a run goes by, and what it holds
 
--- the four numbers of a request
+-- the five numbers of a request
 abbrev pub minLevel : Request → ℕ
 minLevel q = q .coverer .«min_level»
 
@@ -25,6 +25,9 @@ levelMod q = q .coverer .«level_mod»
 
 abbrev pub maxCells : Request → ℕ
 maxCells q = q .coverer .«max_cells»
+
+abbrev pub edition : Request → ℕ
+edition q = q .coverer .edition
 
 -- how many candidates the queue holds, and how many cells the raw result list, at most
 abbrev pub queueMost : ℕ
@@ -177,13 +180,24 @@ module _ (T : Task) where
   unfoldable pub cost : ℕ → ℕ
   cost id = costOf (full (T .asked)) (levelOf id) (length (expansionOf id .children)) (ending (expansionOf id .children))
 
-  -- "the least cost; equal costs, the smaller id"; of start cells' places, paper 02, h: "smaller first at equal ids"
+  -- edition 1: "the least cost; equal costs, the smaller id"; of start cells' places, paper 02, h: "smaller first at equal ids"
   unfoldable pub byId : Grown → Grown → Bool
   byId a b = lexb (cost (a .id) ∷ a .id ∷ a .from ∷ []) (cost (b .id) ∷ b .id ∷ b .from ∷ [])
 
+  -- edition 2, paper 02, i: "level, then children, then terminals, then id, then start cell"
+  unfoldable pub levelKey : Grown → List ℕ
+  levelKey c = let k = expansionOf (c .id) .children in levelOf (c .id) ∷ length k ∷ ending k ∷ c .id ∷ c .from ∷ []
+
+  unfoldable pub byLevel : Grown → Grown → Bool
+  byLevel a b = lexb (levelKey a) (levelKey b)
+
+  -- the order of the request's edition; a request of any number but 1 and 2 is barred before its run
+  unfoldable pub byEdition : Grown → Grown → Bool
+  byEdition a b = elim (eqb (edition (T .asked)) 2) [ true ↦ byLevel a b | false ↦ byId a b ]
+
   -- what the task's run goes by, in that order
-  abbrev pub byCost : Course
-  byCost = T by byId
+  abbrev pub inEdition : Course
+  inEdition = T by byEdition
 
 -- ---- the run
 

@@ -11,13 +11,14 @@ pub const QUEUE_WORDS: usize = 4096;
 
 pub const MEMORY_WORDS: usize = 5120;
 
-// The numbers of a request, region.rs's RegionCoverer.
+// The numbers of a request: those of region.rs's RegionCoverer, and the edition of the queue's order.
 #[repr(C)]
 pub struct RegionCoverer {
     pub min_level: u64,
     pub max_level: u64,
     pub level_mod: u64,
     pub max_cells: u64,
+    pub edition: u64,
 }
 
 // What is asked of a run: the numbers, and whether it is an inner one.

@@ -7,12 +7,16 @@ use Rattle.bars.proofs.first_refusal.Tie as tie
 returns : tie.Need-returns
 unfolding barOf
 returns c =
-    rw (← c .before .before .memory-bar .ensures, ← c .before .before .before .region-bar .ensures, ← c .before .before .before .before .numbers-bar .ensures, ← c .before .first-bar .ensures) (c .first-bar2 .ensures)
+    let early = c .before .before in
+    let late = early .before .before in
+    rw (← late .before .memory-bar .ensures, ← late .before .before .region-bar .ensures, ← late .first-bar .ensures, ← early .before .numbers-bar .ensures, ← early .edition-bar .ensures, ← c .before .first-bar2 .ensures) (c .first-bar3 .ensures)
 
 pub first-refusal-spec : {M : Type 1} → statement M
 first-refusal-spec =
     tie.close
     (tie.spec
+    (λ c κs. search needs)
+    (λ c κs. search needs)
     (λ c κs. search needs)
     (λ c κs. search needs)
     (λ c κs. search needs)

@@ -17,11 +17,11 @@ same-length c = search needs
 
 returns : tie.Need-returns
 unfolding AsideUpTo
-returns c = (λ T i placed er. queues _ T i placed _ _ _ _ (c .before .before .before .before .before .before .before .pre) (omega (arith, c .before .before .before .before .if1 .taken)) er (c .before .before .add .ensures), omega arith)
+returns c = (λ T i some placed er. queues _ T i some placed _ _ _ _ (c .before .before .before .before .before .before .before .pre) (omega (arith, c .before .before .before .before .if1 .taken)) er (c .before .before .add .ensures), omega arith)
 
 returns-2 : tie.Need-returns-2
 unfolding AsideUpTo
-returns-2 c = (λ T i placed er. queues-not _ T i _ _ _ (omega (arith, c .if1 .left)), tt)
+returns-2 c = (λ T i some placed er. queues-not _ T i _ _ _ (omega (arith, c .if1 .left)), tt)
 
 pub enqueue-spec : {M : Type 1} → statement M
 enqueue-spec = tie.close (tie.spec add-requires add-t11 same-length returns returns-2)

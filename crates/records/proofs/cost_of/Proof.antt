@@ -11,35 +11,35 @@ use Rattle.records.proofs.cost_of.Tie as tie
 level-requires : tie.Need-level-requires
 level-requires c κs = search needs
 
-inner : (l f : ℕ) → l ≤ 30 → f ≤ 64 → l * f ≤ 30 * 64
+inner : (l f : ℕ) → l ≤ 30 → f ≤ 65 → l * f ≤ 30 * 65
 inner l f h k = mul-le-mul h k
 
-outer : (l f p : ℕ) → l ≤ 30 → f ≤ 64 → p ≤ 64 → (l * f + p) * f ≤ 1984 * 64
-outer l f p h k j = mul-le-mul {n₂ = 1984} (omega (arith, inner l f h k)) k
+outer : (l f p : ℕ) → l ≤ 30 → f ≤ 65 → p ≤ 64 → (l * f + p) * f ≤ 2014 * 65
+outer l f p h k j = mul-le-mul {n₂ = 2014} (omega (arith, inner l f h k)) k
 
 mul-result : tie.Need-mul-result
-mul-result c = omega (arith, inner (c .level .result) (c .before .args .full) (omega (arith, level-le (c .before .args .id))) (omega arith))
+mul-result c = omega (arith, inner (c .level .result) (c .before .args .base) (omega (arith, level-le (c .before .args .id))) (omega arith))
 
 count-requires : tie.Need-count-requires
 count-requires c κs = search needs
 
 add-result : tie.Need-add-result
-add-result c = omega (arith, inner (c .before .level .result) (c .before .before .args .full) (omega (arith, level-le (c .before .before .args .id))) (omega arith))
+add-result c = omega (arith, inner (c .before .level .result) (c .before .before .args .base) (omega (arith, level-le (c .before .before .args .id))) (omega arith))
 
 mul-result-2 : tie.Need-mul-result-2
-mul-result-2 c = omega (arith, outer (c .before .level .result) (c .before .before .args .full) (c .count .result) (omega (arith, level-le (c .before .before .args .id))) (omega arith) (omega arith))
+mul-result-2 c = omega (arith, outer (c .before .level .result) (c .before .before .args .base) (c .count .result) (omega (arith, level-le (c .before .before .args .id))) (omega arith) (omega arith))
 
 count-requires-2 : tie.Need-count-requires-2
 count-requires-2 c κs = search needs
 
 add-result-2 : tie.Need-add-result-2
-add-result-2 c = omega (arith, outer (c .before .before .level .result) (c .before .before .before .args .full) (c .before .count .result) (omega (arith, level-le (c .before .before .before .args .id))) (omega arith) (omega arith))
+add-result-2 c = omega (arith, outer (c .before .before .level .result) (c .before .before .before .args .base) (c .before .count .result) (omega (arith, level-le (c .before .before .before .args .id))) (omega arith) (omega arith))
 
 returns : tie.Need-returns
 unfolding costOf
 returns c = (
   rw (← (c .before .before .level .ensures), ← (c .before .count .ensures .0), ← (c .count2 .ensures .0)),
-  omega (arith, outer (c .before .before .level .result) (c .before .before .before .args .full) (c .before .count .result) (omega (arith, level-le (c .before .before .before .args .id))) (omega arith) (omega arith)),
+  omega (arith, outer (c .before .before .level .result) (c .before .before .before .args .base) (c .before .count .result) (omega (arith, level-le (c .before .before .before .args .id))) (omega arith) (omega arith)),
 )
 
 pub cost-of-spec : {M : Type 1} → statement M

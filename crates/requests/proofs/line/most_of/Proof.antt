@@ -19,7 +19,11 @@ returns-3 c = rw (c .match .keys3)
 
 returns-4 : tie.Need-returns-4
 unfolding mostOf
-returns-4 c = last-of (4294967295 ∷ 65536 ∷ 8192 ∷ []) 1 (c .before .args .k) (c .match .rest)
+returns-4 c = rw (c .match .keys4)
+
+returns-5 : tie.Need-returns-5
+unfolding mostOf
+returns-5 c = last-of (4294967295 ∷ 65536 ∷ 8192 ∷ 1 ∷ []) 4294967295 (c .before .args .k) (c .match .rest)
 
 pub most-of-spec : {M : Type 1} → statement M
-most-of-spec = tie.close (tie.spec returns returns-2 returns-3 returns-4)
+most-of-spec = tie.close (tie.spec returns returns-2 returns-3 returns-4 returns-5)
