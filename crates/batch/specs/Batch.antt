@@ -16,8 +16,9 @@ use Rattle.replies.specs.Write.{space, newline, decimalText, countedText, total
 use Rattle.totals.specs.declared.Totals.{Totals}
 use Rattle.totals.specs.Totals.{noTotals}
 use Rattle.run.specs.Run.{memoryWords}
+use Rattle.run.specs.Editions.{withEdition}
 use Rattle.requests.specs.declared.line.CovererRead.{CovererRead}
-use Rattle.requests.specs.Line.{fourAfter, covererAfter, capOf, none, valueOr, formOf, withEdition, optionsAfter}
+use Rattle.requests.specs.Line.{fourAfter, covererAfter, capOf, none, valueOr, formOf, optionsAfter}
 use Rattle.requests.specs.Requests.{allowanceOf}
 use Rattle.orders.specs.declared.Order.{Order}
 use Rattle.batch.specs.declared.About.{About}

@@ -17,7 +17,7 @@ use Rattle.order.proofs.OrderLaws.{which}
 use Rattle.region.specs.Region.{Area}
 use Rattle.run.specs.declared.Request.{Request}
 use Rattle.run.specs.Run.{Child, State, going, then, divide, isEmpty, sumOf, full, depth, expansionOf, lifts, byEdition, keep, enqueue, setAside, isFull, add, addAll, Task, maxLevel, levelMod, minLevel, maxCells, memoryWords, inEdition}
-use Rattle.run.specs.Editions.{base}
+use Rattle.run.specs.Editions.{weight}
 use Rattle.run.specs.Masks.{consIf, childrenIn, found}
 use Rattle.run.specs.Ground.{Domain, lookFor, ChildOk, Queued}
 use Rattle.run.specs.Sixes.{placesMost}
@@ -269,7 +269,7 @@ module _ (E : Engine) (T : Task) (D : Domain (T .asked)) (i : ℕ) where
           → Does E T i (add (inEdition T) (grown i id) b) m t m′ r × AsideUpTo (t .aside + leavesOf id) r
       add-lifted l d a = (adds-open m t m′ r id b e (adds-lifted m t m′ r id some-is lift lift-is l d), up-to (t .aside) _ r (omega arith) a)
 
-      pub add-queued : lift ≡ false → 0 < levelMod (T .asked) → i < placesMost → (k : ℕ) → k ≡ base (T .asked) → (x : Rec) → x ≡ recordOf k i id (f .present) (f .terminal)
+      pub add-queued : lift ≡ false → 0 < levelMod (T .asked) → i < placesMost → (k : ℕ) → k ≡ weight (T .asked) → (x : Rec) → x ≡ recordOf k i id (f .present) (f .terminal)
           → ((T : Task) (j : ℕ) → 0 < levelMod (T .asked) → j < placesMost → x ≡ recOf T (grown j (x .id)) → Does E T j (enqueue (byEdition T) (grown j (x .id))) m t m′ r) → AsideUpTo (t .aside) r
           → Does E T i (add (inEdition T) (grown i id) b) m t m′ r × AsideUpTo (t .aside + leavesOf id) r
       unfolding recordOf

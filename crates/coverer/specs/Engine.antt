@@ -14,7 +14,7 @@ use Rattle.order.specs.Order.{All}
 use Rattle.totals.specs.declared.Totals.{Totals}
 use Rattle.totals.specs.Totals.{totalAt, withTotal}
 use Rattle.run.specs.Run.{queueMost, rawMost, Task, Grown, Child, State, Outcome, refused, going, depth, sumOf, look, expansionOf, setAside, addAll, startAs, after, rawIds, queueWords, memoryWords, inEdition}
-use Rattle.run.specs.Editions.{base}
+use Rattle.run.specs.Editions.{weight}
 use Rattle.run.specs.Masks.{found, consIf, childrenIn}
 use Rattle.run.specs.Ground.{Fit, Queued}
 use Rattle.run.specs.Sixes.{placesMost, asideFrom}
@@ -87,7 +87,7 @@ AsideUpTo n (Turn.Going t) = t .aside ≤ n
 module _ (T : Task) where
   -- a queued cell's record: the cell, the two sets of its expansion, its cost and its start cell's place
   abbrev pub recOf : Grown → Rec
-  recOf c = let f = found T (depth (T .asked) (c .id)) (c .id) in recordOf (base (T .asked)) (c .from) (c .id) (f .present) (f .terminal)
+  recOf c = let f = found T (depth (T .asked) (c .id)) (c .id) in recordOf (weight (T .asked)) (c .from) (c .id) (f .present) (f .terminal)
 
   -- a record that was queued
   pub record Taken (r : Rec) : Type 0 where

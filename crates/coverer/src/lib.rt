@@ -187,8 +187,8 @@ fn add_candidate(
     if decide::lifts(q, full, id, f.terminal) {
         return keep(m, t, id);
     }
-    let base = decide::base_of(q, full);
-    let r = records::record_of(base, from, id, f.present, f.terminal);
+    let weight = decide::weight_of(q, full);
+    let r = records::record_of(weight, from, id, f.present, f.terminal);
     enqueue(m, t, e, r)
 }
 

@@ -15,6 +15,7 @@ use Rattle.totals.specs.declared.Totals.{Totals}
 use Rattle.totals.specs.Totals.{noTotals}
 use Rattle.run.specs.declared.RegionCoverer.{RegionCoverer}
 use Rattle.fast.specs.Memory.{fastCoveringFor}
+use Rattle.run.specs.Editions.{withEdition}
 use Rattle.run.specs.Run.{Outcome, State, rawIds, memoryWords}
 use Rattle.run.specs.Sixes.{asideSix}
 use Rattle.run.specs.Run as Run
@@ -231,8 +232,7 @@ fast-numbers c a allowance memory room n h p x = when-late Kind.Fast c a allowan
 
 -- "fast ignores it": whichever of the two editions a request names
 pub fast-ignores : (c : RegionCoverer) (a : Area) (allowance memory room n : ℕ) → UpTo 2 (c .edition) → UpTo 2 n
-    → resultOf Kind.Fast (record { «min_level» = c .«min_level»; «max_level» = c .«max_level»; «level_mod» = c .«level_mod»; «max_cells» = c .«max_cells»; edition = n }) a allowance memory room
-    ≡ resultOf Kind.Fast c a allowance memory room
+    → resultOf Kind.Fast (withEdition c n) a allowance memory room ≡ resultOf Kind.Fast c a allowance memory room
 unfolding resultOf comesTo barOf numbersBar
 fast-ignores c a allowance memory room n h k =
     ap (λ (b : Bar). checked (firstBar (numbersBar c) (firstBar b (firstBar (regionBar a) (memoryBar memory)))) (comesTo Kind.Fast c a allowance room)) (edition-open n k ∙ sym (edition-open (c .edition) h))

@@ -7,7 +7,7 @@ ghost use lib.Dec.{leb, ltb, eqb};
 ghost use lib.Count.{ones};
 ghost use Rattle.cellid.specs.CellId.{levelOf};
 ghost use Rattle.run.specs.Run.{minLevel, maxCells, queueMost, rawMost, depth, full};
-ghost use Rattle.run.specs.Editions.{base};
+ghost use Rattle.run.specs.Editions.{weight};
 use run::Request;
 
 // How far down a candidate is expanded: one level below min, else level_mod.
@@ -35,9 +35,9 @@ pub fn lifts(q: Request, full: u64, id: u64, terminal: u64) -> bool
 }
 
 // What a child weighs in the queue's order, and a level in children, where a full set has `all` of them: in edition 2 one more, so that no count carries.
-pub fn base_of(q: Request, all: u64) -> u64
+pub fn weight_of(q: Request, all: u64) -> u64
     requires { ⌜ (all ≡ full q) × (all ≤ 64) ⌝ }
-    ensures { λ r. ⌜ (r ≡ base q) × (r ≤ 65) ⌝ }
+    ensures { λ r. ⌜ (r ≡ weight q) × (r ≤ 65) ⌝ }
 {
     if q.coverer.edition == 2 {
         return all + 1;

@@ -17,9 +17,9 @@ costR r = r .rank / 8
 abbrev pub fromR : Rec → ℕ
 fromR r = r .rank % 8
 
--- the record of a cell with these children, where a child weighs `base` and a level `base` children: run's specs/Editions has what it is in each edition
+-- the record of a cell with these children, where a child weighs `weight` and a level `weight` children: run's specs/Editions has what it is in each edition
 unfoldable pub recordOf : ℕ → ℕ → ℕ → ℕ → ℕ → Rec
-recordOf base from id present terminal = record { id = id; present = present; terminal = terminal; rank = 8 * costOf base (levelOf id) (ones present) (ones terminal) + from }
+recordOf weight from id present terminal = record { id = id; present = present; terminal = terminal; rank = 8 * costOf weight (levelOf id) (ones present) (ones terminal) + from }
 
 -- "A step takes the least cost; equal costs, the smaller id"; the start cell's place, "smaller first at equal ids". The sets follow, so that the order decides
 -- every pair of records.

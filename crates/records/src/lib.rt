@@ -27,24 +27,24 @@ pub fn count(x: u64) -> u64
     u64::count_ones(x) as u64
 }
 
-// What a cell with these children costs, where a child weighs `base` and a level `base` children: smaller cells, more children and more terminals cost more.
-fn cost_of(base: u64, id: u64, present: u64, terminal: u64) -> u64
-    requires { ⌜ base ≤ 65 ⌝ }
-    ensures { λ r. ⌜ (r ≡ costOf base (levelOf id) (ones present) (ones terminal)) × (r ≤ 131000) ⌝ }
+// What a cell with these children costs, where a child weighs `weight` and a level `weight` children: smaller cells, more children and more terminals cost more.
+fn cost_of(weight: u64, id: u64, present: u64, terminal: u64) -> u64
+    requires { ⌜ weight ≤ 65 ⌝ }
+    ensures { λ r. ⌜ (r ≡ costOf weight (levelOf id) (ones present) (ones terminal)) × (r ≤ 131000) ⌝ }
 {
-    (cellid::level(id) * base + count(present)) * base + count(terminal)
+    (cellid::level(id) * weight + count(present)) * weight + count(terminal)
 }
 
 // The record of a cell with these children that grew from the start cell at the place `from`.
-pub fn record_of(base: u64, from: u64, id: u64, present: u64, terminal: u64) -> Rec
-    requires { ⌜ (base ≤ 65) × (from < 8) ⌝ }
-    ensures { λ r. ⌜ r ≡ recordOf base from id present terminal ⌝ }
+pub fn record_of(weight: u64, from: u64, id: u64, present: u64, terminal: u64) -> Rec
+    requires { ⌜ (weight ≤ 65) × (from < 8) ⌝ }
+    ensures { λ r. ⌜ r ≡ recordOf weight from id present terminal ⌝ }
 {
     Rec {
         id,
         present,
         terminal,
-        rank: 8 * cost_of(base, id, present, terminal) + from,
+        rank: 8 * cost_of(weight, id, present, terminal) + from,
     }
 }
 

@@ -15,6 +15,7 @@ use Rattle.text.specs.Text.{until, fieldAt, bytesOf, placeAmong, chosen, faulty
 use Rattle.cell.specs.declared.Cap.{Cap}
 use Rattle.region.specs.declared.Region.{Region}
 use Rattle.run.specs.declared.RegionCoverer.{RegionCoverer}
+use Rattle.run.specs.Editions.{withEdition}
 use Rattle.run.specs.Run.{memoryWords}
 use Rattle.covering.specs.declared.Kind.{Kind}
 use Rattle.selftest.specs.declared.Engines.{Engines}
@@ -24,7 +25,7 @@ use Rattle.requests.specs.declared.line.CovererRead.{CovererRead}
 use Rattle.requests.specs.declared.line.RegionRead.{RegionRead}
 use Rattle.requests.specs.declared.line.Options.{Options}
 use Rattle.selftest.specs.Selftest.{enginesOf}
-use Rattle.requests.specs.Line.{kinds, kindOf, fourAfter, covererAfter, capOf, AreaRead, capAfter, cellAfter, idsAfter, shapes, areaAfter, keys, mostOf, none, valueOr, formOf, withEdition, engineWords, engineIn, valueIn, badOption, optionGiven, optionOf, optionFrom, nextOption, optionsAfter, wishOf, regionOf, idsOf, regionPart, ReadRegion, ReadAsked}
+use Rattle.requests.specs.Line.{kinds, kindOf, fourAfter, covererAfter, capOf, AreaRead, capAfter, cellAfter, idsAfter, shapes, areaAfter, keys, mostOf, none, valueOr, formOf, engineWords, engineIn, valueIn, badOption, optionGiven, optionOf, optionFrom, nextOption, optionsAfter, wishOf, regionOf, idsOf, regionPart, ReadRegion, ReadAsked}
 
 -- ---- the parts of a request
 

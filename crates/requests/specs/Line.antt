@@ -19,6 +19,7 @@ use Rattle.region.specs.declared.Region.{Region}
 use Rattle.region.specs.Region.{Area, capArea, cellArea, listArea, areaOf}
 use Rattle.run.specs.declared.RegionCoverer.{RegionCoverer}
 use Rattle.run.specs.Run.{memoryWords}
+use Rattle.run.specs.Editions.{withEdition}
 use Rattle.covering.specs.declared.Ending.{Ending}
 use Rattle.covering.specs.declared.Kind.{Kind}
 use Rattle.selftest.specs.declared.Engines.{Engines}
@@ -136,10 +137,6 @@ valueOr default v = elim (eqb v none) [ true ↦ default | false ↦ v ]
 -- how ids are written: tokens where 1 is given, else sixteen digits
 unfoldable pub formOf : ℕ → Form
 formOf v = elim (eqb v 1) [ true ↦ Form.Token | false ↦ Form.Digits ]
-
--- the same numbers in that edition
-abbrev pub withEdition : RegionCoverer → ℕ → RegionCoverer
-withEdition c edition = record { «min_level» = c .«min_level»; «max_level» = c .«max_level»; «level_mod» = c .«level_mod»; «max_cells» = c .«max_cells»; edition = edition }
 
 -- the number of the engines that a word names
 unfoldable pub engineIn : ℕ → List ℕ → Read

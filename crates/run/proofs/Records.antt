@@ -17,7 +17,7 @@ use Rattle.order.specs.Lex.{first, lexb}
 use Rattle.order.proofs.LexLaws.{first-lt, first-gt, first-eq, by-key}
 use Rattle.order.proofs.OrderLaws.{which, insert-past, insert-front}
 use Rattle.run.specs.Run.{costOf, Grown, full, depth, expansionOf, cost, levelMod, edition, byId, levelKey, byLevel, byEdition, Task}
-use Rattle.run.specs.Editions.{base, costIn}
+use Rattle.run.specs.Editions.{weight, costIn}
 use Rattle.run.specs.Masks.{found}
 use Rattle.run.specs.declared.Request.{Request}
 use Rattle.run.proofs.Counts.{found-counted, counts-most}
@@ -75,9 +75,9 @@ self p t = first-eq p p _ (omega arith) (omega arith) ∙ first-eq t t false (om
 
 module _ (T : Task) where
   -- the order of a request's edition is one of the two
-  second : eqb (edition (T .asked)) 2 ≡ true → byEdition T ≡ byLevel T
+  second-edition : eqb (edition (T .asked)) 2 ≡ true → byEdition T ≡ byLevel T
   unfolding byEdition
-  second e = let p : (a b : Grown) → byEdition T a b ≡ byLevel T a b = λ a b. rw (byEdition, e) in λ k a b. p a b k
+  second-edition e = let p : (a b : Grown) → byEdition T a b ≡ byLevel T a b = λ a b. rw (byEdition, e) in λ k a b. p a b k
 
   pub first-edition : eqb (edition (T .asked)) 2 ≡ false → byEdition T ≡ byId T
   unfolding byEdition
@@ -99,7 +99,7 @@ module _ (T : Task) where
 
   pub edition-decides : Order (byEdition T)
   edition-decides = ⊎-elim
-      (λ (e : eqb (edition (T .asked)) 2 ≡ true). subst Order (sym (second e)) by-level-decides)
+      (λ (e : eqb (edition (T .asked)) 2 ≡ true). subst Order (sym (second-edition e)) by-level-decides)
       (λ (e : eqb (edition (T .asked)) 2 ≡ false). subst Order (sym (first-edition e)) by-id-decides)
       (which (eqb (edition (T .asked)) 2))
 
@@ -111,7 +111,7 @@ module _ (T : Task) where
   terminalOf id = found T (depth (T .asked) id) id .terminal
 
   -- the cost is that of the sets' counts
-  pub cost-sets : (id : ℕ) → costOf (base (T .asked)) (levelOf id) (ones (presentOf id)) (ones (terminalOf id)) ≡ costIn T id
+  pub cost-sets : (id : ℕ) → costOf (weight (T .asked)) (levelOf id) (ones (presentOf id)) (ones (terminalOf id)) ≡ costIn T id
   unfolding costIn expansionOf
   cost-sets id = let k = found-counted T (depth (T .asked) id) id in rw (k .present, k .terminal)
 
@@ -130,22 +130,22 @@ module _ (T : Task) where
   -- either edition's order is that of the costs in it, then of ids and places
   by-level-cost : 0 < levelMod (T .asked) → eqb (edition (T .asked)) 2 ≡ true → (y x : Grown)
       → byLevel T y x ≡ lexb (costIn T (y .id) ∷ y .id ∷ y .from ∷ []) (costIn T (x .id) ∷ x .id ∷ x .from ∷ [])
-  unfolding byLevel levelKey lexb costIn base
+  unfolding byLevel levelKey lexb costIn weight
   by-level-cost h e y x =
-      let m : full (T .asked) < base (T .asked) = rw (base, e) (omega arith) in
+      let m : full (T .asked) < weight (T .asked) = rw (weight, e) (omega arith) in
       let a = counts-most T h (y .id) in
       let b = counts-most T h (x .id) in
-      sym (level-digits (base (T .asked)) (levelOf (y .id)) _ _ (levelOf (x .id)) _ _ _ (omega (arith, m, a .0)) (omega (arith, m, a .1)) (omega (arith, m, b .0)) (omega (arith, m, b .1)))
+      sym (level-digits (weight (T .asked)) (levelOf (y .id)) _ _ (levelOf (x .id)) _ _ _ (omega (arith, m, a .0)) (omega (arith, m, a .1)) (omega (arith, m, b .0)) (omega (arith, m, b .1)))
 
   by-id-cost : eqb (edition (T .asked)) 2 ≡ false → (y x : Grown)
       → byId T y x ≡ lexb (costIn T (y .id) ∷ y .id ∷ y .from ∷ []) (costIn T (x .id) ∷ x .id ∷ x .from ∷ [])
-  unfolding byId cost costIn base
-  by-id-cost e y x = rw (byId, costIn, base, e)
+  unfolding byId cost costIn weight
+  by-id-cost e y x = rw (byId, costIn, weight, e)
 
   -- by the request's edition, or by the words of the records: the same
   same-order : 0 < levelMod (T .asked) → (y x : Grown) → byEdition T y x ≡ lexb (wordsOf y) (wordsOf x)
   same-order h y x = ⊎-elim
-      (λ (e : eqb (edition (T .asked)) 2 ≡ true). ap (λ (lt : Grown → Grown → Bool). lt y x) (second e) ∙ by-level-cost h e y x ∙ with-sets y x)
+      (λ (e : eqb (edition (T .asked)) 2 ≡ true). ap (λ (lt : Grown → Grown → Bool). lt y x) (second-edition e) ∙ by-level-cost h e y x ∙ with-sets y x)
       (λ (e : eqb (edition (T .asked)) 2 ≡ false). ap (λ (lt : Grown → Grown → Bool). lt y x) (first-edition e) ∙ by-id-cost e y x ∙ with-sets y x)
       (which (eqb (edition (T .asked)) 2))
 
@@ -161,10 +161,10 @@ module _ (T : Task) where
 
 -- ---- what a child weighs
 
-pub base-second : (q : Request) → eqb (edition q) 2 ≡ true → base q ≡ full q + 1
-unfolding base
-base-second q e = rw (base, e)
+pub weight-second : (q : Request) → eqb (edition q) 2 ≡ true → weight q ≡ full q + 1
+unfolding weight
+weight-second q e = rw (weight, e)
 
-pub base-first : (q : Request) → eqb (edition q) 2 ≡ false → base q ≡ full q
-unfolding base
-base-first q e = rw (base, e)
+pub weight-first : (q : Request) → eqb (edition q) 2 ≡ false → weight q ≡ full q
+unfolding weight
+weight-first q e = rw (weight, e)

@@ -10,7 +10,7 @@ use Rattle.cellid.specs.CellId.{levelOf, childOf, leavesOf, holds, meets, lowBi
 use Rattle.order.specs.Order.{insert}
 use Rattle.order.specs.Lex.{lexb, first}
 use Rattle.run.specs.Run.{Task, Grown, then, isEmpty, sumOf, look, join, fourOf, reached, part, ending, full, costOf, depth, expand, expansionOf, lifts, cost, byId, levelKey, byLevel, byEdition, inEdition, keep, enqueue, setAside, isFull, isHandedOn, add, addAll, stepWith, stepOn, step, startAs, startAll, placed, after, loop, run, rawIds, asideTotal}
-use Rattle.run.specs.Editions.{base, costIn}
+use Rattle.run.specs.Editions.{weight, costIn}
 use Rattle.run.proofs.Rows.{Row, rowOf}
 
 -- the start cells, a child of face 0 and face 1; and the first child of the former
@@ -64,5 +64,5 @@ pub tied :
     × (row 2 true 1 100 ≡ record { number = 0; raw = 0x2400000000000000 ∷ []; steps = 2; aside = 0 })
     × (row 1 true 1 2 ≡ record { number = 9; raw = []; steps = 0; aside = 0 })  -- allowance 2 gives 9 in edition 1 alone
     × (row 2 true 1 2 ≡ row 2 true 1 100)
-unfolding costIn base run after loop step stepOn stepWith startAll startAs add addAll isFull isHandedOn lifts keep enqueue setAside byEdition byId byLevel levelKey cost costOf expansionOf expand part reached look depth full fourOf join ending sumOf leavesOf isEmpty then placed rawIds asideTotal insert lexb first levelOf childOf lowBit trailingZeros meets holds firstLeaf lastLeaf rowOf hits within task before row
+unfolding costIn weight run after loop step stepOn stepWith startAll startAs add addAll isFull isHandedOn lifts keep enqueue setAside byEdition byId byLevel levelKey cost costOf expansionOf expand part reached look depth full fourOf join ending sumOf leavesOf isEmpty then placed rawIds asideTotal insert lexb first levelOf childOf lowBit trailingZeros meets holds firstLeaf lastLeaf rowOf hits within task before row
 tied = (refl, refl, refl, refl, refl, refl, refl, refl, refl, refl, refl, refl, refl, refl, refl, refl, refl, refl)

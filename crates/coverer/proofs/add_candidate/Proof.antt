@@ -59,13 +59,13 @@ returns-3 c =
     add-lifted _ _ (domain _ _ (at .pre .1 .0)) _ _ _ _ _ (at .pre .1 .1 .1 .0) _ _ _ _ _ (found .before .if1 .left) (found .expand .ensures) (full .before .if2 .left) (full .full-of .ensures .0) (go .before .lifts .ensures) (go .if3 .taken)
     (c .before .before .keep2 .ensures .0 _ _ _) (c .before .before .keep2 .ensures .1)
 
-base-of-requires : tie.Need-base-of-requires
-base-of-requires c κs = c .before .before .full-of .ensures
+weight-of-requires : tie.Need-weight-of-requires
+weight-of-requires c κs = c .before .before .full-of .ensures
 
 record-of-requires : tie.Need-record-of-requires
 record-of-requires c κs =
     let at = c .before .before .before .before .before .before .before .before .before .before in
-    (c .base-of .ensures .1, omega (arith, at .pre .1 .1 .0))
+    (c .weight-of .ensures .1, omega (arith, at .pre .1 .1 .0))
 
 enqueue-requires : tie.Need-enqueue-requires
 enqueue-requires c κs = search needs
@@ -76,13 +76,13 @@ same-length-3 c = search needs
 returns-4 : tie.Need-returns-4
 returns-4 c =
     let made = c .before .before .before .before in
-    let based = made .before in
-    let go = based .before in
+    let weighed = made .before in
+    let go = weighed .before in
     let full = go .before .before in
     let found = full .before .before .before in
     let at = found .before .before .before .before in
     add-queued _ _ (domain _ _ (at .pre .1 .0)) _ _ _ _ _ (at .pre .1 .1 .1 .0) _ _ _ _ _ (found .before .if1 .left) (found .expand .ensures) (full .before .if2 .left) (full .full-of .ensures .0) (go .before .lifts .ensures) (go .if3 .left)
-    (at .pre .1 .0 .some) (at .pre .1 .1 .0) _ (based .base-of .ensures .0) _ (made .record-of .ensures) (c .before .before .enqueue .ensures .0) (c .before .before .enqueue .ensures .1)
+    (at .pre .1 .0 .some) (at .pre .1 .1 .0) _ (weighed .weight-of .ensures .0) _ (made .record-of .ensures) (c .before .before .enqueue .ensures .0) (c .before .before .enqueue .ensures .1)
 
 pub add-candidate-spec : {M : Type 1} → statement M
 add-candidate-spec =
@@ -100,7 +100,7 @@ add-candidate-spec =
     keep-requires-2
     same-length-2
     returns-3
-    base-of-requires
+    weight-of-requires
     record-of-requires
     enqueue-requires
     same-length-3

@@ -18,28 +18,28 @@ outer : (l f p : ℕ) → l ≤ 30 → f ≤ 65 → p ≤ 64 → (l * f + p) * f
 outer l f p h k j = mul-le-mul {n₂ = 2014} (omega (arith, inner l f h k)) k
 
 mul-result : tie.Need-mul-result
-mul-result c = omega (arith, inner (c .level .result) (c .before .args .base) (omega (arith, level-le (c .before .args .id))) (omega arith))
+mul-result c = omega (arith, inner (c .level .result) (c .before .args .weight) (omega (arith, level-le (c .before .args .id))) (omega arith))
 
 count-requires : tie.Need-count-requires
 count-requires c κs = search needs
 
 add-result : tie.Need-add-result
-add-result c = omega (arith, inner (c .before .level .result) (c .before .before .args .base) (omega (arith, level-le (c .before .before .args .id))) (omega arith))
+add-result c = omega (arith, inner (c .before .level .result) (c .before .before .args .weight) (omega (arith, level-le (c .before .before .args .id))) (omega arith))
 
 mul-result-2 : tie.Need-mul-result-2
-mul-result-2 c = omega (arith, outer (c .before .level .result) (c .before .before .args .base) (c .count .result) (omega (arith, level-le (c .before .before .args .id))) (omega arith) (omega arith))
+mul-result-2 c = omega (arith, outer (c .before .level .result) (c .before .before .args .weight) (c .count .result) (omega (arith, level-le (c .before .before .args .id))) (omega arith) (omega arith))
 
 count-requires-2 : tie.Need-count-requires-2
 count-requires-2 c κs = search needs
 
 add-result-2 : tie.Need-add-result-2
-add-result-2 c = omega (arith, outer (c .before .before .level .result) (c .before .before .before .args .base) (c .before .count .result) (omega (arith, level-le (c .before .before .before .args .id))) (omega arith) (omega arith))
+add-result-2 c = omega (arith, outer (c .before .before .level .result) (c .before .before .before .args .weight) (c .before .count .result) (omega (arith, level-le (c .before .before .before .args .id))) (omega arith) (omega arith))
 
 returns : tie.Need-returns
 unfolding costOf
 returns c = (
   rw (← (c .before .before .level .ensures), ← (c .before .count .ensures .0), ← (c .count2 .ensures .0)),
-  omega (arith, outer (c .before .before .level .result) (c .before .before .before .args .base) (c .before .count .result) (omega (arith, level-le (c .before .before .before .args .id))) (omega arith) (omega arith)),
+  omega (arith, outer (c .before .before .level .result) (c .before .before .before .args .weight) (c .before .count .result) (omega (arith, level-le (c .before .before .before .args .id))) (omega arith) (omega arith)),
 )
 
 pub cost-of-spec : {M : Type 1} → statement M
