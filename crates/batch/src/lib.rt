@@ -1,5 +1,6 @@
 // The lines of a night: what an order line, `KIND MIN MAX MOD MAX_CELLS REGION [allow=N] [edition=N]`, and the line before the orders, `night [out=N] [mem=N] [tokens=N]`, ask,
 // and the lines that answer a night. Any numbers and any bits of floats are taken: whoever serves an order tests its domain.
+#![tactic(auto)]
 ghost use Rattle.std.specs.Prelude.{◌≡◌, ◌+◌, ◌*◌, ◌≤◌, length};
 ghost use Rattle.replies.specs.Write.{Wrote, Whole};
 ghost use Rattle.batch.specs.Batch.{kind_after, shape_after, cap_about, cell_about, about_after, lacking, terms_after, order_of, word_after, is_head, head_of, done_text, served_text, summary_text, too_many_text};
@@ -14,7 +15,7 @@ use totals::Totals;
 // ---- an order
 
 // What an order asks about, the cell `id` or else the cap, and the place after it.
-#[derive(Drop)]
+#[derive(Clone, Copy)]
 struct About {
     cell: bool,
     id: u64,
@@ -23,7 +24,7 @@ struct About {
 }
 
 // The terms of an order, the steps that are allowed and the edition, and the place after them.
-#[derive(Drop)]
+#[derive(Clone, Copy)]
 struct Terms {
     allowance: u64,
     edition: u64,
@@ -31,7 +32,7 @@ struct Terms {
 }
 
 // The order that a line asks for, not served yet; and the line's end, or what is wrong with the line.
-#[derive(Drop)]
+#[derive(Clone, Copy)]
 pub struct OrderRead {
     pub order: Order,
     pub after: Place,
@@ -167,7 +168,7 @@ pub fn read_order(line: &[u8]) -> OrderRead
 
 // With how much a night is to be served: the places of output, the words of working memory; how ids are to be written; and the line's end, or what is wrong with
 // the line.
-#[derive(Drop)]
+#[derive(Clone, Copy)]
 pub struct Head {
     pub out: u64,
     pub mem: u64,

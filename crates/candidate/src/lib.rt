@@ -1,5 +1,6 @@
 // Candidates and their expansion: region.rs's new_candidate and expand_children. Definitions: look, depth and expand of the crate run, and the sets of
 // its specs/Masks.
+#![tactic(auto)]
 ghost use Rattle.std.specs.Prelude.{◌≡◌, ◌+◌, ◌<◌, ◌≤◌};
 ghost use Rattle.cellid.specs.CellId.{Cell, level_of};
 ghost use Rattle.run.specs.Run.{level_mod, look, depth};
@@ -12,7 +13,7 @@ use run::{Found, Request};
 use sight::Sight;
 
 // What a cell is to a run: terminal, to be expanded, or neither.
-#[derive(Drop)]
+#[derive(Clone, Copy)]
 pub enum Candidate {
     Kept,
     Queued,

@@ -1,6 +1,7 @@
 // Caps: the Rust's cap.rs, as far as the coverer reaches it. A cap is a centre and the square of the chord to its edge, by value. One look tells whether a cell
 // lies outside, crosses the rim or lies inside: it stops at the first corner that decides, computes no corner and no edge twice, and has the answer of the Rust
 // bit for bit, whatever the floats are. The four children of a cell are looked at together.
+#![tactic(auto)]
 ghost use Rattle.std.specs.Prelude.{◌≡◌, true, not, ◌&&◌, ℕ, ◌*◌, ◌/◌, ◌%◌, ◌^◌, ◌<◌, ◌≤◌, eqb, get_or};
 ghost use Rattle.cellid.specs.CellId as CellId;
 ghost use Rattle.cellid.specs.CellId.{one};
@@ -17,7 +18,7 @@ use point::Point;
 use sight::{Sight, Sights};
 
 // What an edge says of a cap that has none of the corners: nothing, or the answer.
-#[derive(Drop)]
+#[derive(Clone, Copy)]
 pub enum Verdict {
     Next,
     No,
@@ -25,7 +26,7 @@ pub enum Verdict {
 }
 
 // The cells of a bound, in the first `count` places, zeros after.
-#[derive(Drop)]
+#[derive(Clone, Copy)]
 pub struct Bound {
     pub ids: [u64; 6],
     pub count: usize,

@@ -2,6 +2,7 @@
 // papers' number, 0 for success, and writes the values of the answer through `count`, `steps` and `aside`, which takes six totals. Their runs are of
 // edition 1. Those whose names end in `_by` do the same in either edition, by the quick engine, by the plain one, or by both, and write through `agree` whether
 // they agree.
+#![tactic(auto)]
 ghost use Rattle.std.specs.Prelude.{◌≡◌, length};
 ghost use Rattle.covering.specs.declared.Ending.{Ending};
 ghost use Rattle.covering.specs.declared.Kind.{Kind};

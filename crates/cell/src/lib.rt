@@ -2,6 +2,7 @@
 // and its bounds in (u, v), made from an id once; a corner costs one root and one division and can be had
 // by itself, the normals of the edges cost as much for each line. The four children of a cell have six
 // lines and nine corners between them. Every corner and every normal is the Rust's, bit for bit.
+#![tactic(auto)]
 ghost use Rattle.std.specs.Prelude.{◌≡◌, ◌^◌, ◌≤◌, ◌<◌};
 ghost use Rattle.std.specs.Float.Ieee.{neg};
 ghost use Rattle.cellid.specs.CellId as CellId;
@@ -14,20 +15,20 @@ ghost use Rattle.cell.specs.Siblings.{lines_at, quarters_of, half_of, cell_betwe
 use point::Point;
 
 // A closed interval of floats; empty where lo is above hi.
-#[derive(Drop)]
+#[derive(Clone, Copy)]
 pub struct Interval {
     pub lo: f64,
     pub hi: f64,
 }
 
 // An interval in u and one in v.
-#[derive(Drop)]
+#[derive(Clone, Copy)]
 pub struct Rect {
     pub x: Interval,
     pub y: Interval,
 }
 
-#[derive(Drop)]
+#[derive(Clone, Copy)]
 pub struct Cell {
     pub face: u64,
     pub uv: Rect,
@@ -35,7 +36,7 @@ pub struct Cell {
 
 // A centre, and the square of the chord from it to the edge; a negative radius means empty.
 #[repr(C)]
-#[derive(Drop)]
+#[derive(Clone, Copy)]
 pub struct Cap {
     pub center: Point,
     pub radius: f64,
@@ -198,7 +199,7 @@ pub fn cap_bound(c: Cell) -> Cap
 }
 
 // Three lines of u, or of v: the first, the middle and the last of a cell.
-#[derive(Drop)]
+#[derive(Clone, Copy)]
 pub struct Lines {
     pub a: f64,
     pub b: f64,
@@ -206,7 +207,7 @@ pub struct Lines {
 }
 
 // The lines between which the four children of a cell lie, and the order in which the curve passes them.
-#[derive(Drop)]
+#[derive(Clone, Copy)]
 pub struct Quarters {
     pub face: u64,
     pub orientation: u64,

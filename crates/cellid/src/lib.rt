@@ -1,4 +1,5 @@
 // Cell ids: u64 numbers whose lowest set bit tells the level. Every function is a few shifts and masks.
+#![tactic(auto)]
 ghost use Rattle.std.specs.Prelude.{◌≡◌, ℕ, ◌+◌, ◌-◌, ◌*◌, ◌^◌, ◌<◌, ◌≤◌, max};
 ghost use Rattle.cellid.specs.CellId.{Cell, IsCell, face_of, low_bit, level_of, valid_id, parent_at, child_of, first_leaf, last_leaf, holds, meets, common_level};
 
@@ -123,7 +124,7 @@ fn larger(a: u64, b: u64) -> u64
 }
 
 // The level of the deepest common ancestor; nothing, where the faces differ.
-#[derive(Drop)]
+#[derive(Clone, Copy)]
 pub enum Common {
     Level(u64),
     Nothing,

@@ -1,4 +1,5 @@
 // Lists of cells in lent memory: what a list may be, normalising in place, one cell widened, and lists laid over an output.
+#![tactic(auto)]
 ghost use Rattle.std.specs.Prelude.{◌≡◌, true, ◌+◌, ◌-◌, ◌*◌, ◌^◌, ◌≤◌, ◌<◌, min, length, get_or, take, drop, set};
 ghost use Rattle.cellid.specs.CellId.{Cell, low_bit, holds};
 ghost use Rattle.order.specs.Order.{All};
@@ -7,7 +8,7 @@ ghost use Rattle.cellunion.specs.Memory.{zeros, normalised, laid, room_for, laid
 ghost use Rattle.cellunion.specs.Stack.{top_first, Topped, Next, Gives, PassAsks, PassDone, near_top};
 
 // The answer of a function that lays a list over an output: how many words it laid, or that they do not fit and nothing was written.
-#[derive(Drop)]
+#[derive(Clone, Copy)]
 pub enum Laid {
     Done(usize),
     NoRoom,

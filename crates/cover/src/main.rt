@@ -1,6 +1,7 @@
 // Reads a line after another from standard input and writes an answer a line: `ok STEPS ASIDE0 .. ASIDE5 COUNT ID...` to a request, `ok COUNT NUMBER...` to a
 // question about lists, `refused NUMBER` to either, or `error LINE-NUMBER WORD` to a line that is neither. The last line of a whole output is `end N`, the number
 // of lines answered. What a line asks and what is answered is the crate `lines`.
+#![tactic(auto)]
 ghost use Rattle.std.specs.Prelude.{◌≡◌, ◌+◌, ◌*◌, ◌≤◌, length};
 ghost use Rattle.input.specs.Feed.{Ready};
 ghost use Rattle.cover.specs.Cover.{Told, ToldAt};

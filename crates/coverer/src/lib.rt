@@ -1,5 +1,6 @@
 // The engine: region.rs's add_candidate, initial_candidates and covering_internal over lent memory. It follows the defined run of the crate run: each function's
 // contract says which part of the definition it does (specs/Engine).
+#![tactic(auto)]
 ghost use Rattle.std.specs.Prelude.{◌≡◌, ℕ, ◌+◌, ◌*◌, ◌^◌, ◌<◌, ◌≤◌, List, length, take};
 ghost use Rattle.std.specs.Int.Count.{ones};
 ghost use Rattle.cellid.specs.CellId.{leaves_of};
@@ -27,7 +28,7 @@ use run::{MEMORY_WORDS, QUEUE_MOST, QUEUE_WORDS, RAW_MOST, Request};
 use totals::Totals;
 
 // How far a run is while the cells of one start cell are worked on: ids kept, records queued, leaves set aside under that start cell, steps taken.
-#[derive(Drop)]
+#[derive(Clone, Copy)]
 struct Counts {
     kept: usize,
     queued: usize,
@@ -36,14 +37,14 @@ struct Counts {
 }
 
 // What a part of such work comes to: refused with its number, or going on.
-#[derive(Drop)]
+#[derive(Clone, Copy)]
 enum Turn {
     Refused(u64),
     Going(Counts),
 }
 
 // How far a run is: ids kept, records queued, steps taken, leaves set aside under each start cell.
-#[derive(Drop)]
+#[derive(Clone, Copy)]
 struct Tally {
     kept: usize,
     queued: usize,
@@ -52,14 +53,14 @@ struct Tally {
 }
 
 // What a part of the run comes to: refused with its number, or going on.
-#[derive(Drop)]
+#[derive(Clone, Copy)]
 enum Stage {
     Refused(u64),
     Going(Tally),
 }
 
 // The cells under a taken candidate, which grew from the start cell at the place `from`: place j of the sets is the cell base + (2j + 1) unit.
-#[derive(Drop)]
+#[derive(Clone, Copy)]
 struct Brood {
     from: u64,
     base: u64,
@@ -70,7 +71,7 @@ struct Brood {
 }
 
 // The engine's answer. The kept ids stand in the memory.
-#[derive(Drop)]
+#[derive(Clone, Copy)]
 pub enum Ran {
     Refused(u64),
     Done {
@@ -81,7 +82,7 @@ pub enum Ran {
 }
 
 // What was seen of a run: refused with its number; or how many cells are kept and queued, the steps taken and the leaves set aside under each start cell.
-#[derive(Drop)]
+#[derive(Clone, Copy)]
 pub enum Seen {
     Refused(u64),
     Standing {

@@ -1,5 +1,6 @@
 // The public answers of the region coverer. Every function takes any numbers, any region with any lent list, any lent memory and output, and asks nothing of
 // the caller: levels, region, memory and allowance are checked here. A refusal is one of paper 01's numbers; it leaves the output unchanged.
+#![tactic(auto)]
 ghost use Rattle.std.specs.Prelude.{◌≤◌, ◌<◌, ◌≡◌, length, take};
 ghost use Rattle.cellid.specs.CellId.{Cell};
 ghost use Rattle.order.specs.Order.{All};
@@ -27,7 +28,7 @@ use totals::Totals;
 
 // The answer's number and values: 0 for a success, else paper 01's number of the refusal; how many ids stand in the output's first places, how many steps the
 // run took, how many leaves it set aside under each start cell. A refusal has zeros there.
-#[derive(Drop)]
+#[derive(Clone, Copy)]
 pub struct Answer {
     pub number: u64,
     pub count: usize,
@@ -36,7 +37,7 @@ pub struct Answer {
 }
 
 // Which list of a run a request asks for: the raw one, in the order kept, the normalised one, or the final one.
-#[derive(Drop)]
+#[derive(Clone, Copy)]
 pub enum Ending {
     Raw,
     CellUnion,
@@ -44,7 +45,7 @@ pub enum Ending {
 }
 
 // Every kind of answer: a list of the outer run, one of the inner run, or the quick covering.
-#[derive(Drop)]
+#[derive(Clone, Copy)]
 pub enum Kind {
     Outer(Ending),
     Inner(Ending),

@@ -1,4 +1,5 @@
 // Fast coverings and start cells of a region.
+#![tactic(auto)]
 ghost use Rattle.std.specs.Prelude.{◌≡◌, true, ◌&&◌, leb, ◌++◌, ◌-◌, ◌≤◌, ◌<◌, min, length, take, drop};
 ghost use Rattle.cellid.specs.CellId.{Cell};
 ghost use Rattle.order.specs.Order.{All};
@@ -13,14 +14,14 @@ ghost use Rattle.fast.specs.Memory.{NumbersFit, lifted_for, merged_for, merged_c
 use run::RegionCoverer;
 
 // The start cells of a run, at most six, with zeros behind them.
-#[derive(Drop)]
+#[derive(Clone, Copy)]
 pub struct StartCells {
     pub ids: [u64; 6],
     pub count: usize,
 }
 
 // A neighbouring pair, by the place of its first cell, and one more than the adjusted level of its common ancestor.
-#[derive(Drop)]
+#[derive(Clone, Copy)]
 struct Best {
     at: usize,
     depth: u64,

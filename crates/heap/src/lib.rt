@@ -1,4 +1,5 @@
 // The quick queue: records as a binary heap in lent memory, the one that goes first at place 0.
+#![tactic(auto)]
 ghost use Rattle.std.specs.Prelude.{◌≡◌, ◌+◌, ◌*◌, ◌<◌, ◌≤◌};
 ghost use Rattle.records.specs.Records.{get_r, cap_r};
 ghost use Rattle.heap.specs.Heap.{push_r, pop_r, lesser_r};
@@ -25,7 +26,7 @@ pub fn push(m: &mut [u64], n: usize, r: Rec)
 }
 
 // A record and its place.
-#[derive(Drop)]
+#[derive(Clone, Copy)]
 struct Placed {
     at: usize,
     record: Rec,

@@ -1,12 +1,13 @@
 // Lines of an input of any size, one after another, out of one buffer. A line that the buffer can't hold is passed over to its end, and a part of a line
 // that neither a newline nor the true end of the input closes is never answered. Or all of an input at once, as far as a buffer holds it.
+#![tactic(auto)]
 ghost use Rattle.std.specs.Prelude.{◌≡◌, false, ◌&&◌, ◌+◌, ◌-◌, ◌≤◌, ◌<◌, replicate, length, take};
 ghost use Rattle.input.specs.Feed.{between, line_end, line_to, last_line, too_long, failure, is_last, Ready, NoLine, ReadOn, NextLine, may_wait, left_waiting, held_bytes};
 
 use libc::{STDERR_FILENO, STDOUT_FILENO};
 
 // What was found: a line, one that is too long for the buffer, the input's end, or that the input can't be read.
-#[derive(Drop)]
+#[derive(Clone, Copy)]
 pub enum Found {
     Line,
     TooLong,
@@ -15,7 +16,7 @@ pub enum Found {
 }
 
 // The line is buf[start..end]; what is read and not yet looked at is buf[next..filled].
-#[derive(Drop)]
+#[derive(Clone, Copy)]
 pub struct Feed {
     pub start: usize,
     pub end: usize,
@@ -25,21 +26,21 @@ pub struct Feed {
 }
 
 // How many bytes of the buffer are filled after a read, and whether it failed.
-#[derive(Drop)]
+#[derive(Clone, Copy)]
 struct Filled {
     filled: usize,
     failed: bool,
 }
 
 // How many bytes of answers wait in a page, and whether the output failed.
-#[derive(Drop)]
+#[derive(Clone, Copy)]
 struct Page {
     waiting: usize,
     failed: bool,
 }
 
 // What was found, with what then waits in the page. Where the output failed, nothing was looked for.
-#[derive(Drop)]
+#[derive(Clone, Copy)]
 pub struct Turn {
     pub feed: Feed,
     pub waiting: usize,
@@ -47,7 +48,7 @@ pub struct Turn {
 }
 
 // All of a file: how many bytes of the buffer it fills; or that the buffer can't hold it, or that it can't be read.
-#[derive(Drop)]
+#[derive(Clone, Copy)]
 pub enum All {
     Held(usize),
     TooLong,

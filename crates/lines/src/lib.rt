@@ -1,5 +1,6 @@
 // Any line of `cover`, answered: a question about a list, `ranges COUNT ID... [options]` or `cells COUNT FIRST LAST... [options]`, is asked of `ranges`, one
 // about two lists, `union|common|difference COUNT ID... COUNT ID... [options]`, of `sets`, any other line of `requests`.
+#![tactic(auto)]
 ghost use Rattle.std.specs.Prelude.{◌≡◌, ◌+◌, ◌*◌, ◌≤◌, length, take, drop};
 ghost use Rattle.text.specs.Text.{ReadList};
 ghost use Rattle.ranges.specs.Ranges.{words_of, Answered};
@@ -12,7 +13,7 @@ use text::{Fault, Place, Read};
 use tokens::Form;
 
 // Lists in the first of the words that are lent: how many the first has, how many both have; and the place after them.
-#[derive(Drop)]
+#[derive(Clone, Copy)]
 struct ListsRead {
     first: usize,
     both: usize,
@@ -21,7 +22,7 @@ struct ListsRead {
 
 // What is asked about the lists in the first of the words that are lent: the number of the word that asks; how many the first list has, how many both have; how
 // many places of output may be filled; how ids are to be written; and the line's end, or what is wrong with the line.
-#[derive(Drop)]
+#[derive(Clone, Copy)]
 struct ListRead {
     kind: u64,
     first: usize,

@@ -1,6 +1,7 @@
 // From points to leaves, and from a cell to the three or four cells around its nearest corner. Every
 // float operation is the Rust's s2/cellid.rs, in its order, rounded once. A leaf's coordinates on its
 // face are 0 to 2^30 - 1; one that may lie one past the face is written one up, 0 to 2^30 + 1.
+#![tactic(auto)]
 ghost use Rattle.std.specs.Prelude.{◌≡◌, ◌+◌, ◌^◌, ◌<◌, ◌≤◌, true};
 ghost use Rattle.std.specs.Float.{binary64};
 ghost use Rattle.std.specs.Float.Ieee.{minus, of_int};
@@ -10,14 +11,14 @@ ghost use Rattle.neighbors.specs.Neighbors.{st_to_ij, leaf_of_point, clamp_of, m
 use point::Point;
 
 // The way to the cell beside: whether it is on the same face, and its coordinate, one up.
-#[derive(Drop)]
+#[derive(Clone, Copy)]
 struct Toward {
     same: bool,
     at: u64,
 }
 
 // The cells around a corner, in the first `count` places, zeros after.
-#[derive(Drop)]
+#[derive(Clone, Copy)]
 pub struct Neighbors {
     pub ids: [u64; 4],
     pub count: usize,

@@ -1,4 +1,5 @@
 // A night's orders in one call (paper 02, e): each record is answered as its public function answers it alone, with the room that the orders before it left in the output.
+#![tactic(auto)]
 ghost use Rattle.std.specs.Prelude.{◌≡◌, [], ◌≤◌, length};
 ghost use Rattle.region.specs.Region.{area_of};
 ghost use Rattle.orders.specs.Orders.{kind_of, area_for, Served, NightOver};
@@ -16,7 +17,7 @@ pub const NIGHT_MOST: usize = 256;
 // First the answer, once the order was served: its number, 0 for success, and its values. Then what is asked: the quick covering, or else the inner or the outer one; of the
 // cell `id` or else of the cap; with these levels, mod and cell limit; and how many steps the run may take. C sees the fields in this order.
 #[repr(C)]
-#[derive(Drop)]
+#[derive(Clone, Copy)]
 pub struct Order {
     pub number: u64,
     pub count: usize,

@@ -2,6 +2,7 @@
 // angle between two of them; a float's size and its bit pattern. Every operation is the Rust's, in its
 // order, rounded once. Nothing is required of a float anywhere: NaNs, infinities and subnormals have
 // the answer that the Rust has.
+#![tactic(auto)]
 ghost use Rattle.std.specs.Prelude.{◌≡◌};
 ghost use Rattle.std.specs.Float.{binary64};
 ghost use Rattle.std.specs.Float.Ieee.{of_bits, to_bits};
@@ -10,7 +11,7 @@ ghost use Rattle.point.specs.Vector.{sub_of, mul_of, dot_of, cross_of, norm2_of,
 ghost use Rattle.point.specs.ChordAngle.{chord_angle, sin2_of};
 
 #[repr(C)]
-#[derive(Drop)]
+#[derive(Clone, Copy)]
 pub struct Point {
     pub x: f64,
     pub y: f64,

@@ -1,5 +1,6 @@
 // The queue of candidates in lent memory, kept by either engine: as a heap, the quick way, or as a plain list. What the records are and which goes first is the
 // crate records.
+#![tactic(auto)]
 ghost use Rattle.std.specs.Prelude.{◌≡◌, ◌<◌};
 ghost use Rattle.records.specs.Records.{cap_r};
 ghost use Rattle.queue.specs.Queue.{add_r, next_r, rest_r};
@@ -7,7 +8,7 @@ ghost use Rattle.queue.specs.Queue.{add_r, next_r, rest_r};
 use records::Rec;
 
 // Which engine keeps the queue: the quick one, as a heap, or the plain one, as a list that is looked through at each step.
-#[derive(Drop)]
+#[derive(Clone, Copy)]
 pub enum Engine {
     Quick,
     Plain,

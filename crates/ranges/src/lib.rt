@@ -1,6 +1,7 @@
 // Lists of cells as pairs of first and last leaf, and back. A stretch of leaves [s, e) is given by leaf numbers; leaf number n has the id 2n + 1.
 // Each way takes a pass that looks and one that writes, and between them one that counts where a list's length doesn't tell that there is room: what is
 // refused leaves the output as it was, so nothing is written before all is seen.
+#![tactic(auto)]
 ghost use Rattle.std.specs.Prelude.{◌≡◌, true, ◌+◌, ◌-◌, ◌*◌, ◌^◌, ◌≤◌, ◌<◌, length, set, leb};
 ghost use Rattle.std.proofs.lemmas.List.Edits.{sets};
 ghost use Rattle.cellunion.specs.CellUnion.{is_list};
@@ -8,7 +9,7 @@ ghost use Rattle.ranges.specs.Ranges.{leaves, joins, is_pairs, follows, size, ti
 ghost use Rattle.ranges.specs.Steps.{looked, held, closed, opened, aligned};
 
 // Done: how many words stand in the output's first places. Refused: paper 02's number; the output is as it was.
-#[derive(Drop)]
+#[derive(Clone, Copy)]
 pub enum Answer {
     Done(usize),
     Refused(u64),

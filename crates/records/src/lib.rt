@@ -1,6 +1,7 @@
 // Queued candidates as records of four words in lent memory, place i in the words from 4i on; what each costs, and which of two goes first: the one of the
 // lesser cost; of equal costs, the one of the smaller id; of equal ids, the one that grew from the earlier start cell. What a level and a child weigh is the
 // caller's choice: by it the order is that of one edition or the other. How a queue keeps the records is the crates heap, plain and queue.
+#![tactic(auto)]
 ghost use Rattle.std.specs.Prelude.{◌≡◌, ◌+◌, ◌*◌, ◌/◌, ◌<◌, ◌≤◌};
 ghost use Rattle.std.specs.Int.Count.{ones};
 ghost use Rattle.cellid.specs.CellId.{level_of};
@@ -8,7 +9,7 @@ ghost use Rattle.run.specs.Run.{cost_of};
 ghost use Rattle.records.specs.Records.{cost_r, from_r, record_of, before, get_r, put_r, cap_r};
 
 // A candidate: its cell, the Hilbert places of its children, and of those that are terminal; and its rank, eight times its cost and the place of its start cell.
-#[derive(Drop)]
+#[derive(Clone, Copy)]
 pub struct Rec {
     pub id: u64,
     pub present: u64,

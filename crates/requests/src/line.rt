@@ -16,21 +16,21 @@ use text::{Base, Fault, Place, Read};
 use tokens::Form;
 
 // Four numbers, and the place after them.
-#[derive(Drop)]
+#[derive(Clone, Copy)]
 pub struct Four {
     pub values: [u64; 4],
     pub after: Place,
 }
 
 // The numbers of a request, of edition 1, and the place after them.
-#[derive(Drop)]
+#[derive(Clone, Copy)]
 pub struct CovererRead {
     pub coverer: RegionCoverer,
     pub after: Place,
 }
 
 // A region, how many ids of a list were read for it, and the place after it.
-#[derive(Drop)]
+#[derive(Clone, Copy)]
 pub struct RegionRead {
     pub region: Region,
     pub count: usize,
@@ -38,7 +38,7 @@ pub struct RegionRead {
 }
 
 // The options that were given, in the order allow, out, mem, tokens, edition, engine, and the place after them; u64::MAX stands for one that was not.
-#[derive(Drop)]
+#[derive(Clone, Copy)]
 pub struct Options {
     pub values: [u64; 6],
     pub after: Place,
@@ -46,7 +46,7 @@ pub struct Options {
 
 // What a line asks: the kind of answer, of what, how many ids of a list were read for it, with how much, how ids are to be written, and which engines are to
 // answer; and the line's end, or what is wrong with the line.
-#[derive(Drop)]
+#[derive(Clone, Copy)]
 pub struct Asked {
     pub kind: Kind,
     pub coverer: RegionCoverer,

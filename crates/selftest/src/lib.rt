@@ -1,5 +1,6 @@
 // A request answered by the quick engine, by the plain one, or by both, one after the other, with a look whether they agree: the hall's self-test. The two are
 // proved to agree on every request, so that a disagreement, on a machine, tells of a fault of that machine.
+#![tactic(auto)]
 ghost use Rattle.std.specs.Prelude.{true, ◌≡◌, ◌≤◌, min, length, take};
 ghost use Rattle.cellunion.specs.Memory.{zeros, laid};
 ghost use Rattle.covering.specs.Covering.{result_of, Answered};
@@ -12,7 +13,7 @@ use region::Region;
 use run::RegionCoverer;
 
 // Which engines answer a request.
-#[derive(Drop)]
+#[derive(Clone, Copy)]
 pub enum Engines {
     Quick,
     Plain,
@@ -33,7 +34,7 @@ pub fn engines_of(n: u64) -> Engines
 }
 
 // An answer, and whether all engines that were asked gave it.
-#[derive(Drop)]
+#[derive(Clone, Copy)]
 pub struct Tested {
     pub answer: Answer,
     pub agree: bool,

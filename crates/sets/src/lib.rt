@@ -1,6 +1,7 @@
 // The union, the common part and the difference of two lists of cells. One sweep over the edges of both lists finds the stretches of wanted leaves, and each
 // stretch becomes its largest cells. What is refused leaves the output as it was, so nothing is written before it is known that there is room: where the
 // lists' lengths don't tell, a sweep of its own counts. No memory is asked for.
+#![tactic(auto)]
 ghost use Rattle.std.specs.Prelude.{◌≡◌, true, ◌+◌, ◌≤◌, min, length, drop, leb};
 ghost use Rattle.std.proofs.lemmas.List.Edits.{sets};
 ghost use Rattle.cellid.specs.CellId.{Cell};
@@ -14,7 +15,7 @@ ghost use Rattle.sets.specs.Steps.{cursor_at, moved_to, done_with, open_from, is
 use ranges::Answer;
 
 // Which leaves are wanted: those of either list, of both, of the first alone.
-#[derive(Drop)]
+#[derive(Clone, Copy)]
 pub enum Op {
     Union,
     Common,
@@ -49,7 +50,7 @@ fn hi(id: u64) -> u64
 }
 
 // Where a list stands at a leaf: the place of the next cell, the next leaf at which that cell begins or has ended, and whether it has begun.
-#[derive(Drop)]
+#[derive(Clone, Copy)]
 struct Cursor {
     at: usize,
     edge: u64,

@@ -1,10 +1,11 @@
 // One look at a cell: what the cell is to a region, in one of three answers, and what the looks at four children are together. The look by a region that is a cell is here too.
+#![tactic(auto)]
 ghost use Rattle.std.specs.Prelude.{◌≡◌, ◌&&◌, ◌≤◌, ◌<◌};
 ghost use Rattle.cellid.specs.CellId.{Cell, level_of, holds, meets};
 ghost use Rattle.sight.specs.Sight.{sight_of, passes, is_inside, weight_of, four_bits, four_sights, sights_of};
 
 // What a cell is to a region: they have no point in common, they have, or the region has all of the cell.
-#[derive(Drop)]
+#[derive(Clone, Copy)]
 pub enum Sight {
     Outside,
     Crossing,
@@ -12,7 +13,7 @@ pub enum Sight {
 }
 
 // Of the four children of a cell those that are not outside, and those inside, as sets by place on the curve.
-#[derive(Drop)]
+#[derive(Clone, Copy)]
 pub struct Sights {
     pub passing: u64,
     pub inside: u64,

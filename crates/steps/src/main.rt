@@ -3,6 +3,7 @@
 // their costs and their start cells' places, the next one first. It is for people who follow a run: what each step leaves is what `covering::watch` ensures, and
 // of the lines nothing is promised. Every step is run anew from the start cells, so a run of n steps costs what n * n / 2 steps cost. out= and tokens= make no
 // difference: ids are always written as 16 digits.
+#![tactic(auto)]
 ghost use Rattle.std.specs.Prelude.{◌+◌, ◌*◌, ◌≤◌, length};
 ghost use Rattle.input.specs.Feed.{Ready};
 
@@ -25,7 +26,7 @@ type Page = [u8; 65536];
 type Places = [u64; 4096];
 
 // The next cell of a queue, its cost, and the place of its start cell.
-#[derive(Drop)]
+#[derive(Clone, Copy)]
 struct Ahead {
     id: u64,
     cost: u64,
@@ -33,14 +34,14 @@ struct Ahead {
 }
 
 // What a step leaves to do: nothing, with whether all is written, or a step more.
-#[derive(Drop)]
+#[derive(Clone, Copy)]
 enum Shown {
     Ended(bool),
     Next(Ahead),
 }
 
 // What was written to a line: nothing, all, or not all.
-#[derive(Drop)]
+#[derive(Clone, Copy)]
 enum Told {
     Nothing,
     Whole,

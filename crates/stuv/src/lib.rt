@@ -1,6 +1,7 @@
 // The cube's faces, and the coordinates on them: (s, t) in 0 to 1, in which the cells are squares, and
 // (u, v) in -1 to 1, in which a face is a plane. Every operation is the Rust's s2/stuv.rs, in its order,
 // rounded once; floats may be anything, a face over 5 is barred.
+#![tactic(auto)]
 ghost use Rattle.std.specs.Prelude.{◌≡◌, cond, ◌+◌, ◌<◌};
 ghost use Rattle.std.specs.Float.Ieee.{lt};
 ghost use Rattle.point.specs.Floats.{zero_f};
@@ -9,14 +10,14 @@ ghost use Rattle.stuv.specs.Projection.{st_to_uv, uv_to_st, face_toward, uv_at, 
 use point::Point;
 
 // A place on a face.
-#[derive(Drop)]
+#[derive(Clone, Copy)]
 pub struct Uv {
     pub u: f64,
     pub v: f64,
 }
 
 // A face and a place on it.
-#[derive(Drop)]
+#[derive(Clone, Copy)]
 pub struct FaceUv {
     pub face: u64,
     pub u: f64,
@@ -24,7 +25,7 @@ pub struct FaceUv {
 }
 
 // Where a vector meets a face, or that it points to the other side.
-#[derive(Drop)]
+#[derive(Clone, Copy)]
 pub enum Side {
     At(Uv),
     Behind,

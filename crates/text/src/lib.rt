@@ -1,11 +1,12 @@
 // Fields and numbers of a line of text: what the programs read requests with.
 // A line is fields parted by blanks. What is read comes with the place after it; a fault once found is handed on, so a line is read with no
 // branches, and what is wrong with it is the first fault from the left. A number over its limit is told and never wraps.
+#![tactic(auto)]
 ghost use Rattle.std.specs.Prelude.{◌≡◌, ◌+◌, ◌*◌, ◌<◌, ◌≤◌, min, true, false, length, drop, if◌then◌else◌, nat_lt};
 ghost use Rattle.text.specs.Text.{digit_of, all_digits, value_from, faulty, limited, number_as, number_in, is_blank, leading, until, field_at, field_no, same, bytes_of, place_among, Spells, Stopped, field_as, number_after, numbers_after, list_after, ReadList, choice_after, is_at, end_after, is_plain, all_plain, is_silent, start_of};
 
 // What is wrong with a line.
-#[derive(Drop)]
+#[derive(Clone, Copy)]
 pub enum Fault {
     UnknownKind,
     UnknownRegion,
@@ -24,28 +25,28 @@ pub enum Fault {
 }
 
 // How a number is written: decimal, in one to twenty digits, or hexadecimal, in sixteen.
-#[derive(Drop)]
+#[derive(Clone, Copy)]
 pub enum Base {
     Ten,
     Sixteen,
 }
 
 // Where a field begins, and where it ends: an empty one stands where the line has no more.
-#[derive(Drop)]
+#[derive(Clone, Copy)]
 pub struct Field {
     pub start: usize,
     pub end: usize,
 }
 
 // A place in a line, or what is wrong before it.
-#[derive(Drop)]
+#[derive(Clone, Copy)]
 pub enum Place {
     At(usize),
     Bad(Fault),
 }
 
 // A number, and the place after its field. Where a fault was found the number is 0.
-#[derive(Drop)]
+#[derive(Clone, Copy)]
 pub struct Read {
     pub value: u64,
     pub after: Place,
@@ -275,7 +276,7 @@ pub fn place_among(word: &[u8], words: &[u8], count: u64) -> u64
 // ---- one part of a line after another
 
 // Digits of a line: the place after them, and the number that they spell.
-#[derive(Drop)]
+#[derive(Clone, Copy)]
 pub struct Digits {
     pub end: usize,
     pub value: u64,

@@ -1,5 +1,6 @@
 // An id's name, its sixteen hexadecimal digits or its token, and lists of ids as texts with a name a line: written, and read back. Each way takes one pass that
 // looks and one that writes: what is refused leaves the output as it was, so nothing is written before all is seen. No memory is asked for.
+#![tactic(auto)]
 ghost use Rattle.std.specs.Prelude.{◌≡◌, ◌+◌, ◌^◌, ◌≤◌, ◌<◌, min, length};
 ghost use Rattle.std.proofs.lemmas.List.Edits.{sets};
 ghost use Rattle.io.specs.Digits.{last_digits};
@@ -8,7 +9,7 @@ ghost use Rattle.tokens.specs.Tokens.{name_of, name_line, lines_of, ids_of, writ
 ghost use Rattle.tokens.specs.Steps.{of_digits, FirstLine};
 
 // What names an id: its sixteen digits, or its token, which leaves out the zeros at their end.
-#[derive(Drop)]
+#[derive(Clone, Copy)]
 pub enum Form {
     Digits,
     Token,
@@ -16,7 +17,7 @@ pub enum Form {
 
 // Done: how many bytes or ids stand in the output's first places. Malformed: 11, with the number from 1 of the first line that is malformed or of the first
 // id that is no cell; NoRoom: 12. After these two the output is as it was.
-#[derive(Drop)]
+#[derive(Clone, Copy)]
 pub enum Answer {
     Done(usize),
     Malformed(u64),
@@ -175,7 +176,7 @@ fn of_digits(form: Form, n: usize, value: u64) -> u64
 }
 
 // A line: its number, 0 where it is malformed, and the place after it.
-#[derive(Drop)]
+#[derive(Clone, Copy)]
 struct Line {
     id: u64,
     next: usize,

@@ -1,10 +1,11 @@
 // Six totals, one for each start cell of a run by its place, 0 to 5: paper 02, h, "six totals in place of one, zero where there is no such start cell".
+#![tactic(auto)]
 ghost use Rattle.std.specs.Prelude.{◌≡◌, ◌<◌};
 ghost use Rattle.totals.specs.Totals.{no_totals, total_at, with_total, same_totals};
 
 // The total of the start cell at the place 0, at the place 1, and so on. C sees six u64 in this order.
 #[repr(C)]
-#[derive(Drop)]
+#[derive(Clone, Copy)]
 pub struct Totals {
     pub at0: u64,
     pub at1: u64,
