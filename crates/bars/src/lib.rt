@@ -1,6 +1,7 @@
 // The refusals 1 to 6 and 14, which come before anything is touched: of a request's numbers, of its edition, of its region and of the working memory, each by
 // itself and joined in the papers' order.
 #![tactic(auto)]
+
 ghost use Rattle.std.specs.Prelude.{◌≡◌};
 ghost use Rattle.region.specs.Region.{area_of};
 ghost use Rattle.bars.specs.Bars.{first_bar, numbers_bar, edition_bar, region_bar, memory_bar, bar_of};

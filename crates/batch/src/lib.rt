@@ -1,6 +1,7 @@
 // The lines of a night: what an order line, `KIND MIN MAX MOD MAX_CELLS REGION [allow=N] [edition=N]`, and the line before the orders, `night [out=N] [mem=N] [tokens=N]`, ask,
 // and the lines that answer a night. Any numbers and any bits of floats are taken: whoever serves an order tests its domain.
 #![tactic(auto)]
+
 ghost use Rattle.std.specs.Prelude.{◌≡◌, ◌+◌, ◌*◌, ◌≤◌, length};
 ghost use Rattle.replies.specs.Write.{Wrote, Whole};
 ghost use Rattle.batch.specs.Batch.{kind_after, shape_after, cap_about, cell_about, about_after, lacking, terms_after, order_of, word_after, is_head, head_of, done_text, served_text, summary_text, too_many_text};

@@ -1,6 +1,7 @@
 // Candidates and their expansion: region.rs's new_candidate and expand_children. Definitions: look, depth and expand of the crate run, and the sets of
 // its specs/Masks.
 #![tactic(auto)]
+
 ghost use Rattle.std.specs.Prelude.{◌≡◌, ◌+◌, ◌<◌, ◌≤◌};
 ghost use Rattle.cellid.specs.CellId.{Cell, level_of};
 ghost use Rattle.run.specs.Run.{level_mod, look, depth};

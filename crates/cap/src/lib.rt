@@ -2,6 +2,7 @@
 // lies outside, crosses the rim or lies inside: it stops at the first corner that decides, computes no corner and no edge twice, and has the answer of the Rust
 // bit for bit, whatever the floats are. The four children of a cell are looked at together.
 #![tactic(auto)]
+
 ghost use Rattle.std.specs.Prelude.{◌≡◌, true, not, ◌&&◌, ℕ, ◌*◌, ◌/◌, ◌%◌, ◌^◌, ◌<◌, ◌≤◌, eqb, get_or};
 ghost use Rattle.cellid.specs.CellId as CellId;
 ghost use Rattle.cellid.specs.CellId.{one};

@@ -3,6 +3,7 @@
 // edition 1. Those whose names end in `_by` do the same in either edition, by the quick engine, by the plain one, or by both, and write through `agree` whether
 // they agree.
 #![tactic(auto)]
+
 ghost use Rattle.std.specs.Prelude.{◌≡◌, length};
 ghost use Rattle.covering.specs.declared.Ending.{Ending};
 ghost use Rattle.covering.specs.declared.Kind.{Kind};

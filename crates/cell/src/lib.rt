@@ -3,6 +3,7 @@
 // by itself, the normals of the edges cost as much for each line. The four children of a cell have six
 // lines and nine corners between them. Every corner and every normal is the Rust's, bit for bit.
 #![tactic(auto)]
+
 ghost use Rattle.std.specs.Prelude.{◌≡◌, ◌^◌, ◌≤◌, ◌<◌};
 ghost use Rattle.std.specs.Float.Ieee.{neg};
 ghost use Rattle.cellid.specs.CellId as CellId;

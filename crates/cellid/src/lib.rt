@@ -1,5 +1,6 @@
 // Cell ids: u64 numbers whose lowest set bit tells the level. Every function is a few shifts and masks.
 #![tactic(auto)]
+
 ghost use Rattle.std.specs.Prelude.{◌≡◌, ℕ, ◌+◌, ◌-◌, ◌*◌, ◌^◌, ◌<◌, ◌≤◌, max};
 ghost use Rattle.cellid.specs.CellId.{Cell, IsCell, face_of, low_bit, level_of, valid_id, parent_at, child_of, first_leaf, last_leaf, holds, meets, common_level};
 

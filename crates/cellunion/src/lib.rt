@@ -1,5 +1,6 @@
 // Lists of cells in lent memory: what a list may be, normalising in place, one cell widened, and lists laid over an output.
 #![tactic(auto)]
+
 ghost use Rattle.std.specs.Prelude.{◌≡◌, true, ◌+◌, ◌-◌, ◌*◌, ◌^◌, ◌≤◌, ◌<◌, min, length, get_or, take, drop, set};
 ghost use Rattle.cellid.specs.CellId.{Cell, low_bit, holds};
 ghost use Rattle.order.specs.Order.{All};

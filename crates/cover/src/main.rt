@@ -2,6 +2,7 @@
 // question about lists, `refused NUMBER` to either, or `error LINE-NUMBER WORD` to a line that is neither. The last line of a whole output is `end N`, the number
 // of lines answered. What a line asks and what is answered is the crate `lines`.
 #![tactic(auto)]
+
 ghost use Rattle.std.specs.Prelude.{◌≡◌, ◌+◌, ◌*◌, ◌≤◌, length};
 ghost use Rattle.input.specs.Feed.{Ready};
 ghost use Rattle.cover.specs.Cover.{Told, ToldAt};

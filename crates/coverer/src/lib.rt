@@ -1,6 +1,7 @@
 // The engine: region.rs's add_candidate, initial_candidates and covering_internal over lent memory. It follows the defined run of the crate run: each function's
 // contract says which part of the definition it does (specs/Engine).
 #![tactic(auto)]
+
 ghost use Rattle.std.specs.Prelude.{◌≡◌, ℕ, ◌+◌, ◌*◌, ◌^◌, ◌<◌, ◌≤◌, List, length, take};
 ghost use Rattle.std.specs.Int.Count.{ones};
 ghost use Rattle.cellid.specs.CellId.{leaves_of};

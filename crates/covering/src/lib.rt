@@ -1,6 +1,7 @@
 // The public answers of the region coverer. Every function takes any numbers, any region with any lent list, any lent memory and output, and asks nothing of
 // the caller: levels, region, memory and allowance are checked here. A refusal is one of paper 01's numbers; it leaves the output unchanged.
 #![tactic(auto)]
+
 ghost use Rattle.std.specs.Prelude.{◌≤◌, ◌<◌, ◌≡◌, length, take};
 ghost use Rattle.cellid.specs.CellId.{Cell};
 ghost use Rattle.order.specs.Order.{All};

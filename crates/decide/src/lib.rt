@@ -1,6 +1,7 @@
 // What a run decides of a cell by its numbers: how far it is expanded, whether its parent is kept in its children's place, what its children weigh in the
 // queue's order, whether it is handed on, whether an inner run is done. Nothing here looks at the region.
 #![tactic(auto)]
+
 ghost use Rattle.std.specs.Prelude.{◌≡◌, ◌&&◌, ◌||◌, not, ◌+◌, ◌≤◌, leb, ltb, eqb};
 ghost use Rattle.std.specs.Int.Count.{ones};
 ghost use Rattle.cellid.specs.CellId.{level_of};

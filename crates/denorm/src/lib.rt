@@ -1,5 +1,6 @@
 // Denormalising: the cells of a list become their descendants at the levels that a request takes.
 #![tactic(auto)]
+
 ghost use Rattle.std.specs.Prelude.{◌≡◌, ◌+◌, ◌-◌, ◌*◌, ◌^◌, ◌≤◌, ◌<◌, min, max, length, take};
 ghost use Rattle.cellid.specs.CellId.{Cell, level_of};
 ghost use Rattle.cellunion.specs.Memory.{laid, room_for, laid_over};

@@ -1,6 +1,7 @@
 // A text with an id a line, in one form, turned into the other: what the programs `read_tokens` and `write_tokens` do with all of their input. What is
 // refused is told on standard error, and nothing is written to standard output then.
 #![tactic(auto)]
+
 ghost use Rattle.std.specs.Prelude.{◌≡◌, ◌≤◌, ◌<◌, replicate, length};
 ghost use Rattle.replies.specs.Write.{Wrote};
 ghost use Rattle.filter.specs.Filter.{Turned, malformed_text, over_text, Replied};

@@ -1,5 +1,6 @@
 // The quick queue: records as a binary heap in lent memory, the one that goes first at place 0.
 #![tactic(auto)]
+
 ghost use Rattle.std.specs.Prelude.{◌≡◌, ◌+◌, ◌*◌, ◌<◌, ◌≤◌};
 ghost use Rattle.records.specs.Records.{get_r, cap_r};
 ghost use Rattle.heap.specs.Heap.{push_r, pop_r, lesser_r};

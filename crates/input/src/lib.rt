@@ -1,6 +1,7 @@
 // Lines of an input of any size, one after another, out of one buffer. A line that the buffer can't hold is passed over to its end, and a part of a line
 // that neither a newline nor the true end of the input closes is never answered. Or all of an input at once, as far as a buffer holds it.
 #![tactic(auto)]
+
 ghost use Rattle.std.specs.Prelude.{◌≡◌, false, ◌&&◌, ◌+◌, ◌-◌, ◌≤◌, ◌<◌, replicate, length, take};
 ghost use Rattle.input.specs.Feed.{between, line_end, line_to, last_line, too_long, failure, is_last, Ready, NoLine, ReadOn, NextLine, may_wait, left_waiting, held_bytes};
 

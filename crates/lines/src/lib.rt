@@ -1,6 +1,7 @@
 // Any line of `cover`, answered: a question about a list, `ranges COUNT ID... [options]` or `cells COUNT FIRST LAST... [options]`, is asked of `ranges`, one
 // about two lists, `union|common|difference COUNT ID... COUNT ID... [options]`, of `sets`, any other line of `requests`.
 #![tactic(auto)]
+
 ghost use Rattle.std.specs.Prelude.{◌≡◌, ◌+◌, ◌*◌, ◌≤◌, length, take, drop};
 ghost use Rattle.text.specs.Text.{ReadList};
 ghost use Rattle.ranges.specs.Ranges.{words_of, Answered};

@@ -2,6 +2,7 @@
 // float operation is the Rust's s2/cellid.rs, in its order, rounded once. A leaf's coordinates on its
 // face are 0 to 2^30 - 1; one that may lie one past the face is written one up, 0 to 2^30 + 1.
 #![tactic(auto)]
+
 ghost use Rattle.std.specs.Prelude.{◌≡◌, ◌+◌, ◌^◌, ◌<◌, ◌≤◌, true};
 ghost use Rattle.std.specs.Float.{binary64};
 ghost use Rattle.std.specs.Float.Ieee.{minus, of_int};

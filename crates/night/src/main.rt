@@ -1,6 +1,7 @@
 // A night's orders from standard input, served in one call. All lines are read first: where one is no order, or there are more than 256, standard error says so,
 // and no order is run. Else standard output has a line for each order, in their order, and a last line with the night's sums.
 #![tactic(auto)]
+
 ghost use Rattle.std.specs.Prelude.{◌≡◌, ◌&&◌, ◌+◌, ◌*◌, ◌≤◌, length, take};
 ghost use Rattle.input.specs.Feed.{Ready};
 ghost use Rattle.orders.specs.Nights.{places_of};

@@ -1,5 +1,6 @@
 // A night's orders in one call (paper 02, e): each record is answered as its public function answers it alone, with the room that the orders before it left in the output.
 #![tactic(auto)]
+
 ghost use Rattle.std.specs.Prelude.{◌≡◌, [], ◌≤◌, length};
 ghost use Rattle.region.specs.Region.{area_of};
 ghost use Rattle.orders.specs.Orders.{kind_of, area_for, Served, NightOver};

@@ -1,5 +1,6 @@
 // Pick lists: areas that people send as cells. What such a list may be, and what it is to a cell, told by one binary search.
 #![tactic(auto)]
+
 ghost use Rattle.std.specs.Prelude.{◌≡◌, true, ◌<◌};
 ghost use Rattle.cellid.specs.CellId.{Cell, level_of};
 ghost use Rattle.picklist.specs.PickList.{is_pick_list, list_meets, list_holds, Parts};

@@ -1,6 +1,7 @@
 // The plain queue: records as a simple list in lent memory, in whatever order they came. A new one is written at the end; the one that goes first is found by
 // looking through all of the list, and the last record is moved to its place. docs/PLAIN.md follows it on paper.
 #![tactic(auto)]
+
 ghost use Rattle.std.specs.Prelude.{◌≡◌, ◌<◌, ◌≤◌};
 ghost use Rattle.records.specs.Records.{get_r, put_r, cap_r};
 ghost use Rattle.plain.specs.Plain.{least_r, take_r};

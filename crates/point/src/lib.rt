@@ -3,6 +3,7 @@
 // order, rounded once. Nothing is required of a float anywhere: NaNs, infinities and subnormals have
 // the answer that the Rust has.
 #![tactic(auto)]
+
 ghost use Rattle.std.specs.Prelude.{◌≡◌};
 ghost use Rattle.std.specs.Float.{binary64};
 ghost use Rattle.std.specs.Float.Ieee.{of_bits, to_bits};

@@ -1,5 +1,6 @@
 // Four levels of the way back from a place to an id at once: for four bits of i and four of j, which positions they take from each of the four rows.
 #![tactic(auto)]
+
 ghost use Rattle.std.specs.Prelude.{◌≡◌, ◌/◌, ◌%◌, ◌<◌};
 ghost use Rattle.positions.specs.Table.{steps_word};
 

@@ -1,6 +1,7 @@
 // Reads a question a line from standard input and writes an answer a line. Each question is about one function of a layer, whose contract says what is
 // right: here nothing is promised of what is written, and a slip shows as a difference against the oracle.
 #![tactic(auto)]
+
 ghost use Rattle.std.specs.Prelude.{◌≡◌, true, ◌<◌, ◌≤◌, length};
 ghost use Rattle.cellid.specs.CellId as CellId;
 ghost use Rattle.region.specs.Region.{area_of, in_domain};

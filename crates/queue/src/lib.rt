@@ -1,6 +1,7 @@
 // The queue of candidates in lent memory, kept by either engine: as a heap, the quick way, or as a plain list. What the records are and which goes first is the
 // crate records.
 #![tactic(auto)]
+
 ghost use Rattle.std.specs.Prelude.{◌≡◌, ◌<◌};
 ghost use Rattle.records.specs.Records.{cap_r};
 ghost use Rattle.queue.specs.Queue.{add_r, next_r, rest_r};

@@ -2,6 +2,7 @@
 // Each way takes a pass that looks and one that writes, and between them one that counts where a list's length doesn't tell that there is room: what is
 // refused leaves the output as it was, so nothing is written before all is seen.
 #![tactic(auto)]
+
 ghost use Rattle.std.specs.Prelude.{◌≡◌, true, ◌+◌, ◌-◌, ◌*◌, ◌^◌, ◌≤◌, ◌<◌, length, set, leb};
 ghost use Rattle.std.proofs.lemmas.List.Edits.{sets};
 ghost use Rattle.cellunion.specs.CellUnion.{is_list};

@@ -2,6 +2,7 @@
 // lesser cost; of equal costs, the one of the smaller id; of equal ids, the one that grew from the earlier start cell. What a level and a child weigh is the
 // caller's choice: by it the order is that of one edition or the other. How a queue keeps the records is the crates heap, plain and queue.
 #![tactic(auto)]
+
 ghost use Rattle.std.specs.Prelude.{◌≡◌, ◌+◌, ◌*◌, ◌/◌, ◌<◌, ◌≤◌};
 ghost use Rattle.std.specs.Int.Count.{ones};
 ghost use Rattle.cellid.specs.CellId.{level_of};

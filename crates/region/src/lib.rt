@@ -1,6 +1,7 @@
 // A region is a cap, a cell or a list of cells, and nothing else: the trait of the Rust's region.rs as an enum, by value. The ids of a list are lent beside it,
 // as `list` wherever a region goes; a cap and a cell heed none. Its domain is refusal 5's test; the look and the bound go by the case.
 #![tactic(auto)]
+
 ghost use Rattle.std.specs.Prelude.{◌≡◌, true, ◌≤◌, ◌<◌, length, take};
 ghost use Rattle.std.specs.Float.Ieee.Scale.{finite};
 ghost use Rattle.cellid.specs.CellId.{Cell, valid_id, level_of};

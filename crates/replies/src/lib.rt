@@ -1,5 +1,6 @@
 // Answers as bytes of a buffer: each function writes from a place on, as long as there is room, and answers the place after.
 #![tactic(auto)]
+
 ghost use Rattle.std.specs.Prelude.{◌≡◌, ◌++◌};
 ghost use Rattle.text.specs.Text.{bytes_of, field_no};
 ghost use Rattle.tokens.specs.Tokens.{name_of};

@@ -1,5 +1,6 @@
 // A line of `cover`, answered: what it asks is asked of the coverer, whatever its kind, by the engines that it names, and the answer is written.
 #![tactic(auto)]
+
 mod line;
 
 ghost use Rattle.std.specs.Prelude.{true, ◌≡◌, length, ◌+◌, ◌*◌, ◌≤◌};

@@ -1,6 +1,7 @@
 // A request answered by the quick engine, by the plain one, or by both, one after the other, with a look whether they agree: the hall's self-test. The two are
 // proved to agree on every request, so that a disagreement, on a machine, tells of a fault of that machine.
 #![tactic(auto)]
+
 ghost use Rattle.std.specs.Prelude.{true, ◌≡◌, ◌≤◌, min, length, take};
 ghost use Rattle.cellunion.specs.Memory.{zeros, laid};
 ghost use Rattle.covering.specs.Covering.{result_of, Answered};

@@ -2,6 +2,7 @@
 // stretch becomes its largest cells. What is refused leaves the output as it was, so nothing is written before it is known that there is room: where the
 // lists' lengths don't tell, a sweep of its own counts. No memory is asked for.
 #![tactic(auto)]
+
 ghost use Rattle.std.specs.Prelude.{◌≡◌, true, ◌+◌, ◌≤◌, min, length, drop, leb};
 ghost use Rattle.std.proofs.lemmas.List.Edits.{sets};
 ghost use Rattle.cellid.specs.CellId.{Cell};

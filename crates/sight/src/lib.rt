@@ -1,5 +1,6 @@
 // One look at a cell: what the cell is to a region, in one of three answers, and what the looks at four children are together. The look by a region that is a cell is here too.
 #![tactic(auto)]
+
 ghost use Rattle.std.specs.Prelude.{◌≡◌, ◌&&◌, ◌≤◌, ◌<◌};
 ghost use Rattle.cellid.specs.CellId.{Cell, level_of, holds, meets};
 ghost use Rattle.sight.specs.Sight.{sight_of, passes, is_inside, weight_of, four_bits, four_sights, sights_of};

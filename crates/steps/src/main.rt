@@ -4,6 +4,7 @@
 // of the lines nothing is promised. Every step is run anew from the start cells, so a run of n steps costs what n * n / 2 steps cost. out= and tokens= make no
 // difference: ids are always written as 16 digits.
 #![tactic(auto)]
+
 ghost use Rattle.std.specs.Prelude.{◌+◌, ◌*◌, ◌≤◌, length};
 ghost use Rattle.input.specs.Feed.{Ready};
 

@@ -2,6 +2,7 @@
 // (u, v) in -1 to 1, in which a face is a plane. Every operation is the Rust's s2/stuv.rs, in its order,
 // rounded once; floats may be anything, a face over 5 is barred.
 #![tactic(auto)]
+
 ghost use Rattle.std.specs.Prelude.{◌≡◌, cond, ◌+◌, ◌<◌};
 ghost use Rattle.std.specs.Float.Ieee.{lt};
 ghost use Rattle.point.specs.Floats.{zero_f};

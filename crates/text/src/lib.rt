@@ -2,6 +2,7 @@
 // A line is fields parted by blanks. What is read comes with the place after it; a fault once found is handed on, so a line is read with no
 // branches, and what is wrong with it is the first fault from the left. A number over its limit is told and never wraps.
 #![tactic(auto)]
+
 ghost use Rattle.std.specs.Prelude.{◌≡◌, ◌+◌, ◌*◌, ◌<◌, ◌≤◌, min, true, false, length, drop, if◌then◌else◌, nat_lt};
 ghost use Rattle.text.specs.Text.{digit_of, all_digits, value_from, faulty, limited, number_as, number_in, is_blank, leading, until, field_at, field_no, same, bytes_of, place_among, Spells, Stopped, field_as, number_after, numbers_after, list_after, ReadList, choice_after, is_at, end_after, is_plain, all_plain, is_silent, start_of};
 

@@ -1,6 +1,7 @@
 // An id's name, its sixteen hexadecimal digits or its token, and lists of ids as texts with a name a line: written, and read back. Each way takes one pass that
 // looks and one that writes: what is refused leaves the output as it was, so nothing is written before all is seen. No memory is asked for.
 #![tactic(auto)]
+
 ghost use Rattle.std.specs.Prelude.{◌≡◌, ◌+◌, ◌^◌, ◌≤◌, ◌<◌, min, length};
 ghost use Rattle.std.proofs.lemmas.List.Edits.{sets};
 ghost use Rattle.io.specs.Digits.{last_digits};

@@ -1,5 +1,6 @@
 // Six totals, one for each start cell of a run by its place, 0 to 5: paper 02, h, "six totals in place of one, zero where there is no such start cell".
 #![tactic(auto)]
+
 ghost use Rattle.std.specs.Prelude.{◌≡◌, ◌<◌};
 ghost use Rattle.totals.specs.Totals.{no_totals, total_at, with_total, same_totals};
 

@@ -1,5 +1,6 @@
 // Four levels of the Hilbert curve at once: for four positions, where they lead from each of the four rows.
 #![tactic(auto)]
+
 ghost use Rattle.std.specs.Prelude.{◌≡◌, ◌<◌};
 ghost use Rattle.turns.specs.Table.{turns_word};
 

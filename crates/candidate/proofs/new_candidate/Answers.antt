@@ -1,0 +1,32 @@
+-- `new_candidate` meets its contract: one look says what the cell is to the run.
+use mathlib.Core.Path.{sym, ap, ◌∙◌}
+use Rattle.cellid.proofs.Laws.{level_le}
+use Rattle.region.specs.Region.{area_of}
+use Rattle.candidate.specs.Candidate.{task_of, candidate_of}
+use Rattle.candidate.proofs.Siblings.{seen_as}
+use borrow.Author.Rules.{rules}
+use Rattle.candidate.proofs.new_candidate.Goals as goal
+
+pub crossing-c-requires : goal.crossing-c-requires
+crossing-c-requires c = (rw c.level-level.ensures (level_le c.args.id), c.requires.asks.few)
+
+pub returns-in-Outside : goal.returns-in-Outside
+unfolding candidate_of
+returns-in-Outside c =
+    let s = c in
+    let z = s.args in
+    ap candidate_of (seen_as (task_of z.q (area_of z.g z.list.now)) z.id _ _ _ s.level-level.ensures s.asks_whole.ensures (sym c.in-Outside.is ∙ s.look_at-s.ensures))
+
+pub returns-in-Crossing : goal.returns-in-Crossing
+unfolding candidate_of
+returns-in-Crossing c =
+    let s = c in
+    let z = s.args in
+    s.crossing-c.ensures ∙ ap candidate_of (seen_as (task_of z.q (area_of z.g z.list.now)) z.id _ _ _ s.level-level.ensures s.asks_whole.ensures (sym c.in-Crossing.is ∙ s.look_at-s.ensures))
+
+pub returns-in-Inside : goal.returns-in-Inside
+unfolding candidate_of
+returns-in-Inside c =
+    let s = c in
+    let z = s.args in
+    ap candidate_of (seen_as (task_of z.q (area_of z.g z.list.now)) z.id _ _ _ s.level-level.ensures s.asks_whole.ensures (sym c.in-Inside.is ∙ s.look_at-s.ensures))

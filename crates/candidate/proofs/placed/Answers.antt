@@ -1,0 +1,28 @@
+-- `placed` meets its contract: an or of parts that don't overlap is their sum.
+use native.Mathlib.Nat.{lt_trans}
+use lib.Dec.{lit<}
+use Rattle.run.specs.Masks.{place_in}
+use Rattle.candidate.proofs.Laws.{shift_lt, mask_or}
+use Rattle.candidate.proofs.placed.Goals as goal
+
+pub overflow_mul-result : goal.overflow_mul-result
+overflow_mul-result c = record { fits = lt_trans (shift_lt c.args.width c.args.k c.requires.wide c.requires.four) (lit< tt) }
+
+pub overflow_shl-result : goal.overflow_shl-result
+overflow_shl-result c = shift_lt _ _ c.requires.wide c.requires.four
+
+pub overflow_mul-result-2 : goal.overflow_mul-result-2
+overflow_mul-result-2 c = record { fits = lt_trans (shift_lt c.args.width c.args.k c.requires.wide c.requires.four) (lit< tt) }
+
+pub overflow_shl-result-2 : goal.overflow_shl-result-2
+overflow_shl-result-2 c = shift_lt _ _ c.requires.wide c.requires.four
+
+pub returns : goal.returns
+unfolding place_in
+returns c =
+    let z = c in
+    let p = z.requires in
+    rw (
+      mask_or z.args.acc.present z.args.f.present z.args.width z.args.k p.wide p.four p.present p.presents,
+      mask_or z.args.acc.terminal z.args.f.terminal z.args.width z.args.k p.wide p.four p.terminal p.terminals,
+    )

@@ -1,0 +1,6 @@
+-- `cap::held` meets its contract.
+use borrow.Author.Rules.{rules}
+use Rattle.cap.proofs.held.Goals as goal
+
+pub returns : goal.returns
+returns c = rw (c.mark.ensures, c.contains_point.ensures)

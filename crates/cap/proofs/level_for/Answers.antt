@@ -1,0 +1,20 @@
+use Rattle.cap.specs.Bound.{thresholds, level_in, level_for}
+use mathlib.Core.Path.{◌≡◌, sym}
+use Prim.Native.Nat.{◌+◌, ◌-◌, ◌≤◌}
+use lib.ListN.{drop}
+use native.Mathlib.Omega.{arith}
+use Rattle.cap.proofs.BoundLaws.{level_first, level_up, level_here, level_last}
+use borrow.Author.Rules.{rules}
+use Rattle.cap.proofs.level_for.Goals as goal
+
+pub loop-level-init : goal.loop-level-init
+loop-level-init c = (omega arith, level_first _)
+
+pub loop-level-preserved : goal.loop-level-preserved
+loop-level-preserved c = (omega arith, level_up _ _ c.loop-level-test.true c.loop-level.invariant.1 (rw c.threshold.ensures at c.if-radius-threshold.true))
+
+pub returns-else-radius-threshold : goal.returns-else-radius-threshold
+returns-else-radius-threshold c = sym (level_here _ _ c.loop-level-test.true c.loop-level.invariant.1 (rw c.threshold.ensures at c.if-radius-threshold.false))
+
+pub returns : goal.returns
+returns c = let e : c.loop-level.level ≡ 30 = omega arith in sym (level_last _ (rw e at c.loop-level.invariant.1))

@@ -1,0 +1,15 @@
+-- `cap::level_for` meets its contract. The invariant: the thresholds passed, and the level in the rest of the table.
+use Rattle.cap.specs.Bound.{thresholds, level_in, level_for}
+use mathlib.Core.Path.{◌≡◌, sym}
+use Prim.Native.Nat.{◌+◌, ◌-◌, ◌≤◌}
+use lib.ListN.{drop}
+use native.Mathlib.Omega.{arith}
+use Rattle.cap.proofs.BoundLaws.{level_first, level_up, level_here, level_last}
+use borrow.Author.Rules.{rules}
+use Rattle.cap.proofs.level_for.Given as goal
+
+abbrev pub invariant-loop-level : goal.invariant-loop-level
+invariant-loop-level l = (l.level ≤ 30) × (level_for l.radius ≡ l.level + level_in (drop l.level thresholds) l.radius)
+
+abbrev pub decreases-loop-level : goal.decreases-loop-level
+decreases-loop-level l = 30 - l.level

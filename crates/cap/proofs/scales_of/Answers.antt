@@ -1,0 +1,6 @@
+-- `cap::scales_of` meets its contract.
+use borrow.Author.Rules.{rules}
+use Rattle.cap.proofs.scales_of.Goals as goal
+
+pub returns-then-known : goal.returns-then-known
+returns-then-known c = c.requires c.if-known.true

@@ -1,0 +1,21 @@
+-- `cell::quarters_of` meets its contract.
+use Rattle.hilbert.proofs.Laws.{face_ij_in}
+use Rattle.cell.specs.Siblings.{quarters_of}
+use borrow.Author.Rules.{rules}
+use Rattle.cell.proofs.quarters_of.Goals as goal
+
+pub lines_at-x-requires : goal.lines_at-x-requires
+lines_at-x-requires c =
+    let z = c in
+    let f = face_ij_in z.args.id z.requires.0 in
+    (rw c.face_ij_orientation-f.ensures f.i, rw c.level-level.ensures z.requires.1)
+
+pub lines_at-y-requires : goal.lines_at-y-requires
+lines_at-y-requires c =
+    let z = c in
+    let f = face_ij_in z.args.id z.requires.0 in
+    (rw c.face_ij_orientation-f.ensures f.j, rw c.level-level.ensures z.requires.1)
+
+pub returns : goal.returns
+unfolding quarters_of
+returns c = rw (c.lines_at-x.ensures, c.lines_at-y.ensures, c.level-level.ensures, c.face_ij_orientation-f.ensures)

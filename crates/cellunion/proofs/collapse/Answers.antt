@@ -1,0 +1,25 @@
+use mathlib.Core.Path.{refl}
+use mathlib.Core.Logic.{⊎_elim}
+use native.Mathlib.Omega.{arith}
+use lib.ListN.{length-set}
+use Rattle.cellunion.proofs.Runs.{Going, siblings_ask, below_face, collapse_turn, collapse_stop, collapse_low, collapse_done}
+use Rattle.cellunion.proofs.collapse.Goals as goal
+
+pub loop-left-init : goal.loop-left-init
+loop-left-init c = record { within = omega arith; room = c.requires.0; topped = c.requires.1; same = refl }
+
+pub are_siblings-requires : goal.are_siblings-requires
+are_siblings-requires c = siblings_ask _ _ _ _ _ c.loop-left.invariant c.loop-left-test.true
+
+pub immediate_parent-top-requires : goal.immediate_parent-top-requires
+immediate_parent-top-requires c = below_face _ _ _ _ c.loop-left.invariant.topped.cell _ c.are_siblings.ensures c.if-not-are_siblings.false
+
+pub loop-left-preserved : goal.loop-left-preserved
+loop-left-preserved c = collapse_turn _ _ _ _ _ _ _ c.loop-left.invariant c.loop-left-test.true c.are_siblings.ensures c.if-not-are_siblings.false c.immediate_parent-top.ensures
+
+pub shape_of-mem : goal.shape_of-mem
+shape_of-mem c = simp length-set
+
+pub returns : goal.returns
+returns c =
+    collapse_done _ _ _ _ _ c.loop-left.invariant (⊎_elim (λ w. collapse_low _ _ _ w.left) (λ w. collapse_stop _ _ _ _ w.0.taken w.4.ensures w.5.taken) c.loop-left-test.branch)

@@ -1,0 +1,13 @@
+-- `cellunion::lay`: there is no room, or the words are copied.
+use borrow.Author.Rules.{rules}
+use Rattle.cellunion.proofs.Memory.{lay_done, lay_none}
+use Rattle.cellunion.proofs.lay.Goals as goal
+
+pub returns-then-out-n : goal.returns-then-out-n
+returns-then-out-n c = lay_none _ _ _ c.requires c.if-out-n.true
+
+pub returns : goal.returns
+returns c =
+    let k = c in
+    let t = k in
+    lay_done _ _ _ _ t.requires t.if-out-n.false k.copy.ensures

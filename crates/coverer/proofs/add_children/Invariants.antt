@@ -1,0 +1,34 @@
+-- `coverer::add_children` meets its contract. The invariant: the children from j on are what is left of the definition's additions.
+use Rattle.coverer.specs.Coverer.{course_of}
+use Rattle.run.specs.Run.{add_all}
+use Rattle.run.specs.Ground.{ChildOk}
+use Rattle.run.specs.declared.Request.{Request}
+use Prim.Native.Nat.{ℕ, ◌+◌, ◌-◌, ◌≤◌, ◌<◌}
+use Rattle.candidate.specs.Candidate.{task_of, Asks}
+use Rattle.coverer.proofs.Adds.{domain, Waiting, waiting_one, waiting_next, children_then, children_over}
+use Rattle.coverer.proofs.Stands.{Goes, goes_start, goes_turn, goes_stop, goes_end}
+use Rattle.coverer.specs.Engine.{AsideUpTo, child_if, children_from, leaves_in, Does}
+use Rattle.coverer.specs.declared.Brood.{Brood}
+use Rattle.coverer.specs.declared.Counts.{Counts}
+use Rattle.coverer.specs.declared.Turn.{Turn}
+use Rattle.queue.specs.declared.Engine.{Engine}
+use Rattle.region.specs.Region.{Area, area_of}
+use borrow.Author.Rules.{rules}
+use lib.ListN.{length}
+use mathlib.Core.List.{List}
+use mathlib.Core.Path.{◌≡◌, refl, ◌∙◌, subst}
+use native.Mathlib.Omega.{arith}
+use Rattle.coverer.proofs.add_children.Given as goal
+
+pub record Inv (e : Engine) (q : Request) (a : Area) (b : Brood) (places : ℕ) (m₀ : List ℕ) (t₀ : Counts) (m : List ℕ) (t : Counts) (j : ℕ) : Type 0 where
+  pub all : places ≡ b.places
+  pub within : j ≤ places
+  pub long : length m ≡ length m₀
+  pub waits : Waiting (ChildOk (task_of q a)) t (children_from b j)
+  pub goes : Goes e (task_of q a) b.from (add_all (course_of q a) b.from (children_from b 0)) (add_all (course_of q a) b.from (children_from b j)) m₀ t₀ m t
+
+abbrev pub invariant-loop-j : goal.invariant-loop-j
+invariant-loop-j l = Inv l.e l.q (area_of l.g l.list) l.b l.places l.initial.m l.initial.t l.m l.t l.j
+
+abbrev pub decreases-loop-j : goal.decreases-loop-j
+decreases-loop-j l = l.places - l.j

@@ -1,0 +1,90 @@
+use Rattle.run.specs.declared.Request.{Request}
+use Prim.Native.Nat.{ℕ, ◌-◌, ◌≤◌, ◌<◌}
+use Rattle.candidate.specs.Candidate.{task_of}
+use Rattle.coverer.proofs.Runs.{Starting, starting, starting_turn, starting_stop, starting_end}
+use Rattle.coverer.specs.declared.Tally.{Tally}
+use Rattle.order.specs.Order.{All}
+use Rattle.order.proofs.OrderLaws.{all_get}
+use Rattle.queue.specs.declared.Engine.{Engine}
+use Rattle.region.specs.Region.{Area, area_of}
+use Rattle.run.proofs.Totals.{leaves_le}
+use Rattle.run.specs.Ground.{Fit}
+use borrow.Author.Rules.{rules}
+use lib.ListN.{length, get_or, take}
+use lib.Seq.{get_or-take, length-take-le}
+use mathlib.Core.List.{List}
+use mathlib.Core.Path.{◌≡◌, refl, sym, ◌∙◌, subst}
+use native.Mathlib.Omega.{arith}
+use Rattle.coverer.proofs.initial_candidates.Invariants.{Inv}
+use Rattle.coverer.proofs.initial_candidates.Goals as goal
+
+-- the i-th of the start cells
+inside : (count i : ℕ) (ids : List ℕ) → i < count → count ≤ 6 → length ids ≡ 6 → i < length (take count ids)
+inside count i ids h six wide = rw (length-take-le count ids (omega arith)) h
+
+cell : (q : Request) (count i : ℕ) (ids : List ℕ) → i < count → count ≤ 6 → length ids ≡ 6 → All (Fit q) (take count ids) → Fit q (get_or ids i 0)
+cell q count i ids h six wide a = subst (Fit q) (get_or-take count ids i 0 h) (all_get (Fit q) (take count ids) 0 i (inside count i ids h six wide) a)
+
+pub shape_of-m : goal.shape_of-m
+shape_of-m c = c.loop-i.invariant.long
+
+pub loop-i-init : goal.loop-i-init
+loop-i-init c =
+    let z = c in
+    record { within = omega arith; six = z.requires.count_bound; wide = omega arith; long = refl; starting = rw c.none-aside.ensures (starting _ _ _ _) }
+
+pub bounds-ids-i : goal.bounds-ids-i
+bounds-ids-i c = let I = c.loop-i.invariant in
+    omega (arith, I.six, I.wide)
+
+pub start-turn-requires : goal.start-turn-requires
+start-turn-requires c =
+    let test = c in
+    let I = test.loop-i.invariant in
+    let z = test in
+    let F = cell _ _ _ _ test.loop-i-test.true I.six I.wide z.requires.all in
+    record {
+      memory_words_in_bounds = omega (arith, z.requires.memory_words_in_bounds, I.long);
+      asks = z.requires.asks;
+      from_lt_places_most = omega (arith, I.six, test.loop-i-test.true);
+      fit = F;
+      id_bound = omega (arith, leaves_le (get_or z.args.t6 test.loop-i.i 0));
+    }
+
+pub end_turn-r-requires : goal.end_turn-r-requires
+end_turn-r-requires c =
+    let test = c in
+    omega (arith, test.loop-i.invariant.six, test.loop-i-test.true)
+
+pub shape_of-m-in-Refused : goal.shape_of-m-in-Refused
+shape_of-m-in-Refused c = c.start-turn.auto.0 ∙ c.loop-i.invariant.long
+
+pub returns-in-Refused : goal.returns-in-Refused
+returns-in-Refused c =
+    let ended = c in
+    let begun = ended in
+    let test = begun in
+    let I = test.loop-i.invariant in
+    let h = test.loop-i-test.true in
+    starting_stop _ _ _ _ _ _ _ _ _ _ _ (inside _ _ _ h I.six I.wide) (omega (arith, I.six, h)) (sym (get_or-take _ _ _ 0 h)) begun.start-turn.ensures ended.end_turn-r.ensures I.starting _ c.in-Refused.is
+
+pub loop-i-preserved : goal.loop-i-preserved
+loop-i-preserved c =
+    let ended = c in
+    let begun = ended in
+    let test = begun in
+    let I = test.loop-i.invariant in
+    let h = test.loop-i-test.true in
+    record {
+      within = omega arith;
+      six = I.six;
+      wide = I.wide;
+      long = begun.start-turn.auto.0 ∙ I.long;
+      starting = starting_turn _ _ _ _ _ _ _ _ _ _ _ (inside _ _ _ h I.six I.wide) (omega (arith, I.six, h)) (sym (get_or-take _ _ _ 0 h)) begun.start-turn.ensures ended.end_turn-r.ensures I.starting _ c.in-Going.is;
+    }
+
+pub returns : goal.returns
+returns c =
+    let I = c.loop-i.invariant in
+    let n : c.loop-i.i ≡ c.args.count = omega (arith, I.within, c.loop-i-test.false) in
+    starting_end _ _ _ _ _ _ _ (n ∙ sym (length-take-le _ _ (omega (arith, I.six, I.wide)))) I.starting

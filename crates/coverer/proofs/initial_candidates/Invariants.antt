@@ -1,0 +1,32 @@
+-- `coverer::initial_candidates` meets its contract. The invariant: the start cells from i on are what is left of the definition's start.
+use Rattle.run.specs.declared.Request.{Request}
+use Prim.Native.Nat.{ℕ, ◌-◌, ◌≤◌, ◌<◌}
+use Rattle.candidate.specs.Candidate.{task_of}
+use Rattle.coverer.proofs.Runs.{Starting, starting, starting_turn, starting_stop, starting_end}
+use Rattle.coverer.specs.declared.Tally.{Tally}
+use Rattle.order.specs.Order.{All}
+use Rattle.order.proofs.OrderLaws.{all_get}
+use Rattle.queue.specs.declared.Engine.{Engine}
+use Rattle.region.specs.Region.{Area, area_of}
+use Rattle.run.proofs.Totals.{leaves_le}
+use Rattle.run.specs.Ground.{Fit}
+use borrow.Author.Rules.{rules}
+use lib.ListN.{length, get_or, take}
+use lib.Seq.{get_or-take, length-take-le}
+use mathlib.Core.List.{List}
+use mathlib.Core.Path.{◌≡◌, refl, sym, ◌∙◌, subst}
+use native.Mathlib.Omega.{arith}
+use Rattle.coverer.proofs.initial_candidates.Given as goal
+
+pub record Inv (e : Engine) (q : Request) (a : Area) (count : ℕ) (ids m₀ m : List ℕ) (t : Tally) (i : ℕ) : Type 0 where
+  pub within : i ≤ count
+  pub six : count ≤ 6
+  pub wide : length ids ≡ 6
+  pub long : length m ≡ length m₀
+  pub starting : Starting e (task_of q a) (take count ids) m₀ m t i
+
+abbrev pub invariant-loop-i : goal.invariant-loop-i
+invariant-loop-i l = Inv l.e l.q (area_of l.g l.list) l.count l.ids l.initial.m l.m l.t l.i
+
+abbrev pub decreases-loop-i : goal.decreases-loop-i
+decreases-loop-i l = l.count - l.i

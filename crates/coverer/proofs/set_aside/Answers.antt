@@ -1,0 +1,11 @@
+-- `coverer::set_aside` meets its contract.
+use Rattle.coverer.proofs.Stands.{aside_in, aside_out}
+use borrow.Author.Rules.{rules}
+use mathlib.Core.Path.{sym}
+use Rattle.coverer.proofs.set_aside.Goals as goal
+
+pub returns-then-q : goal.returns-then-q
+returns-then-q c = sym (aside_in _ _ _ c.if-q.true)
+
+pub returns : goal.returns
+returns c = sym (aside_out _ _ _ c.if-q.false)

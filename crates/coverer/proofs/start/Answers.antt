@@ -1,0 +1,52 @@
+-- `coverer::start` meets its contract.
+use Rattle.cellid.proofs.Laws.{cell_pos}
+use Rattle.coverer.proofs.Adds.{low_leaves}
+use Rattle.coverer.proofs.Runs.{start_kept_ok, start_queued_ok, start_kept, start_queued, start_none}
+use borrow.Author.Rules.{rules}
+use native.Mathlib.Omega.{arith}
+use Rattle.coverer.proofs.start.Goals as goal
+
+pub add_candidate-requires : goal.add_candidate-requires
+add_candidate-requires c =
+    let z = c in
+    record {
+      memory_words_in_bounds = z.requires.memory_words_in_bounds;
+      asks = z.requires.asks;
+      from_lt_places_most = z.requires.from_lt_places_most;
+      child_ok = start_kept_ok _ _ _ c.new_candidate-c.ensures z.requires.fit c.in-Kept.is;
+      id_bound = z.requires.id_bound;
+    }
+
+pub add_candidate-requires-in-Queued : goal.add_candidate-requires-in-Queued
+add_candidate-requires-in-Queued c =
+    let z = c in
+    record {
+      memory_words_in_bounds = z.requires.memory_words_in_bounds;
+      asks = z.requires.asks;
+      from_lt_places_most = z.requires.from_lt_places_most;
+      child_ok = start_queued_ok _ _ _ c.new_candidate-c.ensures z.requires.fit c.in-Queued.is;
+      id_bound = z.requires.id_bound;
+    }
+
+pub lsb-requires : goal.lsb-requires
+lsb-requires c = cell_pos _ _ _ c.requires.fit.cell
+
+pub set_aside-requires : goal.set_aside-requires
+set_aside-requires c =
+    let z = c in
+    omega (arith, c.lsb.ensures, low_leaves z.args.id z.requires.fit.cell, z.requires.id_bound)
+
+pub returns-in-Kept : goal.returns-in-Kept
+returns-in-Kept c =
+    let d = c.add_candidate in
+    start_kept _ _ _ _ _ _ _ c.new_candidate-c.ensures _ _ c.in-Kept.is d.ensures.0
+
+pub returns-in-Queued : goal.returns-in-Queued
+returns-in-Queued c =
+    let d = c.add_candidate-in-Queued in
+    start_queued _ _ _ _ _ _ _ c.new_candidate-c.ensures _ _ c.in-Queued.is d.ensures.0
+
+pub returns-in-None : goal.returns-in-None
+returns-in-None c =
+    let z = c in
+    start_none _ _ _ _ _ _ _ _ _ z.requires.fit c.new_candidate-c.ensures c.in-None.is c.lsb.ensures c.set_aside.ensures

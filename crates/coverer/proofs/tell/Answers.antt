@@ -1,0 +1,19 @@
+-- `coverer::tell` meets its contract: the kept ids, then the queue; or there is no room.
+use mathlib.Core.Path.{refl}
+use Rattle.coverer.proofs.Watching.{told, told_not}
+use borrow.Author.Rules.{rules}
+use Rattle.coverer.proofs.tell.Goals as goal
+
+pub returns-then-kept-queued : goal.returns-then-kept-queued
+returns-then-kept-queued c =
+    let q = c.list_queue in
+    record {
+      value = λ T s H. told _ T _ _ s _ c.requires.0 H _ _ c.if-kept-queued.true c.lay_raw.ensures q.ensures.0;
+      m_unchanged = q.ensures.1;
+    }
+
+pub returns-else-kept-queued : goal.returns-else-kept-queued
+returns-else-kept-queued c = record {
+  value = λ T s H. told_not _ T _ _ s _ c.requires.0 H c.if-kept-queued.false;
+  m_unchanged = refl;
+}

@@ -1,0 +1,15 @@
+-- `covering::finish` meets its contract: the list is laid from the part of the memory that holds the raw list, then its words are cleared. Assumes nothing.
+use Rattle.covering.proofs.Answers.{lay_asks, finish_gives}
+use borrow.Author.Rules.{rules}
+use Rattle.covering.proofs.finish.Goals as goal
+
+pub lay_list-laid-requires : goal.lay_list-laid-requires
+lay_list-laid-requires c =
+    let s = c in
+    lay_asks s.args.e s.args.c _ _ s.requires.memory_words_in_bounds
+
+pub returns : goal.returns
+returns c =
+    let l = c in
+    let z = l.requires in
+    finish_gives _ _ _ _ z.0 z.1 _ _ _ _ _ _ _ _ l.lay_list-laid.ensures c.laid_answer.ensures c.clear.ensures

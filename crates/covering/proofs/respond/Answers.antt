@@ -1,0 +1,18 @@
+-- `covering::respond` meets its contract: a request that is barred, or what it comes to. Assumes nothing.
+use mathlib.Core.Path.{sym, ◌∙◌}
+use Rattle.covering.specs.Covering.{result_of}
+use Rattle.covering.proofs.Answers.{answered_barred, answered_open}
+use borrow.Author.Rules.{rules}
+use Rattle.covering.proofs.respond.Goals as goal
+
+pub come_to-requires : goal.come_to-requires
+come_to-requires c = sym c.first_refusal-first.ensures ∙ c.in-Open.is
+
+pub returns-in-Open : goal.returns-in-Open
+unfolding result_of
+returns-in-Open c =
+    answered_open _ _ _ _ _ _ _ (sym c.first_refusal-first.ensures ∙ c.in-Open.is) c.come_to.ensures
+
+pub returns-in-Barred : goal.returns-in-Barred
+unfolding result_of
+returns-in-Barred c = answered_barred _ _ _ _ _ _ (sym c.first_refusal-first.ensures ∙ c.in-Barred.is) c.refuse.ensures

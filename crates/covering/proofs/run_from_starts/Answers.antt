@@ -1,0 +1,30 @@
+-- `covering::run_from_starts` meets its contract: the start cells are as the run asks. Assumes nothing.
+use mathlib.Core.Path.{refl}
+use Rattle.bars.proofs.Early.{early_none}
+use Rattle.covering.proofs.Starts.{valid_domain, run_asks, run_gives}
+use borrow.Author.Rules.{rules}
+use Rattle.covering.proofs.run_from_starts.Goals as goal
+
+pub starts-starts-requires : goal.starts-starts-requires
+starts-starts-requires c =
+    let v = early_none _ _ _ c.requires in
+    (valid_domain _ _ _ v, v.region, v.long)
+
+pub run-requires : goal.run-requires
+run-requires c =
+    let b = c in
+    let z = b in
+    let a = run_asks _ _ _ (early_none _ _ _ z.requires) z.args.inner _ _ _ b.starts-starts.ensures.count_value.0 b.starts-starts.ensures.count_value.1 _ b.starts-starts.auto.1.1.1.0 in
+    record {
+      memory_words_in_bounds = a.0;
+      asks = a.1;
+      count_bound = a.2;
+      all = a.3;
+    }
+
+pub returns : goal.returns
+returns c =
+    let r = c in
+    let b = r in
+    let z = b in
+    run_gives _ _ _ (early_none _ _ _ z.requires) z.args.inner _ _ _ b.starts-starts.ensures.count_value.0 b.starts-starts.ensures.count_value.1 _ _ _ _ _ refl b.starts-starts.auto.1.1.1.0 b.starts-starts.ensures.mem_after (r.run.ensures.value, r.run.ensures.mem_after)

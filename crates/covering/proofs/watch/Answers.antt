@@ -1,0 +1,11 @@
+-- `covering::watch` meets its contract: a request that is barred, or its run as it stands. Assumes nothing.
+use mathlib.Core.Path.{sym, ◌∙◌}
+use Rattle.covering.proofs.Watching.{watched_barred}
+use borrow.Author.Rules.{rules}
+use Rattle.covering.proofs.watch.Goals as goal
+
+pub watch_from_starts-requires : goal.watch_from_starts-requires
+watch_from_starts-requires c = sym c.first_refusal-first.ensures ∙ c.in-Open.is
+
+pub returns-in-Barred : goal.returns-in-Barred
+returns-in-Barred c = watched_barred _ _ _ _ _ _ _ (sym c.first_refusal-first.ensures ∙ c.in-Barred.is)

@@ -1,0 +1,23 @@
+-- `fast::adjust_level` meets its contract. Assumes nothing.
+use mathlib.Core.Path.{sym}
+use Prim.Native.Nat.{◌-◌}
+use native.Mathlib.Nat.{mod-le}
+use native.Mathlib.Omega.{arith}
+use borrow.Author.Rules.{rules}
+use Rattle.fast.proofs.Levels.{adjusted_low, adjusted_high, adjusted_one}
+use Rattle.fast.proofs.adjust_level.Goals as goal
+
+pub overflow_sub-result-then-c-level : goal.overflow_sub-result-then-c-level
+overflow_sub-result-then-c-level c =
+    let t = c in
+    let s = t.args in
+    omega (arith, mod-le (s.level - s.c.min_level) s.c.level_mod, t.if-c-level.true)
+
+pub returns-then-c-level : goal.returns-then-c-level
+returns-then-c-level c = sym (adjusted_high _ _ _ c.if-c-level.true)
+
+pub returns-else-c-level : goal.returns-else-c-level
+returns-else-c-level c = sym (adjusted_low _ _ _ c.if-c-level.false)
+
+pub returns-else-c-gt1 : goal.returns-else-c-gt1
+returns-else-c-gt1 c = sym (adjusted_one _ _ _ c.requires.some c.if-c-gt1.false)

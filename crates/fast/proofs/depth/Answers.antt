@@ -1,0 +1,30 @@
+-- `fast::depth` meets its contract. Assumes nothing.
+use mathlib.Core.Path.{◌≡◌, sym, ◌∙◌}
+use Prim.Native.Nat.{◌+◌}
+use native.Mathlib.Omega.{arith}
+use borrow.Author.Rules.{rules}
+use Rattle.fast.specs.Fast.{pair_depth}
+use Rattle.fast.proofs.Levels.{pair_small, depth_some, depth_none}
+use Rattle.fast.proofs.depth.Goals.{After-adjust_level}
+use Rattle.fast.proofs.depth.Goals as goal
+
+is-depth : (c : After-adjust_level) →
+    let s = c.args in c.adjust_level.result + 1 ≡ pair_depth s.c.min_level s.c.level_mod s.a s.b
+is-depth c = depth_some _ _ _ _ _ _ (sym c.common_ancestor_level-common.ensures ∙ c.in-Level.is) c.adjust_level.ensures
+
+pub common_ancestor_level-common-requires : goal.common_ancestor_level-common-requires
+common_ancestor_level-common-requires c = record {
+  cell = c.requires.1;
+  cell_2 = c.requires.2;
+}
+
+pub overflow_add-result : goal.overflow_add-result
+overflow_add-result c =
+    let s = c.args in
+    omega (arith, is-depth (goal.at.overflow_add-result c).After-adjust_level, pair_small s.c.min_level s.c.level_mod s.a s.b)
+
+pub returns-in-Level : goal.returns-in-Level
+returns-in-Level c = is-depth (goal.at.returns-in-Level c).After-adjust_level
+
+pub returns-in-Nothing : goal.returns-in-Nothing
+returns-in-Nothing c = depth_none _ _ _ _ (sym c.common_ancestor_level-common.ensures ∙ c.in-Nothing.is)

@@ -1,0 +1,32 @@
+-- `fast::keep_start` meets its contract: the definition's outcomes, one after another. Assumes nothing.
+use mathlib.Core.Path.{sym, ◌∙◌}
+use mathlib.Core.Logic.{⊎_elim, inl, inr}
+use borrow.Author.Rules.{rules}
+use Rattle.cellid.proofs.Laws.{cell_pos}
+use Rattle.cellunion.proofs.Runs.{head_pos}
+use Rattle.fast.proofs.StartTurns.{start_skip, start_swap, Free, start_push}
+use Rattle.fast.proofs.keep_start.Goals as goal
+
+pub contains-requires : goal.contains-requires
+contains-requires c = head_pos _ _ c.requires.1 c.if-k-gt0.true
+
+pub returns-then-contains : goal.returns-then-contains
+returns-then-contains c = start_skip _ _ _ c.if-k-gt0.true (sym c.contains.ensures ∙ c.if-contains.true)
+
+pub contains-requires-then-k-gt0 : goal.contains-requires-then-k-gt0
+contains-requires-then-k-gt0 c = cell_pos _ _ _ c.requires.2.2
+
+pub returns-then-contains-2 : goal.returns-then-contains-2
+returns-then-contains-2 c =
+    let e = c in
+    let t = e in
+    start_swap _ _ _ t.requires.0 t.if-k-gt0.true (sym e.contains.ensures ∙ e.if-contains.false) (sym c.contains-then-k-gt0.ensures ∙ c.if-contains-2.true)
+
+pub returns : goal.returns
+returns c =
+    let s = c in
+    let f : Free s.args.mem.now s.args.k s.args.id = ⊎_elim
+    (λ w. inr (w.0.taken, sym w.2.ensures ∙ w.3.left, sym w.4.ensures ∙ w.5.left))
+    (λ w. inl w.left)
+    c.if-k-gt0.branch in
+    start_push _ _ _ s.requires.0 f

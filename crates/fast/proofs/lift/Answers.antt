@@ -1,0 +1,42 @@
+use mathlib.Core.Path.{◌≡◌, refl, ap, ◌∙◌}
+use Prim.Native.Nat.{ℕ, ◌-◌, min}
+use native.Mathlib.Omega.{arith}
+use borrow.Author.Rules.{rules}
+use Rattle.cellid.specs.CellId.{level_of, parent_at}
+use Rattle.fast.specs.Fast.{adjusted, lifted}
+use Rattle.fast.proofs.Levels.{adjusted_le}
+use Rattle.fast.proofs.Laws.{lifted_all}
+use Rattle.fast.proofs.Turns.{Lifting, lift_none, lift_turn, lift_done}
+use Rattle.fast.proofs.lift.Goals as goal
+
+up_is : (low top step id level least up r : ℕ) → level ≡ level_of id → least ≡ min level top → up ≡ adjusted low step least → r ≡ parent_at id up → r ≡ lifted low top step id
+unfolding lifted
+up_is low top step id level least up r e f g h = h ∙ ap (parent_at id) (g ∙ ap (adjusted low step) (f ∙ ap (λ (l : ℕ). min l top) e))
+
+pub returns-then-takes_all_levels : goal.returns-then-takes_all_levels
+returns-then-takes_all_levels c =
+    let z = c in
+    let k = z.args.c in
+    lift_none (lifted k.min_level k.max_level k.level_mod) z.args.n z.args.mem.now (lifted_all k.min_level k.max_level k.level_mod _ _ z.requires.0.some z.requires.1.1 c.takes_all_levels.ensures c.if-takes_all_levels.true)
+
+pub loop-i-init : goal.loop-i-init
+loop-i-init c = record { within = omega arith; room = c.requires.1.0; len = refl; same = refl }
+
+pub adjust_level-up-requires : goal.adjust_level-up-requires
+adjust_level-up-requires c = c.requires.0
+
+pub parent-requires : goal.parent-requires
+parent-requires c =
+    let s = c in
+    omega (arith, s.requires.0.deep, c.adjust_level-up.ensures, adjusted_le s.args.c.min_level s.args.c.level_mod c.lesser.result, c.lesser.ensures)
+
+pub loop-i-preserved : goal.loop-i-preserved
+loop-i-preserved c =
+    lift_turn _ _ _ _ _ _ c.loop-i.invariant c.loop-i-test.true
+    (up_is _ _ _ _ _ _ _ _ c.level.ensures c.lesser.ensures c.adjust_level-up.ensures c.parent.ensures)
+
+pub shape_of-mem : goal.shape_of-mem
+shape_of-mem c = c.loop-i.invariant.len
+
+pub returns : goal.returns
+returns c = lift_done _ _ _ _ _ c.loop-i.invariant c.loop-i-test.false

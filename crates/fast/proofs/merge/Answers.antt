@@ -1,0 +1,120 @@
+use mathlib.Core.Path.{◌≡◌}
+use mathlib.Core.Logic.{⊎_elim}
+use Prim.Native.Nat.{◌-◌, ◌≤◌}
+use native.Mathlib.Omega.{arith}
+use lib.ListN.{length, take}
+use Rattle.fast.specs.Fast.{best_of}
+use Rattle.fast.proofs.Merging.{merged_short, merged_stop}
+use Rattle.fast.proofs.Scan.{Scanning, scan_start, pair_cells, scan_pass, scan_better, scan_worse, scan_done}
+use Rattle.fast.proofs.Turns.{Going, going_start, going_size, going_done, scanned, turn_place, turn_level, turn_wide, going_turn}
+use Rattle.fast.proofs.merge.Invariants.{best}
+use Rattle.fast.proofs.merge.Goals.{After-scan, In-merge}
+use Rattle.fast.proofs.merge.Goals as goal
+
+room : (h : In-merge) → h.merge.k ≤ length h.merge.mem
+room h = let G = h.merge.invariant in omega (arith, G.within, G.len, G.room)
+
+pub merge-init : goal.merge-init
+merge-init c = let s = c in going_start _ _ _ _ _ s.requires.1 s.requires.2
+
+pub scan-init : goal.scan-init
+scan-init c = scan_start _ _ _ _
+
+pub overflow_add-i : goal.overflow_add-i
+overflow_add-i c = omega (arith, c.scan.invariant.within, room (goal.at.overflow_add-i c).In-merge)
+
+pub offset_bounds-mem-i : goal.offset_bounds-mem-i
+offset_bounds-mem-i c = omega (arith, room (goal.at.offset_bounds-mem-i c).In-merge)
+
+pub bounds-mem-i : goal.bounds-mem-i
+bounds-mem-i c = omega (arith, room (goal.at.bounds-mem-i c).In-merge)
+
+pub overflow_add-b : goal.overflow_add-b
+overflow_add-b c = omega (arith, room (goal.at.overflow_add-b c).In-merge)
+
+pub offset_bounds-mem-i-in-scan : goal.offset_bounds-mem-i-in-scan
+offset_bounds-mem-i-in-scan c = omega (arith, room (goal.at.offset_bounds-mem-i-in-scan c).In-merge)
+
+pub bounds-mem-i-in-scan : goal.bounds-mem-i-in-scan
+bounds-mem-i-in-scan c = omega (arith, room (goal.at.bounds-mem-i-in-scan c).In-merge)
+
+pub depth-d-requires : goal.depth-d-requires
+depth-d-requires c =
+    let t = c in
+    let s = t in
+    let at = s in
+    let z = at in
+    let N = at.merge.invariant.normal in
+    let C = pair_cells z.args.c.min_level z.args.c.level_mod z.requires.0.some _ _ (room (goal.at.depth-d-requires c).In-merge) N.cells N.apart _ _ _ s.scan.invariant t.scan-test.true in
+    (z.requires.0, C.0, C.1)
+
+pub overflow_add-i-in-scan : goal.overflow_add-i-in-scan
+overflow_add-i-in-scan c = omega (arith, c.scan-test.true, room (goal.at.overflow_add-i-in-scan c).In-merge)
+
+pub scan-smaller : goal.scan-smaller
+scan-smaller c = omega (arith, c.scan-test.true)
+
+pub scan-preserved : goal.scan-preserved
+scan-preserved c =
+    let t = c in
+    let s = t in
+    let at = s in
+    let z = at in
+    let N = at.merge.invariant.normal in
+    ⊎_elim
+    (λ w. rw (w.4, w.5) (scan_better _ _ z.requires.0.some _ _ (room (goal.at.scan-preserved c).In-merge) N.cells N.apart _ _ _ s.scan.invariant t.scan-test.true _ w.1.ensures w.3.taken))
+    (⊎_elim
+    (λ w. rw (w.4, w.5) (scan_worse _ _ z.requires.0.some _ _ (room (goal.at.scan-preserved c).In-merge) N.cells N.apart _ _ _ s.scan.invariant t.scan-test.true _ w.1.ensures w.3.left))
+    (λ w. rw (w.1, w.2) (scan_pass _ _ z.requires.0.some _ _ (room (goal.at.scan-preserved c).In-merge) N.cells N.apart _ _ _ s.scan.invariant t.scan-test.true w.0.left)))
+    c.if-a-b.branch
+
+pub offset_bounds-mem-at : goal.offset_bounds-mem-at
+offset_bounds-mem-at c = omega (arith, turn_place _ _ _ _ _ _ _ c.merge.invariant _ (best (goal.at.offset_bounds-mem-at c).After-scan) c.if-deepest-low.false, room (goal.at.offset_bounds-mem-at c).In-merge)
+
+pub bounds-mem-at : goal.bounds-mem-at
+bounds-mem-at c = omega (arith, turn_place _ _ _ _ _ _ _ c.merge.invariant _ (best (goal.at.bounds-mem-at c).After-scan) c.if-deepest-low.false, room (goal.at.bounds-mem-at c).In-merge)
+
+pub overflow_sub-deepest : goal.overflow_sub-deepest
+overflow_sub-deepest c = omega (arith, c.if-deepest-low.false)
+
+pub parent-wide-requires : goal.parent-wide-requires
+parent-wide-requires c = omega (arith, turn_level _ _ _ _ _ _ _ c.merge.invariant _ (best (goal.at.parent-wide-requires c).After-scan) c.if-deepest-low.false)
+
+pub widen-k-requires : goal.widen-k-requires
+widen-k-requires c =
+    let e = c in
+    let at = e in
+    let w = turn_wide _ _ _ _ _ _ _ at.merge.invariant _ (best (goal.at.widen-k-requires c).After-scan) e.if-deepest-low.false _ c.parent-wide.ensures in
+    (room (goal.at.widen-k-requires c).In-merge, at.merge.invariant.normal, omega (arith, turn_place _ _ _ _ _ _ _ at.merge.invariant _ (best (goal.at.widen-k-requires c).After-scan) e.if-deepest-low.false), w.0, w.1)
+
+pub merge-smaller : goal.merge-smaller
+merge-smaller c =
+    let w = c in
+    let p = w in
+    let e = p in
+    let at = e in
+    (going_turn _ _ _ _ _ _ _ at.merge.invariant _ (best (goal.at.merge-smaller c).After-scan) e.if-deepest-low.false _ p.parent-wide.ensures _ _ e.merge-test.true w.widen-k.ensures.0 w.widen-k.ensures.1).0
+
+pub merge-preserved : goal.merge-preserved
+merge-preserved c =
+    let w = c in
+    let p = w in
+    let e = p in
+    let at = e in
+    (going_turn _ _ _ _ _ _ _ at.merge.invariant _ (best (goal.at.merge-preserved c).After-scan) e.if-deepest-low.false _ p.parent-wide.ensures _ _ e.merge-test.true w.widen-k.ensures.0 w.widen-k.ensures.1).1
+
+pub shape_of-mem-after-merge : goal.shape_of-mem-after-merge
+shape_of-mem-after-merge c = c.merge.invariant.len
+
+pub returns-after-merge : goal.returns-after-merge
+returns-after-merge c =
+    let G = c.merge.invariant in
+    going_done _ _ _ _ _ _ _ G (merged_short _ _ _ G.fuel _ (omega (arith, going_size _ _ _ _ _ _ _ G, c.merge-test.false)))
+
+pub shape_of-mem-then-deepest-low : goal.shape_of-mem-then-deepest-low
+shape_of-mem-then-deepest-low c = c.merge.invariant.len
+
+pub returns-then-deepest-low : goal.returns-then-deepest-low
+returns-then-deepest-low c =
+    let G = c.merge.invariant in
+    going_done _ _ _ _ _ _ _ G (merged_stop _ _ _ G.fuel _ (rw (← best (goal.at.returns-then-deepest-low c).After-scan) c.if-deepest-low.true))

@@ -1,0 +1,31 @@
+-- `fast::merge` meets its contract. The outer loop's invariant: the rest of the merge, from the list in memory, is the whole merge; the scan's: the best
+-- of the pairs passed, and no pair whose exclusive or is `least` or more lies deeper. Assumes nothing.
+use mathlib.Core.Path.{◌≡◌}
+use mathlib.Core.Logic.{⊎_elim}
+use Prim.Native.Nat.{◌-◌, ◌≤◌}
+use native.Mathlib.Omega.{arith}
+use lib.ListN.{length, take}
+use Rattle.fast.specs.Fast.{best_of}
+use Rattle.fast.proofs.Merging.{merged_short, merged_stop}
+use Rattle.fast.proofs.Scan.{Scanning, scan_start, pair_cells, scan_pass, scan_better, scan_worse, scan_done}
+use Rattle.fast.proofs.Turns.{Going, going_start, going_size, going_done, scanned, turn_place, turn_level, turn_wide, going_turn}
+use Rattle.fast.proofs.merge.Given as goal
+
+-- the best pair of the whole list
+pub best : (h : After-scan) →
+    let at = h in
+    let a = at.args in
+    h.scan.best ≡ best_of a.c.min_level a.c.level_mod (take at.merge.k at.merge.mem) (length (take at.merge.k at.merge.mem) - 1)
+best h = let at = h in scanned _ _ _ _ _ _ _ at.merge.invariant _ (scan_done _ _ _ _ _ _ _ h.scan.invariant h.scan-test.false)
+
+abbrev pub invariant-scan : goal.invariant-scan
+invariant-scan l = Scanning l.c.min_level l.c.level_mod l.mem l.k l.best l.least l.i
+
+abbrev pub decreases-scan : goal.decreases-scan
+decreases-scan l = l.k - l.i
+
+abbrev pub invariant-merge : goal.invariant-merge
+invariant-merge l = Going l.c.min_level l.c.level_mod l.c.max_cells l.n l.initial.mem l.mem l.k
+
+abbrev pub decreases-merge : goal.decreases-merge
+decreases-merge l = l.k

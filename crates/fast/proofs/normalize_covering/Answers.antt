@@ -1,0 +1,32 @@
+-- `fast::normalize_covering` meets its contract: the merged list in memory is denormalised. Assumes nothing.
+use mathlib.Core.Path.{ap, ◌∙◌}
+use mathlib.Core.List.{List}
+use Prim.Native.Nat.{ℕ}
+use native.Mathlib.Nat.{le_trans}
+use borrow.Author.Rules.{rules}
+use Rattle.cellunion.specs.Memory.{room_for, laid_over}
+use Rattle.fast.proofs.Turns.{covering_asks, covering_fast}
+use Rattle.fast.proofs.normalize_covering.Goals as goal
+
+pub merge_covering-k-requires : goal.merge_covering-k-requires
+merge_covering-k-requires c = c.requires
+
+pub denormalize-requires : goal.denormalize-requires
+denormalize-requires c =
+    let m = c in
+    let s = m in
+    let d = s.requires.0 in
+    let a = covering_asks _ _ _ _ _ _ s.requires.1.0 s.requires.1.1 d.ordered _ _ m.merge_covering-k.ensures.0 m.merge_covering-k.ensures.1 in
+    (a.0, a.1, le_trans d.ordered d.deep, d.some)
+
+pub returns : goal.returns
+returns c =
+    let r = c in
+    let m = r in
+    let s = m in
+    let out = s.args.out.now in
+    let e = covering_fast _ _ _ _ _ _ s.requires.1.0 s.requires.1.1 s.requires.0.ordered _ _ m.merge_covering-k.ensures.0 m.merge_covering-k.ensures.1 in (
+      r.denormalize.ensures.0 ∙ ap (λ (l : List ℕ). room_for l out) e,
+      r.denormalize.ensures.1 ∙ ap (λ (l : List ℕ). laid_over l out) e,
+      m.merge_covering-k.ensures.1,
+    )

@@ -1,0 +1,55 @@
+use mathlib.Core.Path.{◌≡◌, refl, sym, ap, ◌∙◌}
+use mathlib.Core.Bool.{true}
+use mathlib.Core.Logic.{⊎_elim}
+use mathlib.Core.List.{List}
+use Prim.Native.Nat.{ℕ, ◌+◌, ◌*◌, ◌-◌, ◌<◌}
+use native.Mathlib.Omega.{arith}
+use lib.ListN.{length}
+use Rattle.order.proofs.HeapRun.{Down, Down_start, Down_turn, Down_leaf, Down_stop}
+use Rattle.records.specs.declared.Rec.{Rec}
+use Rattle.records.specs.Records.{get_r, put_r, cap_r, before}
+use Rattle.heap.specs.Heap.{pop_r, lesser_r}
+use Rattle.records.proofs.Mem.{length_put_r}
+use Rattle.heap.proofs.pop.Invariants.{Inv}
+use Rattle.heap.proofs.pop.Goals as goal
+
+turn : (m₀ : List ℕ) (n : ℕ) (a : Rec) (m : List ℕ) (i c : ℕ) (x : Rec) (m' : List ℕ) → 2 * i + 1 < n
+    → c ≡ lesser_r m n i → i < c → c < n → x ≡ get_r m c → before x a ≡ true → m' ≡ put_r m i x → Inv m₀ n a m i → Inv m₀ n a m' c
+turn m₀ n a m i c x m' p ec lo hi ex t em I = record {
+  room = I.room;
+  within = omega arith;
+  len = ap length em ∙ length_put_r m i x ∙ I.len;
+  run = rw (em, ex) (Down_turn get_r put_r before ec p lo (ap (λ (y : Rec). before y a) (sym ex) ∙ t) I.run);
+}
+
+pub loop-i-init : goal.loop-i-init
+loop-i-init c = record { room = omega arith; within = omega arith; len = refl; run = rw c.get-a.ensures (Down_start get_r put_r _ _ _) }
+
+pub goes_first-requires : goal.goes_first-requires
+goes_first-requires c = tt
+
+pub loop-i-preserved : goal.loop-i-preserved
+loop-i-preserved c =
+    let after-put = c in
+    let then = after-put in
+    let after_first = then in
+    let after-lesser = after_first in
+    let in-loop = after-lesser in
+    let l = after-lesser.lesser-c.ensures in
+    turn _ _ _ _ _ _ _ _ (omega arith) l.0 l.2 l.3 l.1 (sym after_first.goes_first.ensures ∙ then.if-goes_first.true) after-put.put.ensures in-loop.loop-i.invariant
+
+pub shape_of-m : goal.shape_of-m
+shape_of-m c =
+    let after-put = c in
+    ap length after-put.put-2.ensures ∙ length_put_r _ _ _ ∙ after-put.loop-i.invariant.len
+
+pub returns : goal.returns
+returns c =
+    let after-put = c in
+    let left = after-put in
+    let run = left.loop-i.invariant.run in
+    record {
+      value = left.get-least.ensures;
+      m_after = after-put.put-2.ensures ∙ ⊎_elim (λ w. Down_leaf get_r put_r _ (omega (arith, w.left)) run)
+          (λ w. Down_stop get_r put_r _ w.2.ensures.0 (ap (λ (y : Rec). before y _) (sym w.2.ensures.1) ∙ sym w.4.ensures ∙ w.5.left) run) left.loop-i-test.branch;
+    }

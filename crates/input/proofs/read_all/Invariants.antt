@@ -1,0 +1,14 @@
+-- `input::read_all`: the buffer keeps its length, and no more is filled than it has.
+use mathlib.Core.Path.{◌≡◌, refl}
+use Prim.Native.Nat.{◌-◌, ◌≤◌}
+use native.Mathlib.Omega.{arith}
+use lib.ListN.{length}
+use borrow.Author.Rules.{rules}
+use Rattle.input.specs.Feed.{held_bytes}
+use Rattle.input.proofs.read_all.Given as goal
+
+abbrev pub invariant-loop-filled : goal.invariant-loop-filled
+invariant-loop-filled l = (length l.buf ≡ length l.initial.buf) × (l.filled ≤ length l.initial.buf)
+
+abbrev pub decreases-loop-filled : goal.decreases-loop-filled
+decreases-loop-filled l = length l.initial.buf - l.filled

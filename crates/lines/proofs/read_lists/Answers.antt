@@ -1,0 +1,22 @@
+-- `lines::read_lists`: one list behind the other.
+use native.Mathlib.Omega.{arith}
+use Rattle.lines.proofs.Laws.{read_fits, lists_read}
+use borrow.Author.Rules.{rules}
+use Rattle.lines.proofs.read_lists.Goals as goal
+
+pub offset_bounds-words-first : goal.offset_bounds-words-first
+offset_bounds-words-first c = omega (arith, read_fits _ _ _ _ c.read_list-a.ensures)
+
+pub slice_bounds-read_second-count : goal.slice_bounds-read_second-count
+slice_bounds-read_second-count c = omega (arith, read_fits _ _ _ _ c.read_list-a.ensures)
+
+pub slice_bounds-read_second-start : goal.slice_bounds-read_second-start
+slice_bounds-read_second-start c = omega (arith, read_fits _ _ _ _ c.read_list-a.ensures)
+
+pub overflow_add-result : goal.overflow_add-result
+overflow_add-result c = omega (arith, read_fits _ _ _ _ c.read_list-a.ensures, read_fits _ _ _ _ c.read_second-b.ensures)
+
+pub returns : goal.returns
+returns c = let first = c in
+    let second = c in
+    lists_read _ _ _ first.read_list-a.result second.read_second-b.result first.args.words.now first.read_list-a.new.1.1.0 second.read_second-b.new.1.1.1.0 first.read_list-a.ensures second.read_second-b.ensures

@@ -1,0 +1,25 @@
+-- `plain::least` meets its contract. The invariant: the best so far is the least of the places looked at.
+use mathlib.Core.Path.{◌≡◌, refl, sym, ap, ◌∙◌}
+use mathlib.Core.Bool.{Bool, true, false}
+use mathlib.Core.List.{List}
+use Prim.Native.Nat.{ℕ, suc, ◌+◌, ◌-◌, ◌≤◌, ◌<◌}
+use native.Mathlib.Omega.{arith}
+use Rattle.order.specs.Plain.{least_at}
+use Rattle.order.proofs.PlainLaws.{least_new, least_old}
+use Rattle.records.specs.declared.Rec.{Rec}
+use Rattle.records.specs.Records.{get_r, cap_r, before}
+use Rattle.plain.specs.Plain.{least_r}
+use Rattle.plain.proofs.least.Given as goal
+
+pub record Inv (m : List ℕ) (n : ℕ) (best i : ℕ) : Type 0 where
+  pub room : n < cap_r m
+  pub some : 0 < i
+  pub within : i ≤ n + 1
+  pub found : best < i
+  pub is : best ≡ least_r m (i - 1)
+
+abbrev pub invariant-loop-i : goal.invariant-loop-i
+invariant-loop-i l = Inv l.m l.n l.best l.i
+
+abbrev pub decreases-loop-i : goal.decreases-loop-i
+decreases-loop-i l = (l.n + 1) - l.i

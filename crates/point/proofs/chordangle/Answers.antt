@@ -1,0 +1,12 @@
+-- `point::chordangle` meets its contract.
+use borrow.Author.Rules.{rules}
+use Rattle.point.specs.ChordAngle.{chord_angle, at_most4}
+use Rattle.point.proofs.chordangle.Goals as goal
+
+pub returns-then-d : goal.returns-then-d
+unfolding chord_angle at_most4
+returns-then-d c = rw (← c.sub.ensures, ← c.norm2-d.ensures, c.if-d.true)
+
+pub returns : goal.returns
+unfolding chord_angle at_most4
+returns c = rw (← c.sub.ensures, ← c.norm2-d.ensures, c.if-d.false)

@@ -1,0 +1,8 @@
+-- `point::dot` meets its contract.
+use mathlib.Core.Path.{refl}
+use Rattle.point.specs.Vector.{dot_of}
+use Rattle.point.proofs.dot.Goals as goal
+
+pub returns : goal.returns
+unfolding dot_of
+returns c = refl

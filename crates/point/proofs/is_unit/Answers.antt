@@ -1,0 +1,8 @@
+-- `point::is_unit` meets its contract.
+use borrow.Author.Rules.{rules}
+use Rattle.point.specs.Vector.{is_unit}
+use Rattle.point.proofs.is_unit.Goals as goal
+
+pub returns : goal.returns
+unfolding is_unit
+returns c = rw (c.abs.ensures, c.norm2.ensures)

@@ -1,0 +1,8 @@
+-- `point::norm` meets its contract.
+use borrow.Author.Rules.{rules}
+use Rattle.point.specs.Vector.{norm_of}
+use Rattle.point.proofs.norm.Goals as goal
+
+pub returns : goal.returns
+unfolding norm_of
+returns c = rw c.norm2.ensures at c.root.ensures

@@ -1,0 +1,8 @@
+-- `point::norm2` meets its contract.
+use borrow.Author.Rules.{rules}
+use Rattle.point.specs.Vector.{norm2_of}
+use Rattle.point.proofs.norm2.Goals as goal
+
+pub returns : goal.returns
+unfolding norm2_of
+returns c = c.dot.ensures

@@ -1,0 +1,14 @@
+-- `probe::answer_region`: none of the refusals 1 to 6 is due, and the id is a cell's.
+use mathlib.Core.Path.{sym, ◌∙◌}
+use Rattle.bars.proofs.Early.{early_none}
+use Rattle.covering.proofs.Starts.{valid_domain}
+use borrow.Author.Rules.{rules}
+use Rattle.probe.proofs.answer_region.Goals as goal
+
+pub put_region-requires : goal.put_region-requires
+put_region-requires c =
+    let e = c in
+    let f = e in
+    let i = f in
+    let v = early_none _ _ _ (sym f.first_refusal-first.ensures ∙ e.in-Open.is) in
+    (valid_domain _ _ _ v, v.region, i.cell_id-id.ensures)

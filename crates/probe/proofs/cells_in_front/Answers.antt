@@ -1,0 +1,11 @@
+use Prim.Native.Nat.{◌-◌}
+use Rattle.fast.specs.Memory.{Cells}
+use Rattle.probe.proofs.Laws.{cells_none, cells_more}
+use borrow.Author.Rules.{rules}
+use Rattle.probe.proofs.cells_in_front.Goals as goal
+
+pub loop-i-init : goal.loop-i-init
+loop-i-init c = cells_none c.args.ids.now
+
+pub loop-i-preserved : goal.loop-i-preserved
+loop-i-preserved c = cells_more _ _ c.if-ids-i.false c.loop-i.invariant c.is_valid.ensures c.if-is_valid.true

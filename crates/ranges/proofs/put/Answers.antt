@@ -1,0 +1,8 @@
+-- `ranges::put`: a place that is there, or none.
+use mathlib.Core.Path.{sym}
+use borrow.Author.Rules.{rules}
+use lib.Seq.{set_out}
+use Rattle.ranges.proofs.put.Goals as goal
+
+pub returns-else-at-out : goal.returns-else-at-out
+returns-else-at-out c = sym (set_out _ _ _ c.if-at-out.left)

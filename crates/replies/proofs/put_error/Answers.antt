@@ -1,0 +1,10 @@
+-- `replies::put_error`: one part after another.
+use Rattle.text.specs.Ascii.{ascii}
+use Rattle.replies.specs.Write.{error_text}
+use Rattle.replies.proofs.Writing.{wrote_then}
+use borrow.Author.Rules.{rules}
+use Rattle.replies.proofs.put_error.Goals as goal
+
+pub returns : goal.returns
+unfolding error_text ascii
+returns c = wrote_then c.put_number-a.ensures (wrote_then c.put-b.ensures (wrote_then c.put_fault-c.ensures c.put.ensures))

@@ -1,0 +1,17 @@
+-- `replies::put_ids`: to write the rest from here is to write the whole.
+use mathlib.Core.Path.{◌≡◌, refl}
+use mathlib.Core.List.{List}
+use Prim.Native.Nat.{ℕ, ◌-◌, ◌≤◌}
+use native.Mathlib.Omega.{arith}
+use lib.ListN.{length, drop, drop_of_length-le}
+use Rattle.replies.specs.Write.{Wrote, ids_text}
+use Rattle.replies.proofs.Writing.{wrote_none, wrote_then, ids_go}
+use borrow.Author.Rules.{rules}
+use Rattle.replies.proofs.put_ids.Given as goal
+
+abbrev pub invariant-loop-i : goal.invariant-loop-i
+invariant-loop-i l =
+    (l.i ≤ length l.ids) × (length l.text ≡ length l.initial.text) × ((r : ℕ) (l : List ℕ) → Wrote l.n (ids_text l.form (drop l.i l.ids)) l.text r l → Wrote l.at (ids_text l.form l.ids) l.initial.text r l)
+
+abbrev pub decreases-loop-i : goal.decreases-loop-i
+decreases-loop-i l = length l.ids - l.i

@@ -1,0 +1,118 @@
+-- `root::root_bits` meets its contract. Assumes nothing.
+use Rattle.std.proofs.Common.{◌≡◌, ℕ, ◌+◌, ◌-◌, ◌*◌, ◌/◌, ◌%◌, ◌^◌, ◌<◌, ◌≤◌, sym, refl, ap, ◌∙◌, subst, mul_assoc, arith, pow-add, rules}
+use native.Mathlib.Decide.{dec_lt}
+use lib.Bits.{bit_and, and_mask}
+use lib.Count.{count_leading_zeros}
+use lib.Ieee.{nan, binary64, of_bits, to_bits}
+use Rattle.root.specs.Root.{root, rooted}
+use Rattle.root.proofs.Patterns.{normal, subnormal, root_odd}
+use Rattle.root.proofs.Signs.{nan_pattern, nan_bits, below_zero, written_back}
+use Rattle.root.proofs.Shifts.{Shifted, shifted, same_number}
+use Rattle.root.proofs.root_bits.Goals.{Then-b-lt4503599627370496}
+use Rattle.root.proofs.root_bits.Goals as goal
+
+abbrev Answer : ℕ → ℕ
+Answer b = to_bits binary64 (root binary64 (of_bits binary64 b))
+
+at_zero : 0 ≡ Answer 0
+unfolding root to_bits of_bits
+at_zero = refl
+
+at-minus-zero : 0x8000_0000_0000_0000 ≡ Answer 0x8000_0000_0000_0000
+unfolding root to_bits of_bits
+at-minus-zero = refl
+
+at-infinity : 0x7ff0_0000_0000_0000 ≡ Answer 0x7ff0_0000_0000_0000
+unfolding root to_bits of_bits
+at-infinity = refl
+
+itself : (a b : ℕ) → a ≡ Answer a → b ≡ a → b ≡ Answer b
+itself a b h e = subst (λ (x : ℕ). x ≡ Answer x) (sym e) h
+
+root-nan : root binary64 nan ≡ nan
+unfolding root
+root-nan = refl
+
+no-root : (b : ℕ) → b < 2 ^ 64 → 0x7ff0_0000_0000_0000 < b → (b ≡ 0x8000_0000_0000_0000 → ⊥) → root binary64 (of_bits binary64 b) ≡ nan
+no-root b f h n = go (dec_lt b 0x8000_0000_0000_0000)
+  where
+    go : Dec (b < 0x8000_0000_0000_0000) → root binary64 (of_bits binary64 b) ≡ nan
+    go (yes k) = ap (root binary64) (nan_pattern b (omega arith)) ∙ root-nan
+    go (no k) = below_zero b (omega arith) f
+
+-- a subnormal value's digits, shifted up
+up : (c : Then-b-lt4503599627370496) → Shifted c.args.b (count_leading_zeros 64 c.args.b - 11)
+up c = shifted c.args.b (omega arith) c.if-b-lt4503599627370496.true
+
+-- a normal value's digits, with the leading one
+digits : (b : ℕ) → bit_and b 0xf_ffff_ffff_ffff ≡ b % 2 ^ 52
+digits b = and_mask b 52
+
+same-normal : (b : ℕ) → 2 ^ 52 ≤ b → (2 ^ 52 + bit_and b 0xf_ffff_ffff_ffff) * 2 ^ (b / 2 ^ 52 + 1073) ≡ (2 ^ 52 + b % 2 ^ 52) * 2 ^ (b / 2 ^ 52 - 1) * 2 ^ 1074
+same-normal b h =
+    ap (λ (x : ℕ). (2 ^ 52 + x) * 2 ^ (b / 2 ^ 52 + 1073)) (digits b)
+    ∙ ap (λ (x : ℕ). (2 ^ 52 + b % 2 ^ 52) * x) (ap (λ (x : ℕ). 2 ^ x) (shift b h) ∙ pow-add 2 (b / 2 ^ 52 - 1) 1074)
+    ∙ sym (mul_assoc (2 ^ 52 + b % 2 ^ 52) (2 ^ (b / 2 ^ 52 - 1)) (2 ^ 1074))
+  where
+    shift : (b : ℕ) → 2 ^ 52 ≤ b → b / 2 ^ 52 + 1073 ≡ b / 2 ^ 52 - 1 + 1074
+    shift b h = omega arith
+
+pub returns-then-b-eq0 : goal.returns-then-b-eq0
+returns-then-b-eq0 c = itself 0 c.args.b at_zero c.if-b-eq0.true
+
+pub returns-then-b-eq9223372036854775808 : goal.returns-then-b-eq9223372036854775808
+returns-then-b-eq9223372036854775808 c = itself _ _ at-minus-zero c.if-b-eq9223372036854775808.true
+
+pub returns-then-b-eq9218868437227405312 : goal.returns-then-b-eq9218868437227405312
+returns-then-b-eq9218868437227405312 c = itself _ _ at-infinity c.if-b-eq9218868437227405312.true
+
+pub returns-then-b-gt9218868437227405312 : goal.returns-then-b-gt9218868437227405312
+returns-then-b-gt9218868437227405312 c =
+    let b = c.args.b in
+    nan_bits (root binary64 (of_bits binary64 b)) (no-root b c.ranges.b.fits c.if-b-gt9218868437227405312.true c.if-b-eq9223372036854775808.false)
+
+pub overflow_sub-z : goal.overflow_sub-z
+overflow_sub-z c = let k = up (goal.at.overflow_sub-z c).Then-b-lt4503599627370496 in omega arith
+
+pub overflow_cast-z : goal.overflow_cast-z
+overflow_cast-z c = let k = up (goal.at.overflow_cast-z c).Then-b-lt4503599627370496 in omega arith
+
+pub overflow_shl-b : goal.overflow_shl-b
+overflow_shl-b c = let k = up (goal.at.overflow_shl-b c).Then-b-lt4503599627370496 in omega arith
+
+pub overflow_cast-z-then-b-lt4503599627370496 : goal.overflow_cast-z-then-b-lt4503599627370496
+overflow_cast-z-then-b-lt4503599627370496 c = let k = up (goal.at.overflow_cast-z-then-b-lt4503599627370496 c).Then-b-lt4503599627370496 in omega arith
+
+pub overflow_sub-z-then-b-lt4503599627370496 : goal.overflow_sub-z-then-b-lt4503599627370496
+overflow_sub-z-then-b-lt4503599627370496 c = let k = up (goal.at.overflow_sub-z-then-b-lt4503599627370496 c).Then-b-lt4503599627370496 in omega arith
+
+pub root_parts-requires : goal.root_parts-requires
+root_parts-requires c =
+    let k = up (goal.at.root_parts-requires c).Then-b-lt4503599627370496 in
+    (rw k.exact k.lo, rw k.exact k.hi, omega arith, omega arith)
+
+pub returns-then-b-lt4503599627370496 : goal.returns-then-b-lt4503599627370496
+returns-then-b-lt4503599627370496 c =
+    let b = c.args.b in
+    let z = count_leading_zeros 64 b - 11 in
+    let k = up (goal.at.returns-then-b-lt4503599627370496 c).Then-b-lt4503599627370496 in
+    let h : b < 2 ^ 52 = c.if-b-lt4503599627370496.true in
+    written_back c.root_parts.result (root binary64 (of_bits binary64 b)) (omega arith)
+    (c.root_parts.ensures.value
+    ∙ ap (rooted binary64) (ap (λ (x : ℕ). x * 2 ^ (1074 - z)) k.exact ∙ same_number b z (omega arith))
+    ∙ sym (ap (root binary64) (subnormal b h) ∙ root_odd binary64 b 0 (omega arith)))
+
+pub overflow_add-b : goal.overflow_add-b
+overflow_add-b c = omega (arith, digits c.args.b)
+
+pub root_parts-requires-2 : goal.root_parts-requires-2
+root_parts-requires-2 c = omega (arith, digits c.args.b)
+
+pub returns : goal.returns
+returns c =
+    let b = c.args.b in
+    let h : 2 ^ 52 ≤ b = c.if-b-lt4503599627370496.false in
+    written_back c.root_parts-2.result (root binary64 (of_bits binary64 b)) (omega arith)
+    (c.root_parts-2.ensures.value
+    ∙ ap (rooted binary64) (same-normal b h)
+    ∙ sym (ap (root binary64) (normal b h (omega arith)) ∙ root_odd binary64 (2 ^ 52 + b % 2 ^ 52) (b / 2 ^ 52 - 1) (omega arith)))

@@ -1,0 +1,7 @@
+-- `sight::four` meets its contract.
+use Rattle.sight.proofs.Laws.{two_sets}
+use borrow.Author.Rules.{rules}
+use Rattle.sight.proofs.four.Goals as goal
+
+pub returns : goal.returns
+returns c = two_sets _ _ _ _ _ c.joined-all.ensures

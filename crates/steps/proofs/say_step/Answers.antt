@@ -1,0 +1,11 @@
+-- `steps::say_step`: the kept ids are so many.
+use mathlib.Core.Path.{sym}
+use native.Mathlib.Omega.{arith}
+use lib.Seq.{length-take-le}
+use borrow.Author.Rules.{rules}
+use Rattle.steps.proofs.say_step.Goals as goal
+
+pub slice_bounds-put_ids-end-2 : goal.slice_bounds-put_ids-end-2
+slice_bounds-put_ids-end-2 c =
+    let z = c in
+    sym (length-take-le z.args.kept z.args.out.now (omega (arith, z.requires)))

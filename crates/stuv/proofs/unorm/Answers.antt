@@ -1,0 +1,28 @@
+-- `stuv::unorm` meets its contract.
+use Rattle.stuv.specs.Projection.{u_norm}
+use Rattle.stuv.proofs.Laws.{face_five}
+use Rattle.stuv.proofs.unorm.Goals as goal
+
+pub returns-in-0 : goal.returns-in-0
+unfolding u_norm
+returns-in-0 c = rw c.in-0.is
+
+pub returns-in-1 : goal.returns-in-1
+unfolding u_norm
+returns-in-1 c = rw c.in-1.is
+
+pub returns-in-2 : goal.returns-in-2
+unfolding u_norm
+returns-in-2 c = rw c.in-2.is
+
+pub returns-in-3 : goal.returns-in-3
+unfolding u_norm
+returns-in-3 c = rw c.in-3.is
+
+pub returns-in-4 : goal.returns-in-4
+unfolding u_norm
+returns-in-4 c = rw c.in-4.is
+
+pub returns-in_default : goal.returns-in_default
+unfolding u_norm
+returns-in_default c = rw (face_five _ c.requires c.in_default.in_default-own.rest)

@@ -1,0 +1,12 @@
+-- `text::past`: what is left of the run from the present place is the rest of the whole run.
+use Rattle.std.proofs.Common.{◌≡◌, suc, ◌+◌, ◌-◌, ◌<◌, ◌≤◌, Bool, length, drop, sym, refl, ap, ◌∙◌, arith}
+use mathlib.Core.Bool.{beq}
+use Rattle.text.specs.Text.{leading}
+use Rattle.text.proofs.Laws.{leading_end, leading_stop, leading_go}
+use Rattle.text.proofs.past.Given as goal
+
+abbrev pub invariant-loop-i : goal.invariant-loop-i
+invariant-loop-i l = (l.at ≤ l.i) × (l.at < l.i → l.i ≤ length l.line) × (l.at + leading l.blank (drop l.at l.line) ≡ l.i + leading l.blank (drop l.i l.line))
+
+abbrev pub decreases-loop-i : goal.decreases-loop-i
+decreases-loop-i l = length l.line - l.i

@@ -1,0 +1,12 @@
+-- `text::value`: the number so far, with the digits left, is the whole number; it is within the limit.
+use Rattle.std.proofs.Common.{◌≡◌, ℕ, ◌+◌, ◌-◌, ◌*◌, ◌<◌, ◌≤◌, length, drop, sym, refl, ap, ◌∙◌, arith, ltb-false, ltb-true}
+use Rattle.text.specs.Text.{value_from, limited}
+use Rattle.text.proofs.Laws.{value_go, value_end, value_over, limited_in}
+use Rattle.text.proofs.value.Given as goal
+
+abbrev pub invariant-loop-i : goal.invariant-loop-i
+invariant-loop-i l =
+    (l.i ≤ length l.s) × (l.number ≤ l.limit) × (value_from l.base 0 l.s ≡ value_from l.base l.number (drop l.i l.s))
+
+abbrev pub decreases-loop-i : goal.decreases-loop-i
+decreases-loop-i l = length l.s - l.i

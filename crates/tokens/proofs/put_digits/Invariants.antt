@@ -1,0 +1,17 @@
+-- `tokens::put_digits`: the digits that are left, over what stands there, are all.
+use mathlib.Core.Path.{◌≡◌, refl, sym, ◌∙◌}
+use Prim.Native.Nat.{◌≤◌}
+use native.Mathlib.Omega.{arith}
+use lib.ListN.{length}
+use lib.Seq.{sets}
+use borrow.Author.Rules.{rules}
+use Rattle.io.specs.Digits.{last_digits}
+use Rattle.tokens.proofs.Digits.{digits_go, digits_none}
+use Rattle.tokens.proofs.put_digits.Given as goal
+
+abbrev pub invariant-loop-left : goal.invariant-loop-left
+invariant-loop-left l =
+    (l.left ≤ l.k) × (length l.text ≡ length l.initial.text) × (sets l.initial.text l.at (last_digits 16 l.k l.n) ≡ sets l.text l.at (last_digits 16 l.left l.rest))
+
+abbrev pub decreases-loop-left : goal.decreases-loop-left
+decreases-loop-left l = l.left
