@@ -1,6 +1,5 @@
 -- `totals::get` meets its contract.
 use Rattle.cellid.proofs.Laws.{last_arm}
-use borrow.Author.Rules.{rules}
 use native.Mathlib.Omega.{arith}
 use Rattle.totals.proofs.get.Goals as goal
 
