@@ -1,5 +1,5 @@
 -- the child's offset is less than twice the lowest bit
-use Rattle.std.proofs.Common.{ℕ, ◌+◌, ◌-◌, ◌*◌, ◌/◌, ◌^◌, ◌<◌, ◌≤◌, ap, mul-le-mul_right, arith, rules}
+use Rattle.std.proofs.Common.{ℕ, ◌+◌, ◌-◌, ◌*◌, ◌/◌, ◌^◌, ◌<◌, ◌≤◌, ap, mul-le-mul_right, arith}
 use Rattle.cellid.specs.CellId.{child_of}
 use Rattle.cellid.proofs.Laws.{low_le, low_room}
 use Rattle.cellid.proofs.child.Goals as goal

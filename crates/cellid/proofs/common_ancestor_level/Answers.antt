@@ -1,4 +1,4 @@
-use Rattle.std.proofs.Common.{◌≡◌, max, sym, refl, ◌∙◌, ap₂, arith, rules}
+use Rattle.std.proofs.Common.{◌≡◌, max, sym, refl, ◌∙◌, ap₂, arith}
 use lib.Count.{leading_le}
 use Rattle.cellid.proofs.Laws.{cell_pos}
 use Rattle.cellid.proofs.Ancestors.{spread, common_none, common_some}

@@ -1,4 +1,4 @@
-use Rattle.std.proofs.Common.{◌≡◌, ℕ, ◌+◌, ◌-◌, ◌*◌, ◌%◌, ◌^◌, ◌<◌, ap, ◌∙◌, ap₂, arith, pow_pos, rules}
+use Rattle.std.proofs.Common.{◌≡◌, ℕ, ◌+◌, ◌-◌, ◌*◌, ◌%◌, ◌^◌, ◌<◌, ap, ◌∙◌, ap₂, arith, pow_pos}
 use lib.Bits.{bit_and, bit_or}
 use Rattle.cellid.specs.CellId.{bit_at, place_at, level_of}
 use Rattle.cellid.proofs.Laws.{parent_is, shl_two, cell_pos, low_cell, level_cell}

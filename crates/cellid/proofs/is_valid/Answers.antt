@@ -1,4 +1,4 @@
-use Rattle.std.proofs.Common.{rules, le-leb}
+use Rattle.std.proofs.Common.{le-leb}
 use borrow.Author.Tests.{lt-leb}
 use Rattle.cellid.specs.CellId.{valid_id}
 use Rattle.cellid.proofs.is_valid.Goals as goal

@@ -1,4 +1,4 @@
-use Rattle.std.proofs.Common.{arith, rules}
+use Rattle.std.proofs.Common.{arith}
 use Rattle.cellid.specs.CellId.{level_of}
 use Rattle.cellid.proofs.level.Goals as goal
 

@@ -1,4 +1,4 @@
-use Rattle.std.proofs.Common.{◌≡◌, ◌-◌, ◌^◌, ap, ◌∙◌, arith, rules}
+use Rattle.std.proofs.Common.{◌≡◌, ◌-◌, ◌^◌, ap, ◌∙◌, arith}
 use lib.Bits.{bit_and}
 use Rattle.cellid.proofs.Laws.{low_and}
 use Rattle.cellid.proofs.lsb.Goals as goal

@@ -1,5 +1,5 @@
 use Rattle.cellid.proofs.Laws.{one_shl}
-use Rattle.std.proofs.Common.{arith, rules}
+use Rattle.std.proofs.Common.{arith}
 use Rattle.cellid.proofs.lsb_for_level.Goals as goal
 
 pub returns : goal.returns

@@ -1,4 +1,4 @@
-use Rattle.std.proofs.Common.{arith, rules}
+use Rattle.std.proofs.Common.{arith}
 use Rattle.cellid.specs.CellId.{last_leaf}
 use Rattle.cellid.proofs.Laws.{low_pos, low_room}
 use Rattle.cellid.proofs.range_max.Goals as goal

@@ -1,4 +1,4 @@
-use Rattle.std.proofs.Common.{arith, rules}
+use Rattle.std.proofs.Common.{arith}
 use Rattle.cellid.specs.CellId.{first_leaf}
 use Rattle.cellid.proofs.Laws.{low_pos, low_le}
 use Rattle.cellid.proofs.range_min.Goals as goal
