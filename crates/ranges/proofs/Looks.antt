@@ -1,12 +1,12 @@
 -- One look at pairs: the small tests, and the turns of the loop.
 use mathlib.Core.Path.{◌≡◌, refl, sym, ap, ◌∙◌}
-use mathlib.Core.Bool.{Bool, true, false, not, ◌&&◌}
+use mathlib.Core.Bool.{Bool, true, false, ◌&&◌}
 use mathlib.Core.List.{List, [], ◌∷◌}
 use Prim.Native.Nat.{ℕ, ◌+◌, ◌*◌, ◌/◌, ◌%◌, ◌≤◌, ◌<◌}
 use native.Mathlib.Omega.{arith}
 use lib.ListN.{length, get_or, drop, length-append}
 use lib.Dec.{ltb}
-use borrow.Author.Tests.{le-leb, lt-leb, eq-eqb, ne_eqb, not-true, not-false}
+use borrow.Author.Tests.{le-leb, lt-leb, eq-eqb, ne_eqb}
 use Rattle.ranges.specs.declared.Answer.{Answer}
 use Rattle.ranges.specs.Ranges.{leaves, follows, pairs_from, is_pairs, tile, cells_of}
 use Rattle.ranges.specs.Steps.{looked}
@@ -65,8 +65,8 @@ rule_one b x = refl
 pair_next : (ps : List ℕ) (from cells i : ℕ) (b : Bool) → Pairing ps from cells i → i + 1 < length ps → b ≡ follows from (get_or ps i 0) (get_or ps (i + 1) 0) → (b && pairs_from (get_or ps (i + 1) 0 + 4) (drop (i + 2) ps)) ≡ pairs_from 1 ps
 pair_next ps from cells i b G h e = ap (λ (t : Bool). t && pairs_from (get_or ps (i + 1) 0 + 4) (drop (i + 2) ps)) e ∙ sym (rule_cons from (get_or ps i 0) (get_or ps (i + 1) 0) (drop (i + 2) ps)) ∙ sym (ap (pairs_from from) (next_two ps i h)) ∙ G.same
 
-pub pair_bad : (ps : List ℕ) (from cells i : ℕ) (b : Bool) → Pairing ps from cells i → i + 1 < length ps → b ≡ follows from (get_or ps i 0) (get_or ps (i + 1) 0) → not b ≡ true → Answer.Refused 25 ≡ looked (is_pairs ps) (cells_of ps)
-pair_bad ps from cells i b G h e t = look_bad (is_pairs ps) (cells_of ps) (sym (rw (not-true b t) at (pair_next ps from cells i b G h e)))
+pub pair_bad : (ps : List ℕ) (from cells i : ℕ) (b : Bool) → Pairing ps from cells i → i + 1 < length ps → b ≡ follows from (get_or ps i 0) (get_or ps (i + 1) 0) → b ≡ false → Answer.Refused 25 ≡ looked (is_pairs ps) (cells_of ps)
+pair_bad ps from cells i b G h e t = look_bad (is_pairs ps) (cells_of ps) (sym (rw t at (pair_next ps from cells i b G h e)))
 
 -- what a pair that follows asks of the stretch that it is
 pub record Stretch (first last : ℕ) : Type 0 where
@@ -74,23 +74,23 @@ pub record Stretch (first last : ℕ) : Type 0 where
   pub up : first / 2 ≤ (last + 1) / 2
   pub world : (last + 1) / 2 ≤ leaves
 
-pub pair_fine : (b first last : ℕ) (t : Bool) → t ≡ follows b first last → not t ≡ false → Stretch first last
-pair_fine b first last t e h = let F = follows→ b first last (sym e ∙ not-false t h) in record { to = F.to; up = omega (arith, F.some); world = omega (arith, F.to) }
+pub pair_fine : (b first last : ℕ) (t : Bool) → t ≡ follows b first last → t ≡ true → Stretch first last
+pair_fine b first last t e h = let F = follows→ b first last (sym e ∙ h) in record { to = F.to; up = omega (arith, F.some); world = omega (arith, F.to) }
 
-pub pair_room : (ps : List ℕ) (from cells i more : ℕ) (b : Bool) → Pairing ps from cells i → b ≡ follows from (get_or ps i 0) (get_or ps (i + 1) 0) → not b ≡ false → more ≡ length (tile (get_or ps i 0 / 2) ((get_or ps (i + 1) 0 + 1) / 2)) → 2 * (cells + more) + 1 ≤ get_or ps (i + 1) 0 + 4
+pub pair_room : (ps : List ℕ) (from cells i more : ℕ) (b : Bool) → Pairing ps from cells i → b ≡ follows from (get_or ps i 0) (get_or ps (i + 1) 0) → b ≡ true → more ≡ length (tile (get_or ps i 0 / 2) ((get_or ps (i + 1) 0 + 1) / 2)) → 2 * (cells + more) + 1 ≤ get_or ps (i + 1) 0 + 4
 pair_room ps from cells i more b G e t q =
-    let F = follows→ from (get_or ps i 0) (get_or ps (i + 1) 0) (sym e ∙ not-false b t) in
+    let F = follows→ from (get_or ps i 0) (get_or ps (i + 1) 0) (sym e ∙ t) in
     let S = pair_fine from (get_or ps i 0) (get_or ps (i + 1) 0) b e t in
     let T = tiled (get_or ps i 0 / 2) ((get_or ps (i + 1) 0 + 1) / 2) S.up S.world in
     omega (arith, T.short, F.from, F.odd, F.odd', G.low)
 
-pub pair_on : (ps : List ℕ) (from cells i more : ℕ) (b : Bool) → Pairing ps from cells i → i + 1 < length ps → b ≡ follows from (get_or ps i 0) (get_or ps (i + 1) 0) → not b ≡ false → more ≡ length (tile (get_or ps i 0 / 2) ((get_or ps (i + 1) 0 + 1) / 2)) → Pairing ps (get_or ps (i + 1) 0 + 4) (cells + more) (i + 2)
+pub pair_on : (ps : List ℕ) (from cells i more : ℕ) (b : Bool) → Pairing ps from cells i → i + 1 < length ps → b ≡ follows from (get_or ps i 0) (get_or ps (i + 1) 0) → b ≡ true → more ≡ length (tile (get_or ps i 0 / 2) ((get_or ps (i + 1) 0 + 1) / 2)) → Pairing ps (get_or ps (i + 1) 0 + 4) (cells + more) (i + 2)
 pair_on ps from cells i more b G h e t q =
     let s = get_or ps i 0 in
     let w = get_or ps (i + 1) 0 in
     record {
       within = omega arith;
-      same = rw (not-false b t) at (pair_next ps from cells i b G h e);
+      same = rw t at (pair_next ps from cells i b G h e);
       count = omega (arith, G.count, ap (λ (l : List ℕ). length (cells_of l)) (next_two ps i h), ap length (each_cons tile s w (drop (i + 2) ps)), length-append (tile (s / 2) ((w + 1) / 2)) (cells_of (drop (i + 2) ps)));
       low = pair_room ps from cells i more b G e t q;
     }

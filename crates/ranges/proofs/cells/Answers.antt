@@ -7,7 +7,7 @@ use Rattle.ranges.proofs.cells.Goals as goal
 
 pub returns-then-out-count : goal.returns-then-out-count
 unfolding cells_result
-returns-then-out-count c = answer_full _ _ _ _ (sym c.in-Done.is ∙ c.look_pairs-found.ensures) c.if-out-count.taken
+returns-then-out-count c = answer_full _ _ _ _ (sym c.in-Done.is ∙ c.look_pairs-found.ensures) c.if-out-count.true
 
 pub fill-requires : goal.fill-requires
 fill-requires c = (looked_done _ _ _ (sym c.in-Done.is ∙ c.look_pairs-found.ensures)).0
@@ -15,7 +15,7 @@ fill-requires c = (looked_done _ _ _ (sym c.in-Done.is ∙ c.look_pairs-found.en
 pub returns-else-out-count : goal.returns-else-out-count
 unfolding cells_result
 returns-else-out-count c = let g = c in
-    answer_done _ _ _ _ _ _ (sym g.in-Done.is ∙ g.look_pairs-found.ensures) g.if-out-count.left c.fill.ensures
+    answer_done _ _ _ _ _ _ (sym g.in-Done.is ∙ g.look_pairs-found.ensures) g.if-out-count.false c.fill.ensures
 
 pub returns-in-Refused : goal.returns-in-Refused
 unfolding cells_result

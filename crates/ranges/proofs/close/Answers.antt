@@ -4,7 +4,7 @@ use Rattle.ranges.proofs.Writes.{close_yes, close_no}
 use Rattle.ranges.proofs.close.Goals as goal
 
 pub returns-then-joins : goal.returns-then-joins
-returns-then-joins c = close_yes _ _ _ _ _ _ c.joins.ensures c.if-joins.taken
+returns-then-joins c = close_yes _ _ _ _ _ _ c.joins.ensures c.if-joins.true
 
 pub returns : goal.returns
-returns c = let g = c in close_no _ _ _ _ _ _ _ _ g.joins.ensures g.if-joins.left c.hold.ensures
+returns c = let g = c in close_no _ _ _ _ _ _ _ _ g.joins.ensures g.if-joins.false c.hold.ensures

@@ -4,7 +4,7 @@ use Rattle.ranges.proofs.Writes.{hold_none, hold_two}
 use Rattle.ranges.proofs.hold.Goals as goal
 
 pub returns-then-last-eq0 : goal.returns-then-last-eq0
-returns-then-last-eq0 c = hold_none _ _ _ _ c.if-last-eq0.taken
+returns-then-last-eq0 c = hold_none _ _ _ _ c.if-last-eq0.true
 
 pub returns : goal.returns
-returns c = let g = c in hold_two _ _ _ _ _ _ g.if-last-eq0.left g.put.ensures c.put-2.ensures
+returns c = let g = c in hold_two _ _ _ _ _ _ g.if-last-eq0.false g.put.ensures c.put-2.ensures

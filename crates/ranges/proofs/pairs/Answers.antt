@@ -6,22 +6,22 @@ use Rattle.ranges.proofs.Answers.{tested_bad, tested_full, tested_done}
 use Rattle.ranges.proofs.pairs.Goals as goal
 
 pub has_room-requires : goal.has_room-requires
-has_room-requires c = sym c.is_valid.ensures ∙ c.if-is_valid.taken
+has_room-requires c = sym c.is_valid.ensures ∙ c.if-is_valid.true
 
 pub join-requires : goal.join-requires
-join-requires c = let g = c in sym g.is_valid.ensures ∙ g.if-is_valid.taken
+join-requires c = let g = c in sym g.is_valid.ensures ∙ g.if-is_valid.true
 
 pub returns-then-has_room : goal.returns-then-has_room
 unfolding pairs_result
 returns-then-has_room c = let k = c in
     let g = k in
-    tested_done _ _ _ _ g.is_valid.ensures g.if-is_valid.taken _ k.has_room.ensures _ _ k.if-has_room.taken c.join.ensures
+    tested_done _ _ _ _ g.is_valid.ensures g.if-is_valid.true _ k.has_room.ensures _ _ k.if-has_room.true c.join.ensures
 
 pub returns-then-is_valid : goal.returns-then-is_valid
 unfolding pairs_result
 returns-then-is_valid c = let g = c in
-    tested_full _ _ _ _ g.is_valid.ensures g.if-is_valid.taken _ c.has_room.ensures c.if-has_room.left
+    tested_full _ _ _ _ g.is_valid.ensures g.if-is_valid.true _ c.has_room.ensures c.if-has_room.false
 
 pub returns : goal.returns
 unfolding pairs_result
-returns c = tested_bad _ _ _ _ c.is_valid.ensures c.if-is_valid.left
+returns c = tested_bad _ _ _ _ c.is_valid.ensures c.if-is_valid.false
