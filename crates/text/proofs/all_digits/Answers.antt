@@ -1,4 +1,4 @@
-use Rattle.std.proofs.Common.{◌≡◌, ◌+◌, ◌-◌, ◌≤◌, Bool, true, false, ◌&&◌, ltb, length, get_or, drop, sym, refl, ap, ◌∙◌, arith, le-ltb, lt-ltb}
+use Rattle.std.proofs.Common.{◌≡◌, ◌+◌, Bool, true, false, ◌&&◌, ltb, get_or, drop, sym, refl, ap, ◌∙◌, arith, le-ltb, lt-ltb}
 use Rattle.text.specs.Text.{all_digits, digit_of}
 use Rattle.text.proofs.Laws.{digits_go, digits_end}
 use Rattle.text.proofs.all_digits.Goals as goal

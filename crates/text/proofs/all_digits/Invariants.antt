@@ -1,7 +1,6 @@
 -- `text::all_digits`: what the rest says, the whole says.
-use Rattle.std.proofs.Common.{◌≡◌, ◌+◌, ◌-◌, ◌≤◌, Bool, true, false, ◌&&◌, ltb, length, get_or, drop, sym, refl, ap, ◌∙◌, arith, le-ltb, lt-ltb}
-use Rattle.text.specs.Text.{all_digits, digit_of}
-use Rattle.text.proofs.Laws.{digits_go, digits_end}
+use Rattle.std.proofs.Common.{◌≡◌, ◌-◌, ◌≤◌, length, drop}
+use Rattle.text.specs.Text.{all_digits}
 use Rattle.text.proofs.all_digits.Given as goal
 
 abbrev pub invariant-loop-i : goal.invariant-loop-i

@@ -1,5 +1,4 @@
-use Rattle.std.proofs.Common.{◌≡◌, ◌-◌, ◌≤◌, ◌&&◌, length, drop, sym, refl, ◌∙◌, arith}
-use Rattle.text.specs.Text.{all_plain}
+use Rattle.std.proofs.Common.{sym, refl, ◌∙◌, arith}
 use Rattle.text.proofs.Fields.{plain_on, plain_end}
 use Rattle.text.proofs.all_plain.Goals as goal
 

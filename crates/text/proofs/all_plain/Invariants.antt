@@ -1,7 +1,6 @@
 -- `text::all_plain`: what was seen and what is left say what the whole says.
-use Rattle.std.proofs.Common.{◌≡◌, ◌-◌, ◌≤◌, ◌&&◌, length, drop, sym, refl, ◌∙◌, arith}
+use Rattle.std.proofs.Common.{◌≡◌, ◌-◌, ◌≤◌, ◌&&◌, length, drop}
 use Rattle.text.specs.Text.{all_plain}
-use Rattle.text.proofs.Fields.{plain_on, plain_end}
 use Rattle.text.proofs.all_plain.Given as goal
 
 abbrev pub invariant-loop-i : goal.invariant-loop-i

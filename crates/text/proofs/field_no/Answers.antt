@@ -1,6 +1,5 @@
-use Rattle.std.proofs.Common.{◌≡◌, sym, refl, ap, ◌∙◌, arith}
+use Rattle.std.proofs.Common.{sym, refl, ap, ◌∙◌}
 use Rattle.text.specs.declared.Field.{Field}
-use Rattle.text.specs.Text.{field_no}
 use Rattle.text.proofs.Fields.{field_on, field_here}
 use Rattle.text.proofs.field_no.Goals as goal
 

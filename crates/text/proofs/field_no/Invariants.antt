@@ -1,8 +1,6 @@
 -- `text::field_no`: the field that is so many further from here is the one that is asked for.
-use Rattle.std.proofs.Common.{◌≡◌, sym, refl, ap, ◌∙◌, arith}
-use Rattle.text.specs.declared.Field.{Field}
+use Rattle.std.proofs.Common.{◌≡◌}
 use Rattle.text.specs.Text.{field_no}
-use Rattle.text.proofs.Fields.{field_on, field_here}
 use Rattle.text.proofs.field_no.Given as goal
 
 abbrev pub invariant-loop-left : goal.invariant-loop-left

@@ -1,5 +1,4 @@
-use Rattle.std.proofs.Common.{◌≡◌, ◌+◌, ◌-◌, ◌≤◌, length, drop, sym, ◌∙◌, zero-add, arith}
-use Rattle.text.specs.Text.{until}
+use Rattle.std.proofs.Common.{sym, ◌∙◌, zero-add, arith}
 use Rattle.text.proofs.Fields.{until_stop, until_on, until_end}
 use Rattle.text.proofs.find.Goals as goal
 

@@ -1,7 +1,6 @@
 -- `text::find`: the bytes passed and the place among the others are the place among all.
-use Rattle.std.proofs.Common.{◌≡◌, ◌+◌, ◌-◌, ◌≤◌, length, drop, sym, ◌∙◌, zero-add, arith}
+use Rattle.std.proofs.Common.{◌≡◌, ◌+◌, ◌-◌, ◌≤◌, length, drop}
 use Rattle.text.specs.Text.{until}
-use Rattle.text.proofs.Fields.{until_stop, until_on, until_end}
 use Rattle.text.proofs.find.Given as goal
 
 abbrev pub invariant-loop-i : goal.invariant-loop-i

@@ -1,6 +1,5 @@
 -- `text::is_asking`: a field begins, or all are blanks.
 use Rattle.text.proofs.Fields.{silent_asks, silent_blank}
-use Rattle.std.proofs.Common.{rules}
 use Rattle.text.proofs.is_asking.Goals as goal
 
 pub returns-then-start-line : goal.returns-then-start-line

@@ -1,6 +1,5 @@
 -- `text::is_at`: by cases.
 use Rattle.text.specs.Text.{is_at}
-use Rattle.std.proofs.Common.{rules}
 use Rattle.text.proofs.is_at.Goals as goal
 
 pub returns-in-At : goal.returns-in-At

@@ -1,5 +1,5 @@
 -- `text::is_over`: the test before the product says what the test after it would.
-use Rattle.std.proofs.Common.{sym, arith, rules, lt-ltb}
+use Rattle.std.proofs.Common.{sym, arith, lt-ltb}
 use Rattle.text.proofs.Laws.{product_over}
 use Rattle.text.proofs.is_over.Goals as goal
 

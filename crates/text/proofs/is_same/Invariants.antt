@@ -1,7 +1,6 @@
 -- `text::is_same`: what the rest says, the whole says.
-use Rattle.std.proofs.Common.{◌≡◌, ◌-◌, ◌≤◌, length, drop, sym, refl, ◌∙◌, arith}
+use Rattle.std.proofs.Common.{◌≡◌, ◌-◌, ◌≤◌, length, drop}
 use Rattle.text.specs.Text.{same}
-use Rattle.text.proofs.Fields.{same_short, same_differ, same_on, same_end}
 use Rattle.text.proofs.is_same.Given as goal
 
 abbrev pub invariant-loop-i : goal.invariant-loop-i

@@ -1,5 +1,5 @@
 -- `text::is_silent`: a line that asks, or one whose bytes are looked at.
-use Rattle.std.proofs.Common.{sym, ◌∙◌, rules}
+use Rattle.std.proofs.Common.{sym, ◌∙◌}
 use Rattle.text.proofs.is_silent.Goals as goal
 
 pub returns-then-is_asking : goal.returns-then-is_asking

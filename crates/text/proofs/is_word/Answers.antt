@@ -1,7 +1,6 @@
 -- `text::is_word`: the field is there, or it is empty.
 use Rattle.text.specs.Text.{bytes_of}
 use Rattle.text.proofs.Fields.{word_there, word_none}
-use Rattle.std.proofs.Common.{rules}
 use Rattle.text.proofs.is_word.Goals as goal
 
 pub slice_bounds-is_same-end : goal.slice_bounds-is_same-end

@@ -1,5 +1,5 @@
 -- `text::number`: test by test.
-use Rattle.std.proofs.Common.{rules, le-ltb, lt-ltb, eq-eqb, ne_eqb}
+use Rattle.std.proofs.Common.{le-ltb, lt-ltb, eq-eqb, ne_eqb}
 use Rattle.text.specs.Text.{number_as}
 use Rattle.text.proofs.number.Goals as goal
 

@@ -1,4 +1,4 @@
-use Rattle.std.proofs.Common.{◌≡◌, suc, ◌+◌, ◌-◌, ◌<◌, ◌≤◌, Bool, length, drop, sym, refl, ap, ◌∙◌, arith}
+use Rattle.std.proofs.Common.{◌≡◌, suc, ◌+◌, Bool, drop, sym, refl, ap, ◌∙◌, arith}
 use mathlib.Core.Bool.{beq}
 use Rattle.text.specs.Text.{leading}
 use Rattle.text.proofs.Laws.{leading_end, leading_stop, leading_go}

@@ -1,8 +1,6 @@
 -- `text::past`: what is left of the run from the present place is the rest of the whole run.
-use Rattle.std.proofs.Common.{◌≡◌, suc, ◌+◌, ◌-◌, ◌<◌, ◌≤◌, Bool, length, drop, sym, refl, ap, ◌∙◌, arith}
-use mathlib.Core.Bool.{beq}
+use Rattle.std.proofs.Common.{◌≡◌, ◌+◌, ◌-◌, ◌<◌, ◌≤◌, length, drop}
 use Rattle.text.specs.Text.{leading}
-use Rattle.text.proofs.Laws.{leading_end, leading_stop, leading_go}
 use Rattle.text.proofs.past.Given as goal
 
 abbrev pub invariant-loop-i : goal.invariant-loop-i

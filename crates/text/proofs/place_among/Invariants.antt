@@ -1,8 +1,6 @@
 -- `text::place_among`: the words passed and the place among the others are the place among all.
-use Rattle.std.proofs.Common.{◌≡◌, ◌+◌, ◌-◌, ◌≤◌, sym, ap, ◌∙◌, arith}
-use Rattle.text.specs.declared.Field.{Field}
+use Rattle.std.proofs.Common.{◌≡◌, ◌+◌, ◌-◌, ◌≤◌}
 use Rattle.text.specs.Text.{place_among}
-use Rattle.text.proofs.Fields.{place_start, place_found, place_on, place_end}
 use Rattle.text.proofs.place_among.Given as goal
 
 abbrev pub invariant-loop-k : goal.invariant-loop-k

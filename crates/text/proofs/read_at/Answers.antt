@@ -1,5 +1,5 @@
 -- `text::read_at`: the digits are the field, or the field is read by itself; or there is none.
-use Rattle.std.proofs.Common.{sym, ◌∙◌, rules}
+use Rattle.std.proofs.Common.{sym, ◌∙◌}
 use Rattle.text.specs.Text.{bytes_of}
 use Rattle.text.proofs.Fields.{at_short, at_there, at_missing}
 use Rattle.text.proofs.read_at.Goals as goal

@@ -1,6 +1,5 @@
 -- `text::read_bytes`: by the base.
 use Rattle.text.specs.Text.{number_in}
-use Rattle.std.proofs.Common.{rules}
 use Rattle.text.proofs.read_bytes.Goals as goal
 
 pub returns-in-Ten : goal.returns-in-Ten

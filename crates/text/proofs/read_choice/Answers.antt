@@ -1,5 +1,5 @@
 -- `text::read_choice`: one of the words, none of them, no field, or a fault before.
-use Rattle.std.proofs.Common.{◌∙◌, rules}
+use Rattle.std.proofs.Common.{◌∙◌}
 use Rattle.text.specs.Text.{bytes_of, choice_after}
 use Rattle.text.proofs.Fields.{choice_one, choice_other, choice_missing}
 use Rattle.text.proofs.read_choice.Goals as goal

@@ -1,5 +1,4 @@
-use Rattle.std.proofs.Common.{◌≡◌, ◌+◌, ◌-◌, ◌*◌, ◌^◌, ◌<◌, min, length, arith, rules}
-use Rattle.text.specs.Text.{Spells}
+use Rattle.std.proofs.Common.{◌+◌, ◌*◌, ◌^◌, ◌<◌, arith}
 use Rattle.text.proofs.Fields.{spells_none, spells_more, spells_fits}
 use Rattle.text.proofs.read_digits.Goals.{Else-base-d}
 use Rattle.text.proofs.read_digits.Goals as goal

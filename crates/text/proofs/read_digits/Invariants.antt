@@ -1,7 +1,6 @@
 -- `text::read_digits`: the digits read so far spell the number so far.
-use Rattle.std.proofs.Common.{◌≡◌, ◌+◌, ◌-◌, ◌*◌, ◌^◌, ◌<◌, min, length, arith, rules}
+use Rattle.std.proofs.Common.{◌≡◌, ◌+◌, ◌-◌, min, length}
 use Rattle.text.specs.Text.{Spells}
-use Rattle.text.proofs.Fields.{spells_none, spells_more, spells_fits}
 use Rattle.text.proofs.read_digits.Given as goal
 
 abbrev pub invariant-loop-i : goal.invariant-loop-i

@@ -1,7 +1,6 @@
 -- `text::read_end`: a field more, none, or a fault before.
 use Rattle.text.specs.Text.{end_after}
 use Rattle.text.proofs.Fields.{end_extra, end_none}
-use Rattle.std.proofs.Common.{rules}
 use Rattle.text.proofs.read_end.Goals as goal
 
 pub returns-then-start-end : goal.returns-then-start-end

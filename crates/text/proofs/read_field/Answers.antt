@@ -1,5 +1,5 @@
 -- `text::read_field`: past the blanks, then past what is none.
-use Rattle.std.proofs.Common.{◌≡◌, ℕ, ◌+◌, false, drop, ap, ◌∙◌, ap₂, arith, rules}
+use Rattle.std.proofs.Common.{◌≡◌, ℕ, ◌+◌, false, drop, ap, ◌∙◌, ap₂, arith}
 use Rattle.text.specs.Text.{leading, start_at, field_at}
 use Rattle.text.proofs.read_field.Goals as goal
 

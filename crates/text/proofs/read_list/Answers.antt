@@ -1,5 +1,5 @@
 -- `text::read_list`: as many numbers as the count says, in the first places.
-use Rattle.std.proofs.Common.{sym, length-take-le, rules}
+use Rattle.std.proofs.Common.{sym, length-take-le}
 use Rattle.text.proofs.Fields.{list_fits, list_read}
 use Rattle.text.proofs.read_list.Goals as goal
 

@@ -1,6 +1,5 @@
 -- `text::read_number`: by the base, or a fault stands before.
 use Rattle.text.specs.Text.{field_as, number_in, number_after}
-use Rattle.std.proofs.Common.{rules}
 use Rattle.text.proofs.read_number.Goals as goal
 
 pub returns-in-Ten : goal.returns-in-Ten

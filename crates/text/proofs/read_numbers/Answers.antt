@@ -1,5 +1,5 @@
-use Rattle.std.proofs.Common.{◌-◌, ◌≤◌, length, arith}
-use Rattle.text.proofs.Fields.{Filling, filling_start, filling_on, filling_end}
+use Rattle.std.proofs.Common.{arith}
+use Rattle.text.proofs.Fields.{filling_start, filling_on, filling_end}
 use Rattle.text.proofs.read_numbers.Goals as goal
 
 pub read_number-n-requires : goal.read_number-n-requires

@@ -1,6 +1,6 @@
 -- `text::read_numbers`: the numbers that stand there with those that are to come are all.
-use Rattle.std.proofs.Common.{◌-◌, ◌≤◌, length, arith}
-use Rattle.text.proofs.Fields.{Filling, filling_start, filling_on, filling_end}
+use Rattle.std.proofs.Common.{◌-◌, ◌≤◌, length}
+use Rattle.text.proofs.Fields.{Filling}
 use Rattle.text.proofs.read_numbers.Given as goal
 
 abbrev pub invariant-loop-i : goal.invariant-loop-i

@@ -1,6 +1,5 @@
 -- `text::read_start`: all bytes are plain, or one is not.
 use Rattle.text.specs.Text.{start_of}
-use Rattle.std.proofs.Common.{rules}
 use Rattle.text.proofs.read_start.Goals as goal
 
 pub returns-then-all_plain : goal.returns-then-all_plain

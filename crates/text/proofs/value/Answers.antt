@@ -1,4 +1,4 @@
-use Rattle.std.proofs.Common.{◌≡◌, ℕ, ◌+◌, ◌-◌, ◌*◌, ◌<◌, ◌≤◌, length, drop, sym, refl, ap, ◌∙◌, arith, ltb-false, ltb-true}
+use Rattle.std.proofs.Common.{ℕ, ◌+◌, ◌*◌, ◌<◌, ◌≤◌, drop, sym, refl, ap, ◌∙◌, arith, ltb-false, ltb-true}
 use Rattle.text.specs.Text.{value_from, limited}
 use Rattle.text.proofs.Laws.{value_go, value_end, value_over, limited_in}
 use Rattle.text.proofs.value.Goals.{Else-is_over}

@@ -1,7 +1,6 @@
 -- `text::value`: the number so far, with the digits left, is the whole number; it is within the limit.
-use Rattle.std.proofs.Common.{◌≡◌, ℕ, ◌+◌, ◌-◌, ◌*◌, ◌<◌, ◌≤◌, length, drop, sym, refl, ap, ◌∙◌, arith, ltb-false, ltb-true}
-use Rattle.text.specs.Text.{value_from, limited}
-use Rattle.text.proofs.Laws.{value_go, value_end, value_over, limited_in}
+use Rattle.std.proofs.Common.{◌≡◌, ◌-◌, ◌≤◌, length, drop}
+use Rattle.text.specs.Text.{value_from}
 use Rattle.text.proofs.value.Given as goal
 
 abbrev pub invariant-loop-i : goal.invariant-loop-i
