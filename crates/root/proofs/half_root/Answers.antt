@@ -1,4 +1,4 @@
-use Rattle.std.proofs.Common.{◌+◌, ◌*◌, ◌^◌, ◌<◌, ◌≤◌, le_trans, le_of_lt, mul-le-mul, div-le_self, arith, lit<}
+use Rattle.std.proofs.Common.{le_trans, le_of_lt, mul-le-mul, div-le_self, arith, lit<}
 use Rattle.root.proofs.Newton.{newton_above, newton_below, sq_pos}
 use Rattle.root.proofs.half_root.Goals as goal
 

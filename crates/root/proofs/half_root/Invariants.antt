@@ -1,6 +1,5 @@
 -- `root::half_root` meets its contract. The invariant: m is below the square of r + 1, and r is at most 2 ^ 28. Assumes nothing.
-use Rattle.std.proofs.Common.{◌+◌, ◌*◌, ◌^◌, ◌<◌, ◌≤◌, le_trans, le_of_lt, mul-le-mul, div-le_self, arith, lit<}
-use Rattle.root.proofs.Newton.{newton_above, newton_below, sq_pos}
+use Rattle.std.proofs.Common.{◌+◌, ◌*◌, ◌^◌, ◌<◌, ◌≤◌}
 use Rattle.root.proofs.half_root.Given as goal
 
 abbrev pub invariant-loop-r : goal.invariant-loop-r

@@ -1,12 +1,12 @@
 -- `root::root_bits` meets its contract. Assumes nothing.
-use Rattle.std.proofs.Common.{◌≡◌, ℕ, ◌+◌, ◌-◌, ◌*◌, ◌/◌, ◌%◌, ◌^◌, ◌<◌, ◌≤◌, sym, refl, ap, ◌∙◌, subst, mul_assoc, arith, pow-add, rules}
+use Rattle.std.proofs.Common.{◌≡◌, ℕ, ◌+◌, ◌-◌, ◌*◌, ◌/◌, ◌%◌, ◌^◌, ◌<◌, ◌≤◌, sym, refl, ap, ◌∙◌, subst, mul_assoc, arith, pow-add}
 use native.Mathlib.Decide.{dec_lt}
 use lib.Bits.{bit_and, and_mask}
 use lib.Count.{count_leading_zeros}
 use lib.Ieee.{nan, binary64, of_bits, to_bits}
 use Rattle.root.specs.Root.{root, rooted}
 use Rattle.root.proofs.Patterns.{normal, subnormal, root_odd}
-use Rattle.root.proofs.Signs.{nan_pattern, nan_bits, below_zero, written_back}
+use Rattle.root.proofs.Signs.{nan_pattern, written_nan, below_zero, written_back}
 use Rattle.root.proofs.Shifts.{Shifted, shifted, same_number}
 use Rattle.root.proofs.root_bits.Goals.{Then-b-lt4503599627370496}
 use Rattle.root.proofs.root_bits.Goals as goal
@@ -69,7 +69,7 @@ returns-then-b-eq9218868437227405312 c = itself _ _ at-infinity c.if-b-eq9218868
 pub returns-then-b-gt9218868437227405312 : goal.returns-then-b-gt9218868437227405312
 returns-then-b-gt9218868437227405312 c =
     let b = c.args.b in
-    nan_bits (root binary64 (of_bits binary64 b)) (no-root b c.ranges.b.fits c.if-b-gt9218868437227405312.true c.if-b-eq9223372036854775808.false)
+    written_nan (root binary64 (of_bits binary64 b)) (no-root b c.ranges.b.fits c.if-b-gt9218868437227405312.true c.if-b-eq9223372036854775808.false)
 
 pub overflow_sub-z : goal.overflow_sub-z
 overflow_sub-z c = let k = up (goal.at.overflow_sub-z c).Then-b-lt4503599627370496 in omega arith

@@ -1,12 +1,12 @@
 -- `root::root_far` meets its contract. Assumes nothing.
 -- what owning an `f64` tells: the format holds it
-use Rattle.std.proofs.Common.{◌≡◌, false, T, sym, refl, subst, rules}
+use Rattle.std.proofs.Common.{◌≡◌, ℕ, false, T, sym, refl, subst}
 use denote.Floats.{passes}
-use lib.Ieee.{Float, nan, binary64, fits, is_nan, of_bits, div}
+use lib.Ieee.{Float, nan, binary64, fits, is_nan, of_bits, to_bits, div}
 use lib.Ieee.Compare.{differs_from_itself}
 use Rattle.root.specs.Root as Root
 use Rattle.root.proofs.Kept.{root_negative, itself_number, no, read_back, no_nan}
-use Rattle.root.proofs.root_far.Goals.{After-root_bits, Else-x-2, Start}
+use Rattle.root.proofs.root_far.Goals.{Else-x-2, Start}
 use Rattle.root.proofs.root_far.Goals as goal
 
 held : (c : Start) → T (fits binary64 c.args.x)
@@ -20,8 +20,8 @@ root-nan = refl
 number : (c : Else-x-2) → is_nan c.args.x ≡ false
 number c = itself_number c.args.x c.if-x.false
 
-read : (c : After-root_bits) → of_bits binary64 c.root_bits.result ≡ Root.root binary64 c.args.x
-read c = read_back c.args.x c.root_bits.result (held c) c.root_bits.ensures
+read : (c : Start) (r : ℕ) → r ≡ to_bits binary64 (Root.root binary64 (of_bits binary64 (to_bits binary64 c.args.x))) → of_bits binary64 r ≡ Root.root binary64 c.args.x
+read c r e = read_back c.args.x r (held c) e
 
 pub returns-then-x : goal.returns-then-x
 returns-then-x c = subst (λ (v : Float). v ≡ Root.root binary64 v) (sym (differs_from_itself c.args.x (passes _ c.if-x.true))) root-nan
@@ -35,7 +35,7 @@ float_to_bits-x c = no _ (number (goal.at.float_to_bits-x c).Else-x-2)
 
 pub float_from_bits-result : goal.float_from_bits-result
 unfolding of_bits
-float_from_bits-result c = no_nan c.args.x c.root_bits.result (number (goal.at.float_from_bits-result c).Else-x-2) c.if-x-2.false (read (goal.at.float_from_bits-result c).After-root_bits)
+float_from_bits-result c = no_nan c.args.x c.root_bits.result (number (goal.at.float_from_bits-result c).Else-x-2) c.if-x-2.false (read (goal.at.float_from_bits-result c).Start c.root_bits.result c.root_bits.ensures)
 
 pub returns : goal.returns
-returns c = read (goal.at.returns c).After-root_bits
+returns c = read (goal.at.returns c).Start c.root_bits.result c.root_bits.ensures

@@ -1,6 +1,6 @@
 -- `root::root_near` meets its contract, whatever the guess: the test says that s is the whole part of the root of m. Assumes nothing.
 -- m, from the pattern, and s, from the guess's pattern
-use Rattle.std.proofs.Common.{◌≡◌, ℕ, ◌+◌, ◌*◌, ◌/◌, ◌%◌, ◌^◌, ◌<◌, ◌≤◌, mul-le-mul, arith, w64, Fits, rules}
+use Rattle.std.proofs.Common.{◌≡◌, ℕ, ◌+◌, ◌*◌, ◌/◌, ◌%◌, ◌^◌, ◌<◌, ◌≤◌, mul-le-mul, arith, w64, Fits}
 use lib.Bits.{bit_and, mask_lt}
 use lib.Ieee.{binary64, to_bits}
 use Rattle.root.specs.Root.{Near}
@@ -41,12 +41,10 @@ overflow_mul-s c =
 
 pub rounded-requires : goal.rounded-requires
 rounded-requires c =
-    let w = c in
-    let g = w in
     let k = known (goal.at.rounded-requires c).Start in
     record {
       bound = (k.lo, k.hi);
-      s_bound = whole_part _ _ _ (first_lt (to_bits binary64 g.guess-r.result)) w.wrapping_sub_u64.ensures c.if-wrapping_sub_u64-s.true;
+      s_bound = whole_part _ _ _ (first_lt (to_bits binary64 c.guess-r.result)) c.wrapping_sub_u64.ensures.value c.if-wrapping_sub_u64-s.true;
     }
 
 pub overflow_add-result : goal.overflow_add-result
@@ -54,8 +52,7 @@ overflow_add-result c = fits _ _ (known (goal.at.overflow_add-result c).Start).h
 
 pub returns-then-wrapping_sub_u64-s : goal.returns-then-wrapping_sub_u64-s
 returns-then-wrapping_sub_u64-s c =
-    let z = c in
-    answer _ _ _ z.requires (known (goal.at.returns-then-wrapping_sub_u64-s c).Start) c.rounded.ensures
+    answer _ _ _ c.requires (known (goal.at.returns-then-wrapping_sub_u64-s c).Start) c.rounded.ensures
 
 pub rounded_root-requires : goal.rounded_root-requires
 rounded_root-requires c = let k = known (goal.at.rounded_root-requires c).Start in (k.lo, k.hi)
@@ -65,5 +62,4 @@ overflow_add-result-2 c = fits _ _ (known (goal.at.overflow_add-result-2 c).Star
 
 pub returns : goal.returns
 returns c =
-    let z = c in
-    answer _ _ _ z.requires (known (goal.at.returns c).Start) c.rounded_root.ensures
+    answer _ _ _ c.requires (known (goal.at.returns c).Start) c.rounded_root.ensures

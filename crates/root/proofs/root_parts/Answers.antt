@@ -1,5 +1,5 @@
 -- `root::root_parts` meets its contract: what it returns is put together as `Parts.together` says. Assumes nothing.
-use Rattle.std.proofs.Common.{◌-◌, ◌*◌, ◌/◌, ap, ◌∙◌, arith, rules}
+use Rattle.std.proofs.Common.{◌-◌, ◌*◌, ◌/◌, ap, ◌∙◌, arith}
 use lib.Ieee.{binary64}
 use Rattle.root.specs.Root.{rooted}
 use Rattle.root.proofs.Parts.{q_hi, together, even, odds}

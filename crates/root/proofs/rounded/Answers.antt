@@ -1,5 +1,5 @@
 -- `root::rounded` meets its contract. Each need is a bound of `Halves.Step`, and each return one of its two answers. Assumes nothing.
-use Rattle.std.proofs.Common.{ℕ, ◌-◌, ◌*◌, ◌/◌, ◌%◌, arith, rules}
+use Rattle.std.proofs.Common.{ℕ, ◌-◌, ◌*◌, ◌/◌, ◌%◌, arith}
 use Rattle.root.proofs.Halves.{Step, step, up, mid}
 use Rattle.root.proofs.rounded.Goals.{Start}
 use Rattle.root.proofs.rounded.Goals as goal
