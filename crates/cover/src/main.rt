@@ -7,8 +7,7 @@ ghost use Rattle.std.specs.Prelude.{◌≡◌, ◌+◌, ◌*◌, ◌≤◌, leng
 ghost use Rattle.input.specs.Feed.{Ready};
 ghost use Rattle.cover.specs.Cover.{Told, ToldAt};
 
-use input::{Feed, Found};
-use libc::STDIN_FILENO;
+use input::{Feed, Found, Streams};
 use text::Fault;
 
 // Words for the lists of a line: more than the longest line can fill.
@@ -86,7 +85,14 @@ fn answer_at(
 
 // Line after line, numbered from 1 on, until the input ends or fails, or the output can't be written. Answers wait in the page as long as nothing has to be
 // read for the next line, and one more has room.
-fn run(buf: &mut [u8], words: &mut [u64], mem: &mut [u64], out: &mut [u64], page: &mut [u8])
+fn run(
+    streams: Streams,
+    buf: &mut [u8],
+    words: &mut [u64],
+    mem: &mut [u64],
+    out: &mut [u64],
+    page: &mut [u8],
+)
     requires { 17 * length out.old + 256 ≤ length page.old }
 {
     let longest = 17 * out.len() + 256;
@@ -96,7 +102,7 @@ fn run(buf: &mut [u8], words: &mut [u64], mem: &mut [u64], out: &mut [u64], page
     let mut answered: u64 = 0;
     let mut waiting = 0;
     while number < u64::MAX {
-        let t = input::read_line(STDIN_FILENO, buf, next, filled, page, waiting, longest);
+        let t = input::read_line(streams, buf, next, filled, page, waiting, longest);
         if t.failed {
             return;
         }
@@ -105,7 +111,7 @@ fn run(buf: &mut [u8], words: &mut [u64], mem: &mut [u64], out: &mut [u64], page
         number += 1;
         waiting = answer_at(f, number, answered, buf, words, mem, out, page, at);
         let found = f.found;
-        if !input::goes_on(found, page, waiting) {
+        if !input::goes_on(streams, found, page, waiting) {
             return;
         }
         if at < waiting {
@@ -114,14 +120,21 @@ fn run(buf: &mut [u8], words: &mut [u64], mem: &mut [u64], out: &mut [u64], page
         next = f.next;
         filled = f.filled;
     }
-    input::tell_waiting(Found::Line, page, waiting);
+    input::tell_waiting(streams, Found::Line, page, waiting);
 }
 
-fn main() {
+fn main(rt: HostRuntime) {
     let mut buf = input::buffer();
     let mut words = list_words();
     let mut mem = memory();
     let mut out = places();
     let mut page = blank_page();
-    run(&mut buf, &mut words, &mut mem, &mut out, &mut page);
+    run(
+        input::standard_streams(rt),
+        &mut buf,
+        &mut words,
+        &mut mem,
+        &mut out,
+        &mut page,
+    );
 }

@@ -6,8 +6,7 @@ ghost use Rattle.std.specs.Prelude.{◌≡◌, ◌≤◌, ◌<◌, replicate, le
 ghost use Rattle.replies.specs.Write.{Wrote};
 ghost use Rattle.filter.specs.Filter.{Turned, malformed_text, over_text, Replied};
 
-use input::{All, Found};
-use libc::{STDERR_FILENO, STDIN_FILENO};
+use input::{All, Found, Streams};
 use tokens::{Answer, Form};
 
 // What is to be written: how many bytes of the page, and whether they are the answer or say why there is none.
@@ -92,26 +91,26 @@ pub fn answer(from: Form, to: Form, text: &[u8], ids: &mut [u64], page: &mut [u8
 }
 
 // Writes what there is to write: an answer to standard output, else to standard error.
-fn tell(r: Reply, page: &[u8])
+fn tell(streams: Streams, r: Reply, page: &[u8])
     requires { r.length ≤ length page.now }
 {
     let n = r.length;
     if r.done {
-        input::tell(Found::Line, &page[..n]);
+        input::tell(streams, Found::Line, &page[..n]);
         return;
     }
-    io::write_all(STDERR_FILENO, &page[..n]);
+    input::say(streams, &page[..n]);
 }
 
 // Takes all of standard input.
-pub fn run(from: Form, to: Form, buf: &mut [u8], ids: &mut [u64], page: &mut [u8])
+pub fn run(streams: Streams, from: Form, to: Form, buf: &mut [u8], ids: &mut [u64], page: &mut [u8])
     requires { (0 < length buf.old) × (64 ≤ length page.old) }
 {
-    let all = input::read_all(STDIN_FILENO, buf);
+    let all = input::read_all(streams, buf);
     match all {
         All::Held(n) => {
             let r = answer(from, to, &buf[..n], ids, page);
-            tell(r, page);
+            tell(streams, r, page);
         }
         All::TooLong => {
             let length = put_over(page, buf.len() - 1, b" bytes\n");
@@ -119,10 +118,10 @@ pub fn run(from: Form, to: Form, buf: &mut [u8], ids: &mut [u64], page: &mut [u8
                 length,
                 done: false,
             };
-            tell(r, page);
+            tell(streams, r, page);
         }
         All::Failed => {
-            input::tell(Found::Failed, b"");
+            input::tell(streams, Found::Failed, b"");
         }
     }
 }

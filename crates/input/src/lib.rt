@@ -5,7 +5,16 @@
 ghost use Rattle.std.specs.Prelude.{◌≡◌, false, ◌&&◌, ◌+◌, ◌-◌, ◌≤◌, ◌<◌, replicate, length, take};
 ghost use Rattle.input.specs.Feed.{between, line_end, line_to, last_line, too_long, failure, is_last, Ready, NoLine, ReadOn, NextLine, may_wait, left_waiting, held_bytes};
 
-use libc::{STDERR_FILENO, STDOUT_FILENO};
+use std::io::{Print, Read};
+use std::rt::{HostRuntime, Stderr, Stdin, Stdout};
+
+// The three standard streams.
+#[derive(Clone, Copy)]
+pub struct Streams {
+    pub input: Stdin,
+    pub output: Stdout,
+    pub errors: Stderr,
+}
 
 // What was found: a line, one that is too long for the buffer, the input's end, or that the input can't be read.
 #[derive(Clone, Copy)]
@@ -56,6 +65,15 @@ pub enum All {
     Failed,
 }
 
+// The streams of a program.
+pub fn standard_streams(rt: HostRuntime) -> Streams {
+    Streams {
+        input: rt.stdin(),
+        output: rt.stdout(),
+        errors: rt.stderr(),
+    }
+}
+
 // Room for a line of 262,144 bytes and its newline.
 pub fn buffer() -> [u8; 262145]
     ensures value { 262145 ≡ length result }
@@ -86,24 +104,30 @@ fn move_down(buf: &mut [u8], from: usize, to: usize)
 }
 
 // Reads once into what is free behind the first `filled` bytes. At the input's end, and where the read fails, no more are filled than before.
-fn fill(fd: i32, buf: &mut [u8], filled: usize) -> Filled
+fn fill(streams: Streams, buf: &mut [u8], filled: usize) -> Filled
     requires { filled ≤ length buf.old }
     ensures { (filled ≤ result.filled) × (result.filled ≤ length buf.old) × (take filled buf.new ≡ take filled buf.old) }
 {
-    let got = libc::read(fd, &mut buf[filled..]);
-    Filled {
-        filled: filled + io::count(got, &buf[filled..]),
-        failed: got < 0,
+    let mut input = streams.input;
+    match input.read(&mut buf[filled..]) {
+        Ok(got) => Filled {
+            filled: filled + got,
+            failed: false,
+        },
+        Err(_) => Filled {
+            filled,
+            failed: true,
+        },
     }
 }
 
 // Reads a file to its end. Of a buffer that is full nobody knows whether it holds all, so a byte has to stay free.
-pub fn read_all(fd: i32, buf: &mut [u8]) -> All
+pub fn read_all(streams: Streams, buf: &mut [u8]) -> All
     ensures { held_bytes result ≤ length buf.old }
 {
     let mut filled = 0;
     while filled < buf.len() {
-        let f = fill(fd, buf, filled);
+        let f = fill(streams, buf, filled);
         if f.failed {
             return All::Failed;
         }
@@ -171,11 +195,11 @@ fn failure() -> Feed
 }
 
 // Reads on to the next newline, past a line too long for the buffer.
-fn skip_line(fd: i32, buf: &mut [u8]) -> Feed
+fn skip_line(streams: Streams, buf: &mut [u8]) -> Feed
     ensures { Ready (length buf.old) result × NoLine buf.new result }
 {
     for _ in 0..u64::MAX {
-        let f = fill(fd, buf, 0);
+        let f = fill(streams, buf, 0);
         if f.failed {
             return failure();
         }
@@ -192,13 +216,13 @@ fn skip_line(fd: i32, buf: &mut [u8]) -> Feed
 }
 
 // The line that the first `held` bytes begin, none of them a newline: reads on until it is whole.
-fn read_on(fd: i32, buf: &mut [u8], held: usize) -> Feed
+fn read_on(streams: Streams, buf: &mut [u8], held: usize) -> Feed
     requires { (held ≤ length buf.old) × (held ≡ line_end 0 held buf.old) }
     ensures { Ready (length buf.old) result × ReadOn (take held buf.old) buf.new result }
 {
     let mut filled = held;
     while filled < buf.len() {
-        let f = fill(fd, buf, filled);
+        let f = fill(streams, buf, filled);
         if f.failed {
             return failure();
         }
@@ -212,13 +236,13 @@ fn read_on(fd: i32, buf: &mut [u8], held: usize) -> Feed
         }
         filled = more;
     }
-    skip_line(fd, buf)
+    skip_line(streams, buf)
 }
 
 // The next line: the unread bytes are buf[next..filled], and their first newline stands at `end`, or there is none and `end` is `filled`. Then what follows
 // them is read from the file, and no answer may wait to be written: who asks may wait for it before they send more. A last line needs no newline.
 fn line_from(
-    fd: i32,
+    streams: Streams,
     buf: &mut [u8],
     next: usize,
     end: usize,
@@ -232,25 +256,30 @@ fn line_from(
         return line_to(next, end, filled);
     }
     move_down(buf, next, filled);
-    read_on(fd, buf, filled - next)
+    read_on(streams, buf, filled - next)
 }
 
 // The next line, where no answer waits.
-pub fn next_line(fd: i32, buf: &mut [u8], next: usize, filled: usize) -> Feed
+pub fn next_line(streams: Streams, buf: &mut [u8], next: usize, filled: usize) -> Feed
     requires { (next ≤ filled) × (filled ≤ length buf.old) }
     ensures { Ready (length buf.old) result × NextLine buf.old next filled buf.new result }
 {
     let end = line_end(buf, next, filled);
-    line_from(fd, buf, next, end, filled, 0)
+    line_from(streams, buf, next, end, filled, 0)
+}
+
+// Writes a text to standard error. Where that fails there is nobody left to tell.
+pub fn say(streams: Streams, text: &[u8]) {
+    let _ = streams.errors.write_all(text);
 }
 
 // Writes the answer to what was found to standard output, and tells whether there is more to read: not after the input's end, nor where the input can't be
 // read or the output can't be written. Those two are said on standard error.
-pub fn tell(found: Found, text: &[u8]) -> bool
+pub fn tell(streams: Streams, found: Found, text: &[u8]) -> bool
     ensures { (result && is_last found) ≡ false }
 {
-    if !io::write_all(STDOUT_FILENO, text) {
-        io::write_all(STDERR_FILENO, b"the output could not be written\n");
+    if streams.output.write_all(text).is_err() {
+        say(streams, b"the output could not be written\n");
         return false;
     }
     match found {
@@ -258,18 +287,18 @@ pub fn tell(found: Found, text: &[u8]) -> bool
         Found::TooLong => true,
         Found::End => false,
         Found::Failed => {
-            io::write_all(STDERR_FILENO, b"the input could not be read\n");
+            say(streams, b"the input could not be read\n");
             false
         }
     }
 }
 
 // Writes the answers that wait in the first bytes of a page, as `tell` does.
-pub fn tell_waiting(found: Found, page: &[u8], waiting: usize) -> bool
+pub fn tell_waiting(streams: Streams, found: Found, page: &[u8], waiting: usize) -> bool
     requires { waiting ≤ length page.now }
     ensures { (result && is_last found) ≡ false }
 {
-    tell(found, &page[..waiting])
+    tell(streams, found, &page[..waiting])
 }
 
 // Whether answers may go on waiting: the next line is held, its newline at `end`, before `filled`, and `longest` bytes have room behind them.
@@ -284,7 +313,14 @@ fn may_wait(room: usize, waiting: usize, longest: usize, end: usize, filled: usi
 }
 
 // What waits in a page before the next line is looked for: as before where it may, else nothing, and what waited is written.
-fn make_room(page: &[u8], waiting: usize, longest: usize, end: usize, filled: usize) -> Page
+fn make_room(
+    streams: Streams,
+    page: &[u8],
+    waiting: usize,
+    longest: usize,
+    end: usize,
+    filled: usize,
+) -> Page
     requires { waiting ≤ length page.now }
     ensures { result.waiting ≡ left_waiting (length page.now) waiting longest end filled }
 {
@@ -294,7 +330,7 @@ fn make_room(page: &[u8], waiting: usize, longest: usize, end: usize, filled: us
             failed: false,
         };
     }
-    let told = tell_waiting(Found::Line, page, waiting);
+    let told = tell_waiting(streams, Found::Line, page, waiting);
     Page {
         waiting: 0,
         failed: !told,
@@ -304,7 +340,7 @@ fn make_room(page: &[u8], waiting: usize, longest: usize, end: usize, filled: us
 // The next line, as `next_line` finds it, where answers wait in the first bytes of a page: before anything is read they are written, and `longest` bytes have
 // room behind those that still wait.
 pub fn read_line(
-    fd: i32,
+    streams: Streams,
     buf: &mut [u8],
     next: usize,
     filled: usize,
@@ -317,7 +353,7 @@ pub fn read_line(
     ensures waiting_value { (result.waiting ≡ left_waiting (length page.now) waiting longest (line_end next filled buf.old) filled) × (result.waiting + longest ≤ length page.now) }
 {
     let end = line_end(buf, next, filled);
-    let p = make_room(page, waiting, longest, end, filled);
+    let p = make_room(streams, page, waiting, longest, end, filled);
     let left = p.waiting;
     if p.failed {
         let feed = failure();
@@ -327,7 +363,7 @@ pub fn read_line(
             failed: true,
         };
     }
-    let feed = line_from(fd, buf, next, end, filled, left);
+    let feed = line_from(streams, buf, next, end, filled, left);
     Turn {
         feed,
         waiting: left,
@@ -336,14 +372,14 @@ pub fn read_line(
 }
 
 // Whether a line follows what was found. Where none does, the answers that wait in a page are written.
-pub fn goes_on(found: Found, page: &[u8], waiting: usize) -> bool
+pub fn goes_on(streams: Streams, found: Found, page: &[u8], waiting: usize) -> bool
     requires { waiting ≤ length page.now }
     ensures { (result && is_last found) ≡ false }
 {
     match found {
         Found::Line => true,
         Found::TooLong => true,
-        Found::End => tell_waiting(found, page, waiting),
-        Found::Failed => tell_waiting(found, page, waiting),
+        Found::End => tell_waiting(streams, found, page, waiting),
+        Found::Failed => tell_waiting(streams, found, page, waiting),
     }
 }

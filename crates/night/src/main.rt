@@ -9,8 +9,7 @@ ghost use Rattle.batch.specs.Batch.{is_head};
 ghost use Rattle.night.specs.Night.{is_end, head_heard, order_heard, line_heard, heard_in, ServedFirst};
 
 use batch::Head;
-use input::{Feed, Found};
-use libc::{STDERR_FILENO, STDIN_FILENO};
+use input::{Feed, Found, Streams};
 use orders::{NIGHT_MOST, Order};
 use text::{Fault, Place};
 use tokens::Form;
@@ -141,23 +140,44 @@ fn refusals(number: u64) -> u64
 }
 
 // Writes the line of an order that was served to standard output, and tells whether it could be written.
-fn tell_order(o: Order, begin: usize, form: Form, out: &[u64], page: &mut [u8]) -> bool
+fn tell_order(
+    streams: Streams,
+    o: Order,
+    begin: usize,
+    form: Form,
+    out: &[u64],
+    page: &mut [u8],
+) -> bool
     requires { (begin + o.count ≤ length out.now) × (17 * length out.now + 256 ≤ length page.old) }
 {
     let length = batch::put_served(page, form, o, begin, out);
-    input::tell_waiting(Found::Line, page, length)
+    input::tell_waiting(streams, Found::Line, page, length)
 }
 
 // Writes the last line of a night to standard output.
-fn tell_end(orders: usize, refused: u64, cells: usize, left: usize, page: &mut [u8])
+fn tell_end(
+    streams: Streams,
+    orders: usize,
+    refused: u64,
+    cells: usize,
+    left: usize,
+    page: &mut [u8],
+)
     requires { 128 ≤ length page.old }
 {
     let length = batch::put_summary(page, orders as u64, refused, cells as u64, left as u64);
-    input::tell_waiting(Found::End, page, length);
+    input::tell_waiting(streams, Found::End, page, length);
 }
 
 // Writes the line of each of the first n orders, and the last line.
-fn tell_night(orders: [Order; 256], n: usize, form: Form, out: &[u64], page: &mut [u8])
+fn tell_night(
+    streams: Streams,
+    orders: [Order; 256],
+    n: usize,
+    form: Form,
+    out: &[u64],
+    page: &mut [u8],
+)
     requires { (n ≤ 256) × (places_of (take n orders) ≤ length out.now) × (17 * length out.now + 256 ≤ length page.old) }
 {
     let mut begin: usize = 0;
@@ -165,18 +185,19 @@ fn tell_night(orders: [Order; 256], n: usize, form: Form, out: &[u64], page: &mu
     let mut k: usize = 0;
     while k < n {
         let o = orders[k];
-        if !tell_order(o, begin, form, out, page) {
+        if !tell_order(streams, o, begin, form, out, page) {
             return;
         }
         refused += refusals(o.number);
         begin += o.count;
         k += 1;
     }
-    tell_end(n, refused, begin, out.len() - begin, page);
+    tell_end(streams, n, refused, begin, out.len() - begin, page);
 }
 
 // Serves the orders that were read, with as much of the memory and of the output as the head asks for, and tells how they were answered.
 fn serve_and_tell(
+    streams: Streams,
     orders: [Order; 256],
     n: usize,
     head: Head,
@@ -190,27 +211,27 @@ fn serve_and_tell(
     let o = cellunion::lesser(head.out as usize, out.len());
     let form = head.form;
     let served = serve_first(orders, n, &mut mem[..m], &mut out[..o]);
-    tell_night(served, n, form, &out[..o], page);
+    tell_night(streams, served, n, form, &out[..o], page);
 }
 
 // Says on standard error that there are too many orders.
-fn say_too_many(page: &mut [u8])
+fn say_too_many(streams: Streams, page: &mut [u8])
     requires { 128 ≤ length page.old }
 {
     let length = batch::put_too_many(page);
-    io::write_all(STDERR_FILENO, &page[..length]);
+    input::say(streams, &page[..length]);
 }
 
 // Says on standard error what is wrong with a line.
-fn say_wrong(number: u64, fault: Fault, page: &mut [u8])
+fn say_wrong(streams: Streams, number: u64, fault: Fault, page: &mut [u8])
     requires { 256 ≤ length page.old }
 {
     let length = replies::put_error(page, number, fault);
-    io::write_all(STDERR_FILENO, &page[..length]);
+    input::say(streams, &page[..length]);
 }
 
 // Line after line until the input ends, then the night; nothing is served where something is wrong with a line, or there are too many orders.
-fn run(buf: &mut [u8], mem: &mut [u64], out: &mut [u64], page: &mut [u8])
+fn run(streams: Streams, buf: &mut [u8], mem: &mut [u64], out: &mut [u64], page: &mut [u8])
     requires { 17 * length out.old + 256 ≤ length page.old }
 {
     let mut head = batch::read_head(b"night");
@@ -223,10 +244,10 @@ fn run(buf: &mut [u8], mem: &mut [u64], out: &mut [u64], page: &mut [u8])
     let mut filled = 0;
     let mut number: u64 = 0;
     while number < u64::MAX {
-        let f = input::next_line(STDIN_FILENO, buf, next, filled);
+        let f = input::next_line(streams, buf, next, filled);
         let found = f.found;
         if is_end(found) {
-            serve_and_tell(orders, n, head, mem, out, page);
+            serve_and_tell(streams, orders, n, head, mem, out, page);
             return;
         }
         number += 1;
@@ -239,7 +260,7 @@ fn run(buf: &mut [u8], mem: &mut [u64], out: &mut [u64], page: &mut [u8])
             }
             Heard::Take(o) => {
                 if n == NIGHT_MOST {
-                    say_too_many(page);
+                    say_too_many(streams, page);
                     return;
                 }
                 orders[n] = o;
@@ -247,7 +268,7 @@ fn run(buf: &mut [u8], mem: &mut [u64], out: &mut [u64], page: &mut [u8])
                 first = false;
             }
             Heard::Wrong(fault) => {
-                say_wrong(number, fault, page);
+                say_wrong(streams, number, fault, page);
                 return;
             }
         }
@@ -256,10 +277,10 @@ fn run(buf: &mut [u8], mem: &mut [u64], out: &mut [u64], page: &mut [u8])
     }
 }
 
-fn main() {
+fn main(rt: HostRuntime) {
     let mut buf = input::buffer();
     let mut mem = memory();
     let mut out = places();
     let mut page = blank_page();
-    run(&mut buf, &mut mem, &mut out, &mut page);
+    run(input::standard_streams(rt), &mut buf, &mut mem, &mut out, &mut page);
 }

@@ -13,8 +13,7 @@ use cell::{Cap, Cell};
 use cellid::Common;
 use cellunion::Laid;
 use hilbert::FaceIj;
-use input::{Feed, Found};
-use libc::STDIN_FILENO;
+use input::{Feed, Found, Streams};
 use point::Point;
 use region::Region;
 use requests::CovererRead;
@@ -560,25 +559,25 @@ fn answer(f: Feed, number: u64, answered: u64, buf: &[u8], page: &mut Page) -> u
 }
 
 // Tells the answer, the first n bytes of the page, and whether there is more to read.
-fn tell(found: Found, page: &[u8], n: usize) -> bool {
+fn tell(streams: Streams, found: Found, page: &[u8], n: usize) -> bool {
     if n <= page.len() {
-        return input::tell(found, &page[..n]);
+        return input::tell(streams, found, &page[..n]);
     }
     false
 }
 
 // Line after line, numbered from 1 on, until the input ends or fails, or the output can't be written.
-fn run(buf: &mut [u8], page: &mut Page) {
+fn run(streams: Streams, buf: &mut [u8], page: &mut Page) {
     let mut next = 0;
     let mut filled = 0;
     let mut number: u64 = 0;
     let mut answered: u64 = 0;
     while number < u64::MAX {
-        let f = input::next_line(STDIN_FILENO, buf, next, filled);
+        let f = input::next_line(streams, buf, next, filled);
         number += 1;
         let n = answer(f, number, answered, buf, page);
         let found = f.found;
-        if !tell(found, page, n) {
+        if !tell(streams, found, page, n) {
             return;
         }
         if 0 < n {
@@ -593,8 +592,8 @@ fn blank_page() -> Page {
     [0; 1114368]
 }
 
-fn main() {
+fn main(rt: HostRuntime) {
     let mut buf = input::buffer();
     let mut page = blank_page();
-    run(&mut buf, &mut page);
+    run(input::standard_streams(rt), &mut buf, &mut page);
 }

@@ -10,8 +10,7 @@ ghost use Rattle.input.specs.Feed.{Ready};
 
 use coverer::Seen;
 use covering::Kind;
-use input::{Feed, Found};
-use libc::STDIN_FILENO;
+use input::{Feed, Found, Streams};
 use queue::Engine;
 use region::Region;
 use requests::Asked;
@@ -52,30 +51,30 @@ enum Told {
 // ---- lines
 
 // Writes the first n bytes of the page, said of what was found, and tells whether there is more to read.
-fn tell(found: Found, page: &[u8], n: usize) -> bool {
+fn tell(streams: Streams, found: Found, page: &[u8], n: usize) -> bool {
     if n <= page.len() {
-        return input::tell(found, &page[..n]);
+        return input::tell(streams, found, &page[..n]);
     }
     false
 }
 
-fn say_error(number: u64, f: Fault, page: &mut Page) -> bool {
+fn say_error(streams: Streams, number: u64, f: Fault, page: &mut Page) -> bool {
     let n = replies::put_error(page, number, f);
-    tell(Found::Line, page, n)
+    tell(streams, Found::Line, page, n)
 }
 
-fn say_refused(number: u64, page: &mut Page) -> bool {
+fn say_refused(streams: Streams, number: u64, page: &mut Page) -> bool {
     let n = replies::put_refused(page, number);
-    tell(Found::Line, page, n)
+    tell(streams, Found::Line, page, n)
 }
 
 // `done STEPS ASIDE0 .. ASIDE5 KEPT`.
-fn say_done(steps: u32, aside: Totals, kept: usize, page: &mut Page) -> bool {
+fn say_done(streams: Streams, steps: u32, aside: Totals, kept: usize, page: &mut Page) -> bool {
     let a = replies::put_number(page, 0, b"done ", steps as u64);
     let b = replies::put_totals(page, a, aside);
     let c = replies::put_number(page, b, b" ", kept as u64);
     let n = replies::put(page, c, b"\n");
-    tell(Found::Line, page, n)
+    tell(streams, Found::Line, page, n)
 }
 
 // `step K TAKEN COST FROM KEPT QUEUED ASIDE0 .. ASIDE5`.
@@ -117,6 +116,7 @@ fn put_queued(page: &mut Page, at: usize, queued: &[u64]) -> usize {
 }
 
 fn say_step(
+    streams: Streams,
     k: u32,
     taken: Ahead,
     kept: usize,
@@ -132,13 +132,14 @@ fn say_step(
     let b = replies::put_ids(page, a, Form::Digits, &out[..kept]);
     let c = put_queued(page, b, &out[kept..end]);
     let n = replies::put(page, c, b"\n");
-    tell(Found::Line, page, n)
+    tell(streams, Found::Line, page, n)
 }
 
 // ---- a run
 
 // Writes what stands after k steps, and the run's end where nothing is queued.
 fn show(
+    streams: Streams,
     k: u32,
     taken: Ahead,
     kept: usize,
@@ -150,20 +151,21 @@ fn show(
 ) -> Shown
     requires { kept + 3 * queued ≤ length out.now }
 {
-    if say_step(k, taken, kept, queued, aside, out, page) {
+    if say_step(streams, k, taken, kept, queued, aside, out, page) {
         if 0 < queued {
             let id = out[kept];
             let cost = out[kept + 1];
             let from = out[kept + 2];
             return Shown::Next(Ahead { id, cost, from });
         }
-        return Shown::Ended(say_done(steps, aside, kept, page));
+        return Shown::Ended(say_done(streams, steps, aside, kept, page));
     }
     Shown::Ended(false)
 }
 
 // The run after k steps.
 fn watch_step(
+    streams: Streams,
     inner: bool,
     c: RegionCoverer,
     g: Region,
@@ -176,18 +178,19 @@ fn watch_step(
 ) -> Shown {
     let s = covering::watch(Engine::Plain, inner, c, g, list, k, mem, out);
     match s {
-        Seen::Refused(n) => Shown::Ended(say_refused(n, page)),
+        Seen::Refused(n) => Shown::Ended(say_refused(streams, n, page)),
         Seen::Standing {
             kept,
             queued,
             steps,
             aside,
-        } => show(k, taken, kept, queued, steps, aside, out, page),
+        } => show(streams, k, taken, kept, queued, steps, aside, out, page),
     }
 }
 
 // The steps that are allowed, from the start cells on; where more would follow, the run is refused with 9. Tells whether all is written.
 fn follow(
+    streams: Streams,
     inner: bool,
     c: RegionCoverer,
     g: Region,
@@ -204,7 +207,7 @@ fn follow(
     };
     let mut k: u32 = 0;
     while k < allowance {
-        let s = watch_step(inner, c, g, list, k, taken, mem, out, page);
+        let s = watch_step(streams, inner, c, g, list, k, taken, mem, out, page);
         match s {
             Shown::Ended(whole) => {
                 return whole;
@@ -215,15 +218,16 @@ fn follow(
             }
         }
     }
-    let last = watch_step(inner, c, g, list, allowance, taken, mem, out, page);
+    let last = watch_step(streams, inner, c, g, list, allowance, taken, mem, out, page);
     match last {
         Shown::Ended(whole) => whole,
-        Shown::Next(_) => say_refused(9, page),
+        Shown::Next(_) => say_refused(streams, 9, page),
     }
 }
 
 // A request by its kind; the quick covering takes no steps to follow.
 fn answer_kind(
+    streams: Streams,
     kind: Kind,
     c: RegionCoverer,
     g: Region,
@@ -235,14 +239,15 @@ fn answer_kind(
     page: &mut Page,
 ) -> bool {
     match kind {
-        Kind::Outer(_) => follow(false, c, g, list, allowance, mem, out, page),
-        Kind::Inner(_) => follow(true, c, g, list, allowance, mem, out, page),
-        Kind::Fast => say_error(number, Fault::OutsideDomain, page),
+        Kind::Outer(_) => follow(streams, false, c, g, list, allowance, mem, out, page),
+        Kind::Inner(_) => follow(streams, true, c, g, list, allowance, mem, out, page),
+        Kind::Fast => say_error(streams, number, Fault::OutsideDomain, page),
     }
 }
 
 // A request with as much of the memory as it asks for.
 fn answer_asked(
+    streams: Streams,
     q: Asked,
     list: &[u64],
     number: u64,
@@ -255,6 +260,7 @@ fn answer_asked(
     let g = q.region;
     let m = cellunion::lesser(q.mem as usize, mem.len());
     answer_kind(
+        streams,
         kind,
         c,
         g,
@@ -277,6 +283,7 @@ fn said(whole: bool) -> Told {
 }
 
 fn answer_line(
+    streams: Streams,
     line: &[u8],
     number: u64,
     words: &mut [u64],
@@ -290,12 +297,13 @@ fn answer_line(
     let q = requests::read_asked(line, words);
     let after = q.after;
     match after {
-        Place::At(_) => said(answer_asked(q, &words[..q.count], number, mem, out, page)),
-        Place::Bad(f) => said(say_error(number, f, page)),
+        Place::At(_) => said(answer_asked(streams, q, &words[..q.count], number, mem, out, page)),
+        Place::Bad(f) => said(say_error(streams, number, f, page)),
     }
 }
 
 fn answer(
+    streams: Streams,
     f: Feed,
     number: u64,
     answered: u64,
@@ -312,30 +320,37 @@ fn answer(
         Found::Line => {
             let start = f.start;
             let end = f.end;
-            answer_line(&buf[start..end], number, words, mem, out, page)
+            answer_line(streams, &buf[start..end], number, words, mem, out, page)
         }
-        Found::TooLong => said(say_error(number, Fault::LineTooLong, page)),
+        Found::TooLong => said(say_error(streams, number, Fault::LineTooLong, page)),
         Found::Failed => {
             let n = replies::put_error(page, number, Fault::ReadFailed);
-            said(tell(found, page, n))
+            said(tell(streams, found, page, n))
         }
         Found::End => {
             let n = replies::put_end(page, answered);
-            said(tell(found, page, n))
+            said(tell(streams, found, page, n))
         }
     }
 }
 
 // Line after line, numbered from 1 on, until the input ends or fails, or the output can't be written.
-fn run(buf: &mut [u8], words: &mut [u64], mem: &mut [u64], out: &mut Places, page: &mut Page) {
+fn run(
+    streams: Streams,
+    buf: &mut [u8],
+    words: &mut [u64],
+    mem: &mut [u64],
+    out: &mut Places,
+    page: &mut Page,
+) {
     let mut next = 0;
     let mut filled = 0;
     let mut number: u64 = 0;
     let mut answered: u64 = 0;
     while number < u64::MAX {
-        let f = input::next_line(STDIN_FILENO, buf, next, filled);
+        let f = input::next_line(streams, buf, next, filled);
         number += 1;
-        let t = answer(f, number, answered, buf, words, mem, out, page);
+        let t = answer(streams, f, number, answered, buf, words, mem, out, page);
         next = f.next;
         filled = f.filled;
         match t {
@@ -367,11 +382,18 @@ fn blank_page() -> Page {
     [0; 65536]
 }
 
-fn main() {
+fn main(rt: HostRuntime) {
     let mut buf = input::buffer();
     let mut words = list_words();
     let mut mem = memory();
     let mut out = places();
     let mut page = blank_page();
-    run(&mut buf, &mut words, &mut mem, &mut out, &mut page);
+    run(
+        input::standard_streams(rt),
+        &mut buf,
+        &mut words,
+        &mut mem,
+        &mut out,
+        &mut page,
+    );
 }

@@ -3,9 +3,16 @@
 
 use tokens::Form;
 
-fn main() {
+fn main(rt: HostRuntime) {
     let mut buf = filter::buffer();
     let mut ids = filter::places();
     let mut page = filter::page();
-    filter::run(Form::Digits, Form::Token, &mut buf, &mut ids, &mut page);
+    filter::run(
+        input::standard_streams(rt),
+        Form::Digits,
+        Form::Token,
+        &mut buf,
+        &mut ids,
+        &mut page,
+    );
 }

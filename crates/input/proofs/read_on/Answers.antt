@@ -30,7 +30,7 @@ pub returns : goal.returns
 returns c = (search rules, none c.skip_line.ensures.1)
 
 pub returns-then-more-filled : goal.returns-then-more-filled
-returns-then-more-filled c = (rw c.last_Line.ensures (search rules), last _ (held_kept c.fill-f.ensures.2 c.loop-filled.invariant.2) c.last_Line.ensures)
+returns-then-more-filled c = (rw c.last_line.ensures (search rules), last _ (held_kept c.fill-f.ensures.2 c.loop-filled.invariant.2) c.last_line.ensures)
 
 pub returns-then-end-more : goal.returns-then-end-more
 returns-then-end-more c =
