@@ -1,5 +1,4 @@
 -- `point::chordangle` meets its contract.
-use borrow.Author.Rules.{rules}
 use Rattle.point.specs.ChordAngle.{chord_angle, at_most4}
 use Rattle.point.proofs.chordangle.Goals as goal
 

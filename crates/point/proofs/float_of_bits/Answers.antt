@@ -3,7 +3,6 @@ use mathlib.Core.Path.{sym}
 use lib.Ieee.{of_bits, div}
 use Rattle.root.proofs.Kept.{no}
 use Rattle.root.proofs.Signs.{nan_pattern, number_pattern}
-use borrow.Author.Rules.{rules}
 use Rattle.point.proofs.float_of_bits.Goals as goal
 
 pub returns-then-b-gt9218868437227405312 : goal.returns-then-b-gt9218868437227405312

@@ -1,5 +1,4 @@
 -- `point::is_unit` meets its contract.
-use borrow.Author.Rules.{rules}
 use Rattle.point.specs.Vector.{is_unit}
 use Rattle.point.proofs.is_unit.Goals as goal
 

@@ -1,5 +1,4 @@
 -- `point::norm` meets its contract.
-use borrow.Author.Rules.{rules}
 use Rattle.point.specs.Vector.{norm_of}
 use Rattle.point.proofs.norm.Goals as goal
 

@@ -1,5 +1,4 @@
 -- `point::norm2` meets its contract.
-use borrow.Author.Rules.{rules}
 use Rattle.point.specs.Vector.{norm2_of}
 use Rattle.point.proofs.norm2.Goals as goal
 
