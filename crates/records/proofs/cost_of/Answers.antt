@@ -4,7 +4,6 @@ use native.Mathlib.Omega.{arith}
 use native.Mathlib.Nat.{mul-le-mul}
 use Rattle.cellid.proofs.Laws.{level_le}
 use Rattle.run.specs.Run.{cost_of}
-use borrow.Author.Rules.{rules}
 use Rattle.records.proofs.cost_of.Goals as goal
 
 inner : (l f : ℕ) → l ≤ 30 → f ≤ 65 → l * f ≤ 30 * 65

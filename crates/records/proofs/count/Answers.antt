@@ -8,7 +8,6 @@ use native.Mathlib.Omega.{arith}
 use lib.Dec.{T, eqb, eqb→eq}
 use lib.Count.{ones, ones-le}
 use lib.Ieee.Fits.{and_l, and_r}
-use borrow.Author.Rules.{rules}
 use Rattle.records.proofs.count.Goals as goal
 
 abbrev digit : ℕ → ℕ

@@ -3,7 +3,6 @@ use mathlib.Core.Path.{refl}
 use native.Mathlib.Omega.{arith}
 use lib.ListN.{length-set}
 use Rattle.records.specs.Records.{put_r}
-use borrow.Author.Rules.{rules}
 use Rattle.records.proofs.put.Goals as goal
 
 pub bounds-m-i-2 : goal.bounds-m-i-2

@@ -1,6 +1,5 @@
 -- `records::record_of` meets its contract.
 use Rattle.records.specs.Records.{record_of}
-use borrow.Author.Rules.{rules}
 use Rattle.records.proofs.record_of.Goals as goal
 
 pub returns : goal.returns
