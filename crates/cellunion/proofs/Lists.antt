@@ -2,13 +2,13 @@
 -- list, one cell after another.
 use mathlib.Core.Path.{◌≡◌, refl, sym, ap, ◌∙◌}
 use mathlib.Core.Logic.{◌⊎◌, ◌↔◌, ⊎_elim}
-use mathlib.Core.Bool.{Bool, true, false, not, ◌&&◌, ◌||◌, or_assoc, and-eq-true_iff}
+use mathlib.Core.Bool.{Bool, true, false, ◌&&◌, ◌||◌, or_assoc, and-eq-true_iff}
 use mathlib.Core.List.{List, [], ◌∷◌, ◌++◌}
 use Prim.Native.Nat.{ℕ, zero, suc, ◌+◌, ◌≤◌, ◌<◌}
 use native.Mathlib.Omega.{arith}
 use lib.ListN.{length, get_or, drop}
 use lib.Dec.{ltb}
-use borrow.Author.Tests.{ltb-true, lt-ltb, not-true, not-false}
+use borrow.Author.Tests.{ltb-true, lt-ltb}
 use Rattle.cellid.specs.CellId.{Cell, valid_id, first_leaf, last_leaf, has_leaf}
 use Rattle.cellid.proofs.Laws.{no_true, valid_is, valid_fits, cell_valid, cell_pos}
 use Rattle.cellid.proofs.Puts.{next_of, none_left}
@@ -83,16 +83,16 @@ unfolding list_from
 check_next l last i b G h e =
     ap (λ (t : Bool). t && list_from (last_leaf (get_or l i 0)) (drop (i + 1) l)) e ∙ sym (ap (list_from last) (next_of l i h)) ∙ G.same
 
-pub check_bad : (l : List ℕ) (last i : ℕ) (b : Bool) → Checking l last i → i < length l → b ≡ listed last (get_or l i 0) → not b ≡ true → false ≡ is_list l
-check_bad l last i b G h e t = rw (not-true b t) at (check_next l last i b G h e)
+pub check_bad : (l : List ℕ) (last i : ℕ) (b : Bool) → Checking l last i → i < length l → b ≡ listed last (get_or l i 0) → b ≡ false → false ≡ is_list l
+check_bad l last i b G h e t = rw t at (check_next l last i b G h e)
 
-pub check_pos : (last id : ℕ) (b : Bool) → b ≡ listed last id → not b ≡ false → 0 < id
-check_pos last id b e t = let C = (listed→ last id (sym e ∙ not-false b t)).0 in cell_pos id C.0 C.1 C.2
+pub check_pos : (last id : ℕ) (b : Bool) → b ≡ listed last id → b ≡ true → 0 < id
+check_pos last id b e t = let C = (listed→ last id (sym e ∙ t)).0 in cell_pos id C.0 C.1 C.2
 
-pub check_on : (l : List ℕ) (last i w : ℕ) (b : Bool) → Checking l last i → i < length l → b ≡ listed last (get_or l i 0) → not b ≡ false → w ≡ last_leaf (get_or l i 0) → Checking l w (i + 1)
+pub check_on : (l : List ℕ) (last i w : ℕ) (b : Bool) → Checking l last i → i < length l → b ≡ listed last (get_or l i 0) → b ≡ true → w ≡ last_leaf (get_or l i 0) → Checking l w (i + 1)
 check_on l last i w b G h e t q = record {
   within = omega arith;
-  same = ap (λ (y : ℕ). list_from y (drop (i + 1) l)) q ∙ (rw (not-false b t) at (check_next l last i b G h e));
+  same = ap (λ (y : ℕ). list_from y (drop (i + 1) l)) q ∙ (rw t at (check_next l last i b G h e));
 }
 
 pub check_end : (l : List ℕ) (last i : ℕ) → Checking l last i → length l ≤ i → true ≡ is_list l

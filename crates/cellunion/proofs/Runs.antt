@@ -1,7 +1,7 @@
 -- The memory's turns are the stack's turns.
 use mathlib.Core.Path.{◌≡◌, refl, sym, ap, ap₂, ◌∙◌, subst}
 use mathlib.Core.Logic.{◌⊎◌, inl, inr, ⊎_elim}
-use mathlib.Core.Bool.{Bool, true, false, not}
+use mathlib.Core.Bool.{Bool, true, false}
 use mathlib.Core.List.{List, [], ◌∷◌, ◌++◌}
 use Prim.Native.Nat.{ℕ, zero, suc, ◌+◌, ◌-◌, ◌*◌, ◌≤◌, ◌<◌}
 use native.Mathlib.Omega.{arith}
@@ -9,7 +9,6 @@ use native.Mathlib.Numerals.{add-one}
 use lib.ListN.{length, get_or, take, drop, set, length-append}
 use lib.Seq.{length-take-le, take-suc, take_at, drop_at, drop-set-lt, get_or-set_same, get_or-set_other}
 use lib.Dec.{ltb}
-use borrow.Author.Tests.{not-true, not-false}
 use Rattle.cellid.specs.CellId.{Cell, IsCell, holds}
 use Rattle.cellid.proofs.Laws.{cell_pos}
 use Rattle.cellid.proofs.Leaves.{child_cell}
@@ -32,16 +31,16 @@ top_pop (suc k) m h = let e : suc k - 1 ≡ k = omega arith in rw e
 
 -- ---- what stands inside c
 
-pub clear_go : (c k : ℕ) (m : List ℕ) (b : Bool) → 0 < k → b ≡ holds c (get_or m (k - 1) 0) → not b ≡ false → clear_of c (top_first k m) ≡ clear_of c (top_first (k - 1) m)
+pub clear_go : (c k : ℕ) (m : List ℕ) (b : Bool) → 0 < k → b ≡ holds c (get_or m (k - 1) 0) → b ≡ true → clear_of c (top_first k m) ≡ clear_of c (top_first (k - 1) m)
 unfolding clear_of
 clear_go c k m b h e t =
-    let f : holds c (get_or m (k - 1) 0) ≡ true = sym e ∙ not-false b t in
+    let f : holds c (get_or m (k - 1) 0) ≡ true = sym e ∙ t in
     rw (top_pop k m h, clear_of, f)
 
-pub clear_stop : (c k : ℕ) (m : List ℕ) (b : Bool) → 0 < k → b ≡ holds c (get_or m (k - 1) 0) → not b ≡ true → clear_of c (top_first k m) ≡ top_first k m
+pub clear_stop : (c k : ℕ) (m : List ℕ) (b : Bool) → 0 < k → b ≡ holds c (get_or m (k - 1) 0) → b ≡ false → clear_of c (top_first k m) ≡ top_first k m
 unfolding clear_of
 clear_stop c k m b h e t =
-    let f : holds c (get_or m (k - 1) 0) ≡ false = sym e ∙ not-true b t in
+    let f : holds c (get_or m (k - 1) 0) ≡ false = sym e ∙ t in
     rw (top_pop k m h, clear_of, f)
 
 pub clear_end : (c k : ℕ) (m : List ℕ) → k ≤ 0 → clear_of c (top_first k m) ≡ top_first k m
@@ -78,9 +77,9 @@ rises x y z c s T e =
     let R = rise x y z c s T.stack T.cell (four→ T.cell e) in
     record { stack = tail (tail (tail T.stack)); cell = R.cell; under = R.under }
 
-pub below_face : (x y z c : ℕ) → Cell c → (b : Bool) → b ≡ is_four x y z c → not b ≡ false → (L : ℕ) × (p : ℕ) × IsCell c (L + 1) p
+pub below_face : (x y z c : ℕ) → Cell c → (b : Bool) → b ≡ is_four x y z c → b ≡ true → (L : ℕ) × (p : ℕ) × IsCell c (L + 1) p
 below_face x y z c C b e t =
-    let F = four→ {x = x} {y = y} {z = z} C (sym e ∙ not-false b t) in
+    let F = four→ {x = x} {y = y} {z = z} C (sym e ∙ t) in
     (F.L, 4 * F.p + 3, subst (λ (w : ℕ). IsCell w (F.L + 1) (4 * F.p + 3)) (sym F.is3) (child_cell 3 F.cell F.small (omega arith)))
 
 pub record Going (m : List ℕ) (k₀ c₀ k c : ℕ) : Type 0 where
@@ -92,9 +91,9 @@ pub record Going (m : List ℕ) (k₀ c₀ k c : ℕ) : Type 0 where
 pub siblings_ask : (m : List ℕ) (k₀ c₀ k c : ℕ) → Going m k₀ c₀ k c → 3 ≤ k → SiblingsAsk (get_or m (k - 3) 0) (get_or m (k - 2) 0) (get_or m (k - 1) 0) c
 siblings_ask m k₀ c₀ k c G h = asks _ _ _ c (top_first (k - 3) m) (subst (λ (s : List ℕ). Topped s c) (top_three k m h) G.topped)
 
-pub collapse_turn : (m : List ℕ) (k₀ c₀ k c p : ℕ) (b : Bool) → Going m k₀ c₀ k c → 3 ≤ k → b ≡ is_four (get_or m (k - 3) 0) (get_or m (k - 2) 0) (get_or m (k - 1) 0) c → not b ≡ false → p ≡ up_one c → Going m k₀ c₀ (k - 3) p
+pub collapse_turn : (m : List ℕ) (k₀ c₀ k c p : ℕ) (b : Bool) → Going m k₀ c₀ k c → 3 ≤ k → b ≡ is_four (get_or m (k - 3) 0) (get_or m (k - 2) 0) (get_or m (k - 1) 0) c → b ≡ true → p ≡ up_one c → Going m k₀ c₀ (k - 3) p
 collapse_turn m k₀ c₀ k c p b G h e t q =
-    let f : is_four (get_or m (k - 3) 0) (get_or m (k - 2) 0) (get_or m (k - 1) 0) c ≡ true = sym e ∙ not-false b t in
+    let f : is_four (get_or m (k - 3) 0) (get_or m (k - 2) 0) (get_or m (k - 1) 0) c ≡ true = sym e ∙ t in
     rw q (record {
       within = omega (arith, G.within);
       room = G.room;
@@ -102,9 +101,9 @@ collapse_turn m k₀ c₀ k c p b G h e t q =
       same = sym (ap (λ (s : List ℕ). collapse s c) (top_three k m h) ∙ collapse_go _ _ _ c (top_first (k - 3) m) f) ∙ G.same;
     })
 
-pub collapse_stop : (m : List ℕ) (k c : ℕ) (b : Bool) → 3 ≤ k → b ≡ is_four (get_or m (k - 3) 0) (get_or m (k - 2) 0) (get_or m (k - 1) 0) c → not b ≡ true → collapse (top_first k m) c ≡ c ∷ top_first k m
+pub collapse_stop : (m : List ℕ) (k c : ℕ) (b : Bool) → 3 ≤ k → b ≡ is_four (get_or m (k - 3) 0) (get_or m (k - 2) 0) (get_or m (k - 1) 0) c → b ≡ false → collapse (top_first k m) c ≡ c ∷ top_first k m
 collapse_stop m k c b h e t =
-    let f : is_four (get_or m (k - 3) 0) (get_or m (k - 2) 0) (get_or m (k - 1) 0) c ≡ false = sym e ∙ not-true b t in
+    let f : is_four (get_or m (k - 3) 0) (get_or m (k - 2) 0) (get_or m (k - 1) 0) c ≡ false = sym e ∙ t in
     ap (λ (s : List ℕ). collapse s c) (top_three k m h) ∙ collapse_end _ _ _ c (top_first (k - 3) m) f ∙ ap (λ (s : List ℕ). c ∷ s) (sym (top_three k m h))
 
 pub collapse_low : (m : List ℕ) (k c : ℕ) → k < 3 → collapse (top_first k m) c ≡ c ∷ top_first k m

@@ -1,14 +1,14 @@
 -- The pass over words that are a normal list: from the first on that lies behind the parent of the last kept, they stay as they are.
 use mathlib.Core.Path.{◌≡◌, refl, sym, ap, ◌∙◌, subst}
 use mathlib.Core.Logic.{◌⊎◌, inl, inr, ⊎_elim}
-use mathlib.Core.Bool.{Bool, true, false, not, true≢false}
+use mathlib.Core.Bool.{Bool, true, false, true≢false}
 use mathlib.Core.List.{List, [], ◌∷◌, ◌++◌, append_assoc, append-nil}
 use Prim.Native.Nat.{ℕ, ◌+◌, ◌-◌, ◌≤◌, ◌<◌}
 use native.Mathlib.Omega.{arith}
 use lib.ListN.{length, get_or, take, drop, length-append}
 use lib.Seq.{length-take-le, length-slice, take_at, drop_at, drop-drop}
 use lib.Dec.{ltb, leb}
-use borrow.Author.Tests.{le-ltb, leb-false, not-true}
+use borrow.Author.Tests.{le-ltb, leb-false}
 use Rattle.cellid.specs.CellId.{Cell, IsCell, id_of, bit_at, level_of, child_of, first_leaf, last_leaf}
 use Rattle.cellid.proofs.Laws.{level_cell, cell_pos}
 use Rattle.cellid.proofs.Ancestors.{parent_cell, parent_holds}
@@ -192,11 +192,11 @@ pub rests_end : (n : ℕ) (m : List ℕ) (k i : ℕ) → n ≤ length m → n �
 unfolding pass
 rests_end n m k i r h = record { is = rw (no_more m n i r h) (sym (append-nil (rev (top_first k m)))) }
 
-pub rests_far : (n : ℕ) (m₀ : List ℕ) (k₀ i₀ : ℕ) (m : List ℕ) (k i : ℕ) (b : Bool) → Settling n m₀ k₀ i₀ m k i → i < n → b ≡ near_top (top_first k m) (get_or m i 0) → not b ≡ true → Rests n m k i
+pub rests_far : (n : ℕ) (m₀ : List ℕ) (k₀ i₀ : ℕ) (m : List ℕ) (k i : ℕ) (b : Bool) → Settling n m₀ k₀ i₀ m k i → i < n → b ≡ near_top (top_first k m) (get_or m i 0) → b ≡ false → Rests n m k i
 rests_far n m₀ k₀ i₀ m k i b G h e t =
     let P = G.passing.asks in
     let w = next_word m n i P.room h in
-    record { is = rw w (not_near (top_first k m) (get_or m i 0) (drop (i + 1) (take n m)) P.stack (subst Normal w G.list) (subst (λ (l : List ℕ). All (AllBefore (top_first k m)) l) w P.ready) (sym e ∙ not-true b t)) }
+    record { is = rw w (not_near (top_first k m) (get_or m i 0) (drop (i + 1) (take n m)) P.stack (subst Normal w G.list) (subst (λ (l : List ℕ). All (AllBefore (top_first k m)) l) w P.ready) (sym e ∙ t)) }
 
 pub settle_done : (n : ℕ) (m₀ : List ℕ) (k₀ i₀ : ℕ) (m : List ℕ) (k i : ℕ) (m' : List ℕ) (r : ℕ) → Settling n m₀ k₀ i₀ m k i → Rests n m k i → r ≡ k + (n - i) → m' ≡ laid k (drop i (take n m)) m → PassDone n m₀ k₀ i₀ m' r
 unfolding laid

@@ -2,7 +2,6 @@
 use mathlib.Core.Path.{◌≡◌, ap, ◌∙◌}
 use Prim.Native.Nat.{ℕ, ◌-◌}
 use native.Mathlib.Omega.{arith}
-use borrow.Author.Rules.{rules}
 use Rattle.cellid.specs.CellId.{level_of, parent_at}
 use Rattle.cellid.proofs.Laws.{level_le}
 use Rattle.cellunion.specs.CellUnion.{up_one}

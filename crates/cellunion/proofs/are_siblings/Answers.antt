@@ -1,5 +1,4 @@
 use Rattle.cellunion.proofs.Mask.{no_four, no_like0, no_like1, no_like2, level_test}
-use borrow.Author.Rules.{rules}
 use Rattle.cellunion.proofs.are_siblings.Goals as goal
 
 pub returns-then-x-y-ne0 : goal.returns-then-x-y-ne0

@@ -1,7 +1,5 @@
 use mathlib.Core.Path.{refl}
-use Prim.Native.Nat.{◌-◌}
-use native.Mathlib.Omega.{arith}
-use Rattle.cellunion.proofs.Memory.{Clearing, clear_turn, clear_done}
+use Rattle.cellunion.proofs.Memory.{clear_turn, clear_done}
 use Rattle.cellunion.proofs.clear.Goals as goal
 
 pub loop-i-init : goal.loop-i-init

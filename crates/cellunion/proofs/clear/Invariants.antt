@@ -1,7 +1,5 @@
-use mathlib.Core.Path.{refl}
 use Prim.Native.Nat.{◌-◌}
-use native.Mathlib.Omega.{arith}
-use Rattle.cellunion.proofs.Memory.{Clearing, clear_turn, clear_done}
+use Rattle.cellunion.proofs.Memory.{Clearing}
 use Rattle.cellunion.proofs.clear.Given as goal
 
 abbrev pub invariant-loop-i : goal.invariant-loop-i

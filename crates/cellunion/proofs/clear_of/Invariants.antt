@@ -1,9 +1,7 @@
-use mathlib.Core.Path.{◌≡◌, refl, sym, ◌∙◌}
+use mathlib.Core.Path.{◌≡◌}
 use Prim.Native.Nat.{◌≤◌}
-use native.Mathlib.Omega.{arith}
 use Rattle.cellunion.specs.CellUnion.{clear_of}
 use Rattle.cellunion.specs.Stack.{top_first}
-use Rattle.cellunion.proofs.Runs.{clear_go, clear_stop, clear_end}
 use Rattle.cellunion.proofs.clear_of.Given as goal
 
 abbrev pub invariant-loop-left : goal.invariant-loop-left

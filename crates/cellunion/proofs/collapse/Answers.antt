@@ -1,8 +1,8 @@
 use mathlib.Core.Path.{refl}
-use mathlib.Core.Logic.{⊎_elim}
 use native.Mathlib.Omega.{arith}
 use lib.ListN.{length-set}
-use Rattle.cellunion.proofs.Runs.{Going, siblings_ask, below_face, collapse_turn, collapse_stop, collapse_low, collapse_done}
+use Rattle.cellunion.proofs.Runs.{siblings_ask, below_face, collapse_turn, collapse_stop, collapse_low, collapse_done}
+use Rattle.cellunion.proofs.collapse.Goals.{else-loop-left-test, then-loop-left-test+then-not-are_siblings}
 use Rattle.cellunion.proofs.collapse.Goals as goal
 
 pub loop-left-init : goal.loop-left-init
@@ -22,4 +22,7 @@ shape_of-mem c = simp length-set
 
 pub returns : goal.returns
 returns c =
-    collapse_done _ _ _ _ _ c.loop-left.invariant (⊎_elim (λ w. collapse_low _ _ _ w.left) (λ w. collapse_stop _ _ _ _ w.0.taken w.4.ensures w.5.taken) c.loop-left-test.branch)
+    collapse_done _ _ _ _ _ c.loop-left.invariant (elim c.loop-left-test.branch [
+      | else-loop-left-test w ↦ collapse_low _ _ _ w.loop-left-test.false
+      | then-loop-left-test+then-not-are_siblings w ↦ collapse_stop _ _ _ _ w.loop-left-test.true w.are_siblings.ensures w.if-not-are_siblings.true
+    ])

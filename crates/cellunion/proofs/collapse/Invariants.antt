@@ -1,8 +1,4 @@
-use mathlib.Core.Path.{refl}
-use mathlib.Core.Logic.{⊎_elim}
-use native.Mathlib.Omega.{arith}
-use lib.ListN.{length-set}
-use Rattle.cellunion.proofs.Runs.{Going, siblings_ask, below_face, collapse_turn, collapse_stop, collapse_low, collapse_done}
+use Rattle.cellunion.proofs.Runs.{Going}
 use Rattle.cellunion.proofs.collapse.Given as goal
 
 abbrev pub invariant-loop-left : goal.invariant-loop-left

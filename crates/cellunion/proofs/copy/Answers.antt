@@ -1,7 +1,6 @@
 use mathlib.Core.Path.{refl}
-use Prim.Native.Nat.{◌-◌}
 use native.Mathlib.Omega.{arith}
-use Rattle.cellunion.proofs.Memory.{Laying, lay_turn, copy_done}
+use Rattle.cellunion.proofs.Memory.{lay_turn, copy_done}
 use Rattle.cellunion.proofs.copy.Goals as goal
 
 pub loop-i-init : goal.loop-i-init

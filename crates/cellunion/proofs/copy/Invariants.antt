@@ -1,7 +1,5 @@
-use mathlib.Core.Path.{refl}
 use Prim.Native.Nat.{◌-◌}
-use native.Mathlib.Omega.{arith}
-use Rattle.cellunion.proofs.Memory.{Laying, lay_turn, copy_done}
+use Rattle.cellunion.proofs.Memory.{Laying}
 use Rattle.cellunion.proofs.copy.Given as goal
 
 abbrev pub invariant-loop-i : goal.invariant-loop-i

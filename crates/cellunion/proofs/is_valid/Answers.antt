@@ -1,8 +1,6 @@
 use mathlib.Core.Path.{refl}
-use Prim.Native.Nat.{◌-◌}
 use native.Mathlib.Omega.{arith}
-use lib.ListN.{length}
-use Rattle.cellunion.proofs.Lists.{Checking, check_bad, check_pos, check_on, check_end}
+use Rattle.cellunion.proofs.Lists.{check_bad, check_pos, check_on, check_end}
 use Rattle.cellunion.proofs.is_valid.Goals as goal
 
 pub listed-requires : goal.listed-requires
@@ -18,8 +16,8 @@ pub range_max-last-requires : goal.range_max-last-requires
 range_max-last-requires c = check_pos _ _ _ c.listed.ensures c.if-not-listed.false
 
 pub loop-i-preserved : goal.loop-i-preserved
-loop-i-preserved c = let g = c in
-    check_on _ _ _ _ _ g.loop-i.invariant g.loop-i-test.true g.listed.ensures g.if-not-listed.false c.range_max-last.ensures
+loop-i-preserved c =
+    check_on _ _ _ _ _ c.loop-i.invariant c.loop-i-test.true c.listed.ensures c.if-not-listed.false c.range_max-last.ensures
 
 pub returns : goal.returns
 returns c = check_end _ _ _ c.loop-i.invariant c.loop-i-test.false

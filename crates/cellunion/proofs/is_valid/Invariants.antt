@@ -1,9 +1,7 @@
 -- `cellunion::is_valid`: one id after another is tested.
-use mathlib.Core.Path.{refl}
 use Prim.Native.Nat.{◌-◌}
-use native.Mathlib.Omega.{arith}
 use lib.ListN.{length}
-use Rattle.cellunion.proofs.Lists.{Checking, check_bad, check_pos, check_on, check_end}
+use Rattle.cellunion.proofs.Lists.{Checking}
 use Rattle.cellunion.proofs.is_valid.Given as goal
 
 abbrev pub invariant-loop-i : goal.invariant-loop-i

@@ -1,5 +1,4 @@
 -- `cellunion::lay`: there is no room, or the words are copied.
-use borrow.Author.Rules.{rules}
 use Rattle.cellunion.proofs.Memory.{lay_done, lay_none}
 use Rattle.cellunion.proofs.lay.Goals as goal
 

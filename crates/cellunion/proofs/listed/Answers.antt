@@ -1,5 +1,4 @@
 -- `cellunion::listed`: a valid id behind the last leaf, or not.
-use borrow.Author.Rules.{rules}
 use Rattle.cellunion.proofs.Lists.{listed_pos, listed_yes, listed_no}
 use Rattle.cellunion.proofs.listed.Goals as goal
 

@@ -1,5 +1,4 @@
 -- `cellunion::near`: the id begins before the parent of the last kept ends, or nothing is kept.
-use borrow.Author.Rules.{rules}
 use Rattle.cellunion.proofs.Settled.{above_pos, near_yes, near_none}
 use Rattle.cellunion.proofs.near.Goals as goal
 

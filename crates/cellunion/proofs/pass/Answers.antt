@@ -1,7 +1,5 @@
 use mathlib.Core.Path.{refl}
-use native.Mathlib.Omega.{arith}
-use Prim.Native.Nat.{◌-◌}
-use Rattle.cellunion.proofs.Runs.{Passing, pass_next, pass_turn, pass_done}
+use Rattle.cellunion.proofs.Runs.{pass_next, pass_turn, pass_done}
 use Rattle.cellunion.proofs.pass.Goals as goal
 
 pub loop-i-init : goal.loop-i-init
@@ -12,7 +10,7 @@ keep-kept-requires c = pass_next _ _ _ _ c.loop-i.invariant.asks c.loop-i-test.t
 
 pub loop-i-preserved : goal.loop-i-preserved
 loop-i-preserved c =
-    pass_turn _ _ _ _ _ _ _ _ _ c.loop-i.invariant c.loop-i-test.true c.keep-kept.auto.0 c.keep-kept.ensures
+    pass_turn _ _ _ _ _ _ _ _ _ c.loop-i.invariant c.loop-i-test.true c.keep-kept.auto.mem c.keep-kept.ensures
 
 pub shape_of-mem : goal.shape_of-mem
 shape_of-mem c = c.loop-i.invariant.len

@@ -1,7 +1,5 @@
-use mathlib.Core.Path.{refl}
-use native.Mathlib.Omega.{arith}
 use Prim.Native.Nat.{◌-◌}
-use Rattle.cellunion.proofs.Runs.{Passing, pass_next, pass_turn, pass_done}
+use Rattle.cellunion.proofs.Runs.{Passing}
 use Rattle.cellunion.proofs.pass.Given as goal
 
 abbrev pub invariant-loop-i : goal.invariant-loop-i

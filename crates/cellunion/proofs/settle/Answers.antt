@@ -1,10 +1,9 @@
 use mathlib.Core.Path.{refl, ◌∙◌}
-use mathlib.Core.Logic.{⊎_elim}
-use Prim.Native.Nat.{◌-◌}
 use native.Mathlib.Omega.{arith}
 use Rattle.cellid.proofs.Laws.{cell_pos}
 use Rattle.cellunion.proofs.Runs.{pass_next}
-use Rattle.cellunion.proofs.Settled.{Settling, settle_turn, rests_end, rests_far, settle_done}
+use Rattle.cellunion.proofs.Settled.{settle_turn, rests_end, rests_far, settle_done}
+use Rattle.cellunion.proofs.settle.Goals.{else-loop-i-test, then-loop-i-test+then-not-near}
 use Rattle.cellunion.proofs.settle.Goals as goal
 
 pub loop-i-init : goal.loop-i-init
@@ -18,32 +17,25 @@ bounds-mem-i c = omega (arith, c.loop-i.invariant.passing.asks.room)
 
 pub near-requires : goal.near-requires
 near-requires c =
-    let t = c in
-    let P = t.loop-i.invariant.passing.asks in
-    (omega (arith, P.few, P.within, P.room), P.stack.cells, cell_pos _ _ _ (pass_next _ _ _ _ P t.loop-i-test.true).1.cell.2)
+    let P = c.loop-i.invariant.passing.asks in
+    (omega (arith, P.few, P.within, P.room), P.stack.cells, cell_pos _ _ _ (pass_next _ _ _ _ P c.loop-i-test.true).1.cell.2)
 
 pub keep-kept-requires : goal.keep-kept-requires
-keep-kept-requires c =
-    let t = c in
-    pass_next _ _ _ _ t.loop-i.invariant.passing.asks t.loop-i-test.true
+keep-kept-requires c = pass_next _ _ _ _ c.loop-i.invariant.passing.asks c.loop-i-test.true
 
 pub loop-i-preserved : goal.loop-i-preserved
-loop-i-preserved c =
-    let k = c in
-    let t = k in
-    settle_turn _ _ _ _ _ _ _ _ _ t.loop-i.invariant t.loop-i-test.true k.keep-kept.auto.0 k.keep-kept.ensures
+loop-i-preserved c = settle_turn _ _ _ _ _ _ _ _ _ c.loop-i.invariant c.loop-i-test.true c.keep-kept.auto.mem c.keep-kept.ensures
 
 pub shift-requires : goal.shift-requires
 shift-requires c = let P = c.loop-i.invariant.passing.asks in (P.few, P.within, P.room)
 
 pub shape_of-mem : goal.shape_of-mem
-shape_of-mem c = c.shift.auto.0 ∙ c.loop-i.invariant.passing.len
+shape_of-mem c = c.shift.auto.mem ∙ c.loop-i.invariant.passing.len
 
 pub returns : goal.returns
 returns c =
-    let s = c in
-    let l = s in
-    let G = l.loop-i.invariant in
-    settle_done _ _ _ _ _ _ _ _ _ G
-    (⊎_elim (λ w. rests_end _ _ _ _ G.passing.asks.room w.left) (λ w. rests_far _ _ _ _ _ _ _ _ G w.0.taken w.3.ensures w.4.taken) l.loop-i-test.branch)
-    s.shift.ensures.0 s.shift.ensures.1
+    let G = c.loop-i.invariant in
+    settle_done _ _ _ _ _ _ _ _ _ G (elim c.loop-i-test.branch [
+      | else-loop-i-test w ↦ rests_end _ _ _ _ G.passing.asks.room w.loop-i-test.false
+      | then-loop-i-test+then-not-near w ↦ rests_far _ _ _ _ _ _ _ _ G w.loop-i-test.true w.near.ensures w.if-not-near.true
+    ]) c.shift.ensures.0 c.shift.ensures.1

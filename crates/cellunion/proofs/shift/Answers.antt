@@ -1,7 +1,5 @@
 use mathlib.Core.Path.{refl}
-use Prim.Native.Nat.{◌-◌}
-use native.Mathlib.Omega.{arith}
-use Rattle.cellunion.proofs.Memory.{Shifting, shift_turn, shift_done}
+use Rattle.cellunion.proofs.Memory.{shift_turn, shift_done}
 use Rattle.cellunion.proofs.shift.Goals as goal
 
 pub loop-i-init : goal.loop-i-init

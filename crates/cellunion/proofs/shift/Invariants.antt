@@ -1,8 +1,6 @@
 -- `cellunion::shift`: what is left of the words, laid over the slice as it is now, makes the slice that is wanted.
-use mathlib.Core.Path.{refl}
 use Prim.Native.Nat.{◌-◌}
-use native.Mathlib.Omega.{arith}
-use Rattle.cellunion.proofs.Memory.{Shifting, shift_turn, shift_done}
+use Rattle.cellunion.proofs.Memory.{Shifting}
 use Rattle.cellunion.proofs.shift.Given as goal
 
 abbrev pub invariant-loop-i : goal.invariant-loop-i
