@@ -25,6 +25,7 @@ seen_all [] k none = refl
 seen_all (id ∷ l) k (more v a) = seen_go k id (id ∷ l) l refl v ∙ seen_all l (k + 1) a
 
 seen_first : (l : List ℕ) (k n : ℕ) → FirstBad l n → seen k l ≡ bad (k + n)
+seen_first [] k n x = elim x [ ]
 seen_first (id ∷ l) k _ (here v) = seen_bad k id (id ∷ l) l refl v
 seen_first (id ∷ l) k _ (next {n = n} v f) =
     let e : (k + 1) + n ≡ k + suc n = omega arith in

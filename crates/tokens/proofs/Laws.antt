@@ -11,7 +11,7 @@ use borrow.Author.Tests.{eqb-true}
 use Rattle.cellid.specs.CellId.{valid_id}
 use Rattle.cellid.proofs.Laws.{no_true, valid_fits}
 use Rattle.tokens.specs.declared.Form.{Form}
-use Rattle.tokens.specs.Tokens.{name_of, is_name, value_of, named, name_line, lines_of, unended, ids_from, ids_of, bad}
+use Rattle.tokens.specs.Tokens.{name_of, is_name, value_of, named, name_line, lines_of, unended, ids_from, ids_of}
 use Rattle.tokens.specs.Texts.{AllValid, none, more, FirstBad, here, next, Readable, empty, line, BadLine}
 use Rattle.tokens.proofs.Names.{name_short, name_is_digits, name_back, name_named, is_name_lem}
 use Rattle.tokens.proofs.Lines.{first_line}
@@ -138,6 +138,7 @@ module _ (form : Form) where
 
   bad_from : (ids : List ℕ) (n : ℕ) (text : List ℕ) → FirstBad ids n → ids_of form text ≡ ids → BadLine form text n
   unfolding lines_of
+  bad_from [] n text x e = elim x [ ]
   bad_from (id ∷ l) _ text (here v) e = record {
     good = [];
     rest = text;

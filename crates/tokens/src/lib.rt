@@ -4,8 +4,7 @@
 
 ghost use Rattle.std.specs.Prelude.{◌≡◌, ◌+◌, ◌^◌, ◌≤◌, ◌<◌, min, length};
 ghost use Rattle.std.proofs.lemmas.List.Edits.{sets};
-ghost use Rattle.io.specs.Digits.{last_digits};
-ghost use Rattle.io.specs.Digits.{hex_digit_ascii as Digits·glyph};
+ghost use Rattle.tokens.specs.Digits.{last_digits, hex_digit_ascii};
 ghost use Rattle.tokens.specs.Tokens.{name_of, name_line, lines_of, ids_of, write_result, read_result, token_answer, Answered, seen, sound};
 ghost use Rattle.tokens.specs.Steps.{of_digits, FirstLine};
 
@@ -30,7 +29,7 @@ pub enum Answer {
 // The digit of a number below 16.
 fn glyph(d: u64) -> u8
     requires { d < 16 }
-    ensures { result ≡ Digits·glyph d }
+    ensures { result ≡ hex_digit_ascii d }
 {
     match d {
         0 => 48,

@@ -1,10 +1,5 @@
-use Prim.Native.Nat.{◌-◌}
-use native.Mathlib.Omega.{arith}
-use lib.ListN.{length}
-use mathlib.Core.Path.{◌≡◌, refl, sym, ◌∙◌}
-use Prim.Native.Nat.{◌+◌}
-use borrow.Author.Rules.{rules}
-use Rattle.tokens.proofs.Turns.{Looking, look_start, look_turn, look_bad, look_done, look_full}
+use mathlib.Core.Path.{refl, sym, ◌∙◌}
+use Rattle.tokens.proofs.Turns.{look_start, look_turn, look_bad, look_done, look_full}
 use Rattle.tokens.proofs.look_ids.Goals as goal
 
 pub loop-i-init : goal.loop-i-init

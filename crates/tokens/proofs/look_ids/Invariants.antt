@@ -1,11 +1,9 @@
 -- `tokens::look_ids`: what was seen and what the lines need, id after id.
 use Prim.Native.Nat.{◌-◌}
-use native.Mathlib.Omega.{arith}
 use lib.ListN.{length}
-use mathlib.Core.Path.{◌≡◌, refl, sym, ◌∙◌}
+use mathlib.Core.Path.{◌≡◌}
 use Prim.Native.Nat.{◌+◌}
-use borrow.Author.Rules.{rules}
-use Rattle.tokens.proofs.Turns.{Looking, look_start, look_turn, look_bad, look_done, look_full}
+use Rattle.tokens.proofs.Turns.{Looking}
 use Rattle.tokens.proofs.look_ids.Given as goal
 
 abbrev pub invariant-loop-i : goal.invariant-loop-i

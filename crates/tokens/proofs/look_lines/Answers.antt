@@ -1,10 +1,7 @@
 use mathlib.Core.Path.{sym, ◌∙◌}
-use Prim.Native.Nat.{◌-◌}
 use native.Mathlib.Omega.{arith}
-use lib.ListN.{length}
-use borrow.Author.Rules.{rules}
 use Rattle.cellid.proofs.Laws.{valid_fits}
-use Rattle.tokens.proofs.Turns.{Reading, read_start, read_turn, read_bad, read_done, read_full}
+use Rattle.tokens.proofs.Turns.{read_start, read_turn, read_bad, read_done, read_full}
 use Rattle.tokens.proofs.look_lines.Goals as goal
 
 pub loop-at-init : goal.loop-at-init

@@ -2,7 +2,6 @@
 use mathlib.Core.Path.{sym}
 use native.Mathlib.Omega.{arith}
 use lib.Count.{trailing_le}
-use borrow.Author.Rules.{rules}
 use Rattle.tokens.specs.Tokens.{name_of}
 use Rattle.tokens.proofs.Names.{hex_length, token_length}
 use Rattle.tokens.proofs.name_length.Goals as goal

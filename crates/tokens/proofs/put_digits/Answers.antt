@@ -1,10 +1,6 @@
-use mathlib.Core.Path.{◌≡◌, refl, sym, ◌∙◌}
-use Prim.Native.Nat.{◌≤◌}
+use mathlib.Core.Path.{refl, sym, ◌∙◌}
 use native.Mathlib.Omega.{arith}
-use lib.ListN.{length}
-use lib.Seq.{sets}
 use borrow.Author.Rules.{rules}
-use Rattle.io.specs.Digits.{last_digits}
 use Rattle.tokens.proofs.Digits.{digits_go, digits_none}
 use Rattle.tokens.proofs.put_digits.Goals as goal
 

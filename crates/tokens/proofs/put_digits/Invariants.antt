@@ -1,12 +1,9 @@
 -- `tokens::put_digits`: the digits that are left, over what stands there, are all.
-use mathlib.Core.Path.{◌≡◌, refl, sym, ◌∙◌}
+use mathlib.Core.Path.{◌≡◌}
 use Prim.Native.Nat.{◌≤◌}
-use native.Mathlib.Omega.{arith}
 use lib.ListN.{length}
 use lib.Seq.{sets}
-use borrow.Author.Rules.{rules}
-use Rattle.io.specs.Digits.{last_digits}
-use Rattle.tokens.proofs.Digits.{digits_go, digits_none}
+use Rattle.tokens.specs.Digits.{last_digits}
 use Rattle.tokens.proofs.put_digits.Given as goal
 
 abbrev pub invariant-loop-left : goal.invariant-loop-left

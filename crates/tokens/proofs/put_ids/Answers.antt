@@ -1,15 +1,12 @@
-use Prim.Native.Nat.{◌-◌}
 use native.Mathlib.Omega.{arith}
-use lib.ListN.{length}
-use borrow.Author.Rules.{rules}
-use Rattle.tokens.proofs.Turns.{Taking, take_start, take_room, take_on, take_turn, take_done}
+use Rattle.tokens.proofs.Turns.{take_start, take_room, take_on, take_turn, take_done}
 use Rattle.tokens.proofs.put_ids.Goals as goal
 
 pub loop-at-init : goal.loop-at-init
 loop-at-init c = take_start _ _ _ c.requires.0 c.requires.1
 
 pub overflow_add-k : goal.overflow_add-k
-overflow_add-k c = let i = slice-write-ids c in omega arith
+overflow_add-k c = let i = take_room _ _ _ _ _ _ c.loop-at.invariant _ c.read_line-line.ensures in omega arith
 
 pub loop-at-preserved : goal.loop-at-preserved
 loop-at-preserved c = take_turn _ _ _ _ _ _ c.loop-at.invariant _ c.read_line-line.ensures

@@ -5,7 +5,6 @@ use Prim.Native.Nat.{ℕ, ◌+◌, ◌≤◌, ◌<◌}
 use native.Mathlib.Omega.{arith}
 use lib.ListN.{length, set}
 use lib.Seq.{sets, length-sets}
-use borrow.Author.Rules.{rules}
 use Rattle.cellid.proofs.Puts.{sets_append}
 use Rattle.tokens.specs.declared.Form.{Form}
 use Rattle.tokens.specs.Tokens.{name_of, name_line}
@@ -24,7 +23,7 @@ pub put_name-end-requires : goal.put_name-end-requires
 put_name-end-requires c = omega (arith, line_length c.args.form c.args.id)
 
 pub overflow_add-result : goal.overflow_add-result
-overflow_add-result c = let i = slice-write-text c in omega arith
+overflow_add-result c = let i = inside _ _ _ _ _ _ c.requires c.put_name-end.ensures.0 c.put_name-end.ensures.1 in omega arith
 
 pub bounds-text-end : goal.bounds-text-end
 bounds-text-end c = inside _ _ _ _ _ _ c.requires c.put_name-end.ensures.0 c.put_name-end.ensures.1

@@ -1,12 +1,9 @@
-use mathlib.Core.Path.{◌≡◌, refl, ap, ◌∙◌}
-use Prim.Native.Nat.{◌-◌, ◌≤◌}
+use mathlib.Core.Path.{refl, ap, ◌∙◌}
 use native.Mathlib.Nat.{zero-add}
 use native.Mathlib.Omega.{arith}
-use lib.ListN.{length, drop}
+use lib.ListN.{length}
 use lib.Seq.{length-sets}
-use borrow.Author.Rules.{rules}
-use Rattle.cellid.proofs.Puts.{Put, put_done}
-use Rattle.tokens.specs.Tokens.{lines_of}
+use Rattle.cellid.proofs.Puts.{put_done}
 use Rattle.tokens.proofs.Turns.{lines_end, line_room, line_turn}
 use Rattle.tokens.proofs.put_lines.Goals as goal
 

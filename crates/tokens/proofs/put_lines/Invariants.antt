@@ -1,14 +1,9 @@
 -- `tokens::put_lines`: the lines that are left, put over the text as it is now, make the text that is wanted.
-use mathlib.Core.Path.{◌≡◌, refl, ap, ◌∙◌}
+use mathlib.Core.Path.{◌≡◌}
 use Prim.Native.Nat.{◌-◌, ◌≤◌}
-use native.Mathlib.Nat.{zero-add}
-use native.Mathlib.Omega.{arith}
 use lib.ListN.{length, drop}
-use lib.Seq.{length-sets}
-use borrow.Author.Rules.{rules}
-use Rattle.cellid.proofs.Puts.{Put, put_done}
+use Rattle.cellid.proofs.Puts.{Put}
 use Rattle.tokens.specs.Tokens.{lines_of}
-use Rattle.tokens.proofs.Turns.{lines_end, line_room, line_turn}
 use Rattle.tokens.proofs.put_lines.Given as goal
 
 abbrev pub invariant-loop-i : goal.invariant-loop-i

@@ -1,6 +1,5 @@
 -- `tokens::read`: one look, and where all is sound and fits, the ids.
 use mathlib.Core.Path.{sym, ◌∙◌}
-use borrow.Author.Rules.{rules}
 use Rattle.tokens.specs.Tokens.{read_result}
 use Rattle.tokens.proofs.Turns.{fits, answered_done, answered_bad, answered_full}
 use Rattle.tokens.proofs.read.Goals as goal

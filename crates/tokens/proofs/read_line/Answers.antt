@@ -1,7 +1,6 @@
 -- `tokens::read_line`: digits, and what follows them.
 use mathlib.Core.Path.{refl}
 use native.Mathlib.Omega.{arith}
-use borrow.Author.Rules.{rules}
 use Rattle.tokens.proofs.Lines.{line_ended, line_open, line_other}
 use Rattle.tokens.proofs.read_line.Goals as goal
 

@@ -1,6 +1,5 @@
 -- `tokens::write`: one look, and where all is sound and fits, the lines.
 use mathlib.Core.Path.{sym, ◌∙◌}
-use borrow.Author.Rules.{rules}
 use Rattle.tokens.specs.Tokens.{write_result}
 use Rattle.tokens.proofs.Turns.{fits, answered_done, answered_bad, answered_full}
 use Rattle.tokens.proofs.write.Goals as goal
