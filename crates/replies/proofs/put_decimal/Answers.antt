@@ -5,4 +5,4 @@ use borrow.Author.Rules.{rules}
 use Rattle.replies.proofs.put_decimal.Goals as goal
 
 pub returns : goal.returns
-returns c = rw (c.decimal-k.ensures.1.1 ∙ decimal_text_lem _ _ c.decimal-k.ensures.1.0 c.ranges.n.fits) at c.put.ensures
+returns c = rw (c.decimal-k.ensures.digits ∙ decimal_text_lem _ _ c.decimal-k.ensures.len c.ranges.n.fits) at c.put.ensures
