@@ -7,7 +7,7 @@ use borrow.Author.Rules.{rules}
 use Rattle.filter.proofs.turn.Goals as goal
 
 pub slice_bounds-write-end-in-Done : goal.slice_bounds-write-end-in-Done
-slice_bounds-write-end-in-Done c = sym (length-take-le _ _ (slice-reshare-prefix-write c))
+slice_bounds-write-end-in-Done c = sym (length-take-le _ _ (written _ _ _ _ (rw c.in-Done.is at c.read-found.ensures)).within)
 
 pub slice_bounds-write-end : goal.slice_bounds-write-end
 slice_bounds-write-end c = (written _ _ _ _ (rw c.in-Done.is at c.read-found.ensures)).within
