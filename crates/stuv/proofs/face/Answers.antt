@@ -1,5 +1,4 @@
 -- `stuv::face` meets its contract.
-use borrow.Author.Rules.{rules}
 use Rattle.stuv.specs.Projection.{axis_of, along_axis, face_toward}
 use Rattle.stuv.proofs.face.Goals as goal
 

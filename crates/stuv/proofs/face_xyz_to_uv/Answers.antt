@@ -1,5 +1,4 @@
 -- `stuv::face_xyz_to_uv` meets its contract.
-use borrow.Author.Rules.{rules}
 use Rattle.stuv.specs.Projection.{face_xyz_to_uv}
 use Rattle.stuv.proofs.face_xyz_to_uv.Goals as goal
 

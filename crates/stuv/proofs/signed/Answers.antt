@@ -1,5 +1,4 @@
 -- `stuv::signed` meets its contract.
-use borrow.Author.Rules.{rules}
 use Rattle.stuv.proofs.signed.Goals as goal
 
 pub returns-then-value : goal.returns-then-value

@@ -1,5 +1,4 @@
 -- `stuv::uv_to_st` meets its contract.
-use borrow.Author.Rules.{rules}
 use Rattle.stuv.specs.Projection.{uv_to_st}
 use Rattle.stuv.proofs.uv_to_st.Goals as goal
 

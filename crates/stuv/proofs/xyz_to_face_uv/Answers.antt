@@ -1,5 +1,4 @@
 -- `stuv::xyz_to_face_uv` meets its contract.
-use borrow.Author.Rules.{rules}
 use Rattle.stuv.specs.Projection.{xyz_to_face_uv}
 use Rattle.stuv.proofs.Laws.{face_lt}
 use Rattle.stuv.proofs.xyz_to_face_uv.Goals as goal
