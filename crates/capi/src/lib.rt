@@ -109,8 +109,7 @@ fn call_list(
 }
 
 // The covering: cells of levels min_level to max_level, in whole steps of level_mod, that cover the region as the outer run does. Of a cap.
-#[unsafe(no_mangle)]
-pub extern "C" fn flaxbadger_covering_cap(
+pub fn flaxbadger_covering_cap(
     x: f64,
     y: f64,
     z: f64,
@@ -142,8 +141,7 @@ pub extern "C" fn flaxbadger_covering_cap(
 }
 
 // The covering: cells of levels min_level to max_level, in whole steps of level_mod, that cover the region as the outer run does. Of a cell.
-#[unsafe(no_mangle)]
-pub extern "C" fn flaxbadger_covering_cell(
+pub fn flaxbadger_covering_cell(
     id: u64,
     min_level: u64,
     max_level: u64,
@@ -170,8 +168,7 @@ pub extern "C" fn flaxbadger_covering_cell(
 }
 
 // The covering: cells of levels min_level to max_level, in whole steps of level_mod, that cover the region as the outer run does. Of a list.
-#[unsafe(no_mangle)]
-pub extern "C" fn flaxbadger_covering_list(
+pub fn flaxbadger_covering_list(
     list: &[u64],
     min_level: u64,
     max_level: u64,
@@ -198,8 +195,7 @@ pub extern "C" fn flaxbadger_covering_list(
 }
 
 // The outer run's raw list, normalised; nothing is promised of levels. Of a cap.
-#[unsafe(no_mangle)]
-pub extern "C" fn flaxbadger_cellunion_cap(
+pub fn flaxbadger_cellunion_cap(
     x: f64,
     y: f64,
     z: f64,
@@ -231,8 +227,7 @@ pub extern "C" fn flaxbadger_cellunion_cap(
 }
 
 // The outer run's raw list, normalised; nothing is promised of levels. Of a cell.
-#[unsafe(no_mangle)]
-pub extern "C" fn flaxbadger_cellunion_cell(
+pub fn flaxbadger_cellunion_cell(
     id: u64,
     min_level: u64,
     max_level: u64,
@@ -259,8 +254,7 @@ pub extern "C" fn flaxbadger_cellunion_cell(
 }
 
 // The outer run's raw list, normalised; nothing is promised of levels. Of a list.
-#[unsafe(no_mangle)]
-pub extern "C" fn flaxbadger_cellunion_list(
+pub fn flaxbadger_cellunion_list(
     list: &[u64],
     min_level: u64,
     max_level: u64,
@@ -287,8 +281,7 @@ pub extern "C" fn flaxbadger_cellunion_list(
 }
 
 // The outer run's raw list, in the order kept. Of a cap.
-#[unsafe(no_mangle)]
-pub extern "C" fn flaxbadger_raw_cap(
+pub fn flaxbadger_raw_cap(
     x: f64,
     y: f64,
     z: f64,
@@ -320,8 +313,7 @@ pub extern "C" fn flaxbadger_raw_cap(
 }
 
 // The outer run's raw list, in the order kept. Of a cell.
-#[unsafe(no_mangle)]
-pub extern "C" fn flaxbadger_raw_cell(
+pub fn flaxbadger_raw_cell(
     id: u64,
     min_level: u64,
     max_level: u64,
@@ -348,8 +340,7 @@ pub extern "C" fn flaxbadger_raw_cell(
 }
 
 // The outer run's raw list, in the order kept. Of a list.
-#[unsafe(no_mangle)]
-pub extern "C" fn flaxbadger_raw_list(
+pub fn flaxbadger_raw_list(
     list: &[u64],
     min_level: u64,
     max_level: u64,
@@ -376,8 +367,7 @@ pub extern "C" fn flaxbadger_raw_list(
 }
 
 // Cells inside the region, of levels min_level to max_level in whole steps of level_mod. Of a cap.
-#[unsafe(no_mangle)]
-pub extern "C" fn flaxbadger_interior_covering_cap(
+pub fn flaxbadger_interior_covering_cap(
     x: f64,
     y: f64,
     z: f64,
@@ -409,8 +399,7 @@ pub extern "C" fn flaxbadger_interior_covering_cap(
 }
 
 // Cells inside the region, of levels min_level to max_level in whole steps of level_mod. Of a cell.
-#[unsafe(no_mangle)]
-pub extern "C" fn flaxbadger_interior_covering_cell(
+pub fn flaxbadger_interior_covering_cell(
     id: u64,
     min_level: u64,
     max_level: u64,
@@ -437,8 +426,7 @@ pub extern "C" fn flaxbadger_interior_covering_cell(
 }
 
 // Cells inside the region, of levels min_level to max_level in whole steps of level_mod. Of a list.
-#[unsafe(no_mangle)]
-pub extern "C" fn flaxbadger_interior_covering_list(
+pub fn flaxbadger_interior_covering_list(
     list: &[u64],
     min_level: u64,
     max_level: u64,
@@ -465,8 +453,7 @@ pub extern "C" fn flaxbadger_interior_covering_list(
 }
 
 // The inner run's raw list, normalised; nothing is promised of levels. Of a cap.
-#[unsafe(no_mangle)]
-pub extern "C" fn flaxbadger_interior_cellunion_cap(
+pub fn flaxbadger_interior_cellunion_cap(
     x: f64,
     y: f64,
     z: f64,
@@ -498,8 +485,7 @@ pub extern "C" fn flaxbadger_interior_cellunion_cap(
 }
 
 // The inner run's raw list, normalised; nothing is promised of levels. Of a cell.
-#[unsafe(no_mangle)]
-pub extern "C" fn flaxbadger_interior_cellunion_cell(
+pub fn flaxbadger_interior_cellunion_cell(
     id: u64,
     min_level: u64,
     max_level: u64,
@@ -526,8 +512,7 @@ pub extern "C" fn flaxbadger_interior_cellunion_cell(
 }
 
 // The inner run's raw list, normalised; nothing is promised of levels. Of a list.
-#[unsafe(no_mangle)]
-pub extern "C" fn flaxbadger_interior_cellunion_list(
+pub fn flaxbadger_interior_cellunion_list(
     list: &[u64],
     min_level: u64,
     max_level: u64,
@@ -554,8 +539,7 @@ pub extern "C" fn flaxbadger_interior_cellunion_list(
 }
 
 // The inner run's raw list, in the order kept. Of a cap.
-#[unsafe(no_mangle)]
-pub extern "C" fn flaxbadger_interior_raw_cap(
+pub fn flaxbadger_interior_raw_cap(
     x: f64,
     y: f64,
     z: f64,
@@ -587,8 +571,7 @@ pub extern "C" fn flaxbadger_interior_raw_cap(
 }
 
 // The inner run's raw list, in the order kept. Of a cell.
-#[unsafe(no_mangle)]
-pub extern "C" fn flaxbadger_interior_raw_cell(
+pub fn flaxbadger_interior_raw_cell(
     id: u64,
     min_level: u64,
     max_level: u64,
@@ -615,8 +598,7 @@ pub extern "C" fn flaxbadger_interior_raw_cell(
 }
 
 // The inner run's raw list, in the order kept. Of a list.
-#[unsafe(no_mangle)]
-pub extern "C" fn flaxbadger_interior_raw_list(
+pub fn flaxbadger_interior_raw_list(
     list: &[u64],
     min_level: u64,
     max_level: u64,
@@ -643,8 +625,7 @@ pub extern "C" fn flaxbadger_interior_raw_list(
 }
 
 // The quick, coarse covering of the region's bound, with no run and 0 steps. Of a cap.
-#[unsafe(no_mangle)]
-pub extern "C" fn flaxbadger_fast_covering_cap(
+pub fn flaxbadger_fast_covering_cap(
     x: f64,
     y: f64,
     z: f64,
@@ -685,8 +666,7 @@ pub extern "C" fn flaxbadger_fast_covering_cap(
 }
 
 // The quick, coarse covering of the region's bound, with no run and 0 steps. Of a cell.
-#[unsafe(no_mangle)]
-pub extern "C" fn flaxbadger_fast_covering_cell(
+pub fn flaxbadger_fast_covering_cell(
     id: u64,
     min_level: u64,
     max_level: u64,
@@ -711,8 +691,7 @@ pub extern "C" fn flaxbadger_fast_covering_cell(
 }
 
 // The quick, coarse covering of the region's bound, with no run and 0 steps. Of a list.
-#[unsafe(no_mangle)]
-pub extern "C" fn flaxbadger_fast_covering_list(
+pub fn flaxbadger_fast_covering_list(
     list: &[u64],
     min_level: u64,
     max_level: u64,
@@ -864,8 +843,7 @@ fn call_list_by(
 }
 
 // The covering, by the engines asked for. Of a cap.
-#[unsafe(no_mangle)]
-pub extern "C" fn flaxbadger_covering_cap_by(
+pub fn flaxbadger_covering_cap_by(
     engines: u64,
     x: f64,
     y: f64,
@@ -900,8 +878,7 @@ pub extern "C" fn flaxbadger_covering_cap_by(
 }
 
 // The covering, by the engines asked for. Of a cell.
-#[unsafe(no_mangle)]
-pub extern "C" fn flaxbadger_covering_cell_by(
+pub fn flaxbadger_covering_cell_by(
     engines: u64,
     id: u64,
     min_level: u64,
@@ -933,8 +910,7 @@ pub extern "C" fn flaxbadger_covering_cell_by(
 }
 
 // The covering, by the engines asked for. Of a list.
-#[unsafe(no_mangle)]
-pub extern "C" fn flaxbadger_covering_list_by(
+pub fn flaxbadger_covering_list_by(
     engines: u64,
     list: &[u64],
     min_level: u64,
@@ -966,8 +942,7 @@ pub extern "C" fn flaxbadger_covering_list_by(
 }
 
 // The outer run's raw list, normalised, by the engines asked for. Of a cap.
-#[unsafe(no_mangle)]
-pub extern "C" fn flaxbadger_cellunion_cap_by(
+pub fn flaxbadger_cellunion_cap_by(
     engines: u64,
     x: f64,
     y: f64,
@@ -1002,8 +977,7 @@ pub extern "C" fn flaxbadger_cellunion_cap_by(
 }
 
 // The outer run's raw list, normalised, by the engines asked for. Of a cell.
-#[unsafe(no_mangle)]
-pub extern "C" fn flaxbadger_cellunion_cell_by(
+pub fn flaxbadger_cellunion_cell_by(
     engines: u64,
     id: u64,
     min_level: u64,
@@ -1035,8 +1009,7 @@ pub extern "C" fn flaxbadger_cellunion_cell_by(
 }
 
 // The outer run's raw list, normalised, by the engines asked for. Of a list.
-#[unsafe(no_mangle)]
-pub extern "C" fn flaxbadger_cellunion_list_by(
+pub fn flaxbadger_cellunion_list_by(
     engines: u64,
     list: &[u64],
     min_level: u64,
@@ -1068,8 +1041,7 @@ pub extern "C" fn flaxbadger_cellunion_list_by(
 }
 
 // The outer run's raw list, in the order kept, by the engines asked for. Of a cap.
-#[unsafe(no_mangle)]
-pub extern "C" fn flaxbadger_raw_cap_by(
+pub fn flaxbadger_raw_cap_by(
     engines: u64,
     x: f64,
     y: f64,
@@ -1104,8 +1076,7 @@ pub extern "C" fn flaxbadger_raw_cap_by(
 }
 
 // The outer run's raw list, in the order kept, by the engines asked for. Of a cell.
-#[unsafe(no_mangle)]
-pub extern "C" fn flaxbadger_raw_cell_by(
+pub fn flaxbadger_raw_cell_by(
     engines: u64,
     id: u64,
     min_level: u64,
@@ -1137,8 +1108,7 @@ pub extern "C" fn flaxbadger_raw_cell_by(
 }
 
 // The outer run's raw list, in the order kept, by the engines asked for. Of a list.
-#[unsafe(no_mangle)]
-pub extern "C" fn flaxbadger_raw_list_by(
+pub fn flaxbadger_raw_list_by(
     engines: u64,
     list: &[u64],
     min_level: u64,
@@ -1170,8 +1140,7 @@ pub extern "C" fn flaxbadger_raw_list_by(
 }
 
 // Cells inside the region, by the engines asked for. Of a cap.
-#[unsafe(no_mangle)]
-pub extern "C" fn flaxbadger_interior_covering_cap_by(
+pub fn flaxbadger_interior_covering_cap_by(
     engines: u64,
     x: f64,
     y: f64,
@@ -1206,8 +1175,7 @@ pub extern "C" fn flaxbadger_interior_covering_cap_by(
 }
 
 // Cells inside the region, by the engines asked for. Of a cell.
-#[unsafe(no_mangle)]
-pub extern "C" fn flaxbadger_interior_covering_cell_by(
+pub fn flaxbadger_interior_covering_cell_by(
     engines: u64,
     id: u64,
     min_level: u64,
@@ -1239,8 +1207,7 @@ pub extern "C" fn flaxbadger_interior_covering_cell_by(
 }
 
 // Cells inside the region, by the engines asked for. Of a list.
-#[unsafe(no_mangle)]
-pub extern "C" fn flaxbadger_interior_covering_list_by(
+pub fn flaxbadger_interior_covering_list_by(
     engines: u64,
     list: &[u64],
     min_level: u64,
@@ -1272,8 +1239,7 @@ pub extern "C" fn flaxbadger_interior_covering_list_by(
 }
 
 // The inner run's raw list, normalised, by the engines asked for. Of a cap.
-#[unsafe(no_mangle)]
-pub extern "C" fn flaxbadger_interior_cellunion_cap_by(
+pub fn flaxbadger_interior_cellunion_cap_by(
     engines: u64,
     x: f64,
     y: f64,
@@ -1308,8 +1274,7 @@ pub extern "C" fn flaxbadger_interior_cellunion_cap_by(
 }
 
 // The inner run's raw list, normalised, by the engines asked for. Of a cell.
-#[unsafe(no_mangle)]
-pub extern "C" fn flaxbadger_interior_cellunion_cell_by(
+pub fn flaxbadger_interior_cellunion_cell_by(
     engines: u64,
     id: u64,
     min_level: u64,
@@ -1341,8 +1306,7 @@ pub extern "C" fn flaxbadger_interior_cellunion_cell_by(
 }
 
 // The inner run's raw list, normalised, by the engines asked for. Of a list.
-#[unsafe(no_mangle)]
-pub extern "C" fn flaxbadger_interior_cellunion_list_by(
+pub fn flaxbadger_interior_cellunion_list_by(
     engines: u64,
     list: &[u64],
     min_level: u64,
@@ -1374,8 +1338,7 @@ pub extern "C" fn flaxbadger_interior_cellunion_list_by(
 }
 
 // The inner run's raw list, in the order kept, by the engines asked for. Of a cap.
-#[unsafe(no_mangle)]
-pub extern "C" fn flaxbadger_interior_raw_cap_by(
+pub fn flaxbadger_interior_raw_cap_by(
     engines: u64,
     x: f64,
     y: f64,
@@ -1410,8 +1373,7 @@ pub extern "C" fn flaxbadger_interior_raw_cap_by(
 }
 
 // The inner run's raw list, in the order kept, by the engines asked for. Of a cell.
-#[unsafe(no_mangle)]
-pub extern "C" fn flaxbadger_interior_raw_cell_by(
+pub fn flaxbadger_interior_raw_cell_by(
     engines: u64,
     id: u64,
     min_level: u64,
@@ -1443,8 +1405,7 @@ pub extern "C" fn flaxbadger_interior_raw_cell_by(
 }
 
 // The inner run's raw list, in the order kept, by the engines asked for. Of a list.
-#[unsafe(no_mangle)]
-pub extern "C" fn flaxbadger_interior_raw_list_by(
+pub fn flaxbadger_interior_raw_list_by(
     engines: u64,
     list: &[u64],
     min_level: u64,
@@ -1492,8 +1453,7 @@ fn tell_words(a: ranges::Answer, count: &mut u64) -> u64
 }
 
 // A list as pairs of first and last leaf, neighbouring pairs joined.
-#[unsafe(no_mangle)]
-pub extern "C" fn flaxbadger_ranges(ids: &[u64], out: &mut [u64], count: &mut u64) -> u64
+pub fn flaxbadger_ranges(ids: &[u64], out: &mut [u64], count: &mut u64) -> u64
     ensures { CalledOf (pairs_result ids.now (length out.old)) result out.old out.new count.new }
 {
     let a = ranges::pairs(ids, out);
@@ -1501,8 +1461,7 @@ pub extern "C" fn flaxbadger_ranges(ids: &[u64], out: &mut [u64], count: &mut u6
 }
 
 // Such pairs as the normalised list of their leaves.
-#[unsafe(no_mangle)]
-pub extern "C" fn flaxbadger_cells(pairs: &[u64], out: &mut [u64], count: &mut u64) -> u64
+pub fn flaxbadger_cells(pairs: &[u64], out: &mut [u64], count: &mut u64) -> u64
     ensures { CalledOf (cells_result pairs.now (length out.old)) result out.old out.new count.new }
 {
     let a = ranges::cells(pairs, out);
@@ -1510,13 +1469,7 @@ pub extern "C" fn flaxbadger_cells(pairs: &[u64], out: &mut [u64], count: &mut u
 }
 
 // The leaves of either list, normalised.
-#[unsafe(no_mangle)]
-pub extern "C" fn flaxbadger_union(
-    first: &[u64],
-    second: &[u64],
-    out: &mut [u64],
-    count: &mut u64,
-) -> u64
+pub fn flaxbadger_union(first: &[u64], second: &[u64], out: &mut [u64], count: &mut u64) -> u64
     ensures { CalledOf (set_result Op.Union first.now second.now (length out.old)) result out.old out.new count.new }
 {
     let a = sets::combine(Op::Union, first, second, out);
@@ -1524,13 +1477,7 @@ pub extern "C" fn flaxbadger_union(
 }
 
 // The leaves of both lists, normalised.
-#[unsafe(no_mangle)]
-pub extern "C" fn flaxbadger_common(
-    first: &[u64],
-    second: &[u64],
-    out: &mut [u64],
-    count: &mut u64,
-) -> u64
+pub fn flaxbadger_common(first: &[u64], second: &[u64], out: &mut [u64], count: &mut u64) -> u64
     ensures { CalledOf (set_result Op.Common first.now second.now (length out.old)) result out.old out.new count.new }
 {
     let a = sets::combine(Op::Common, first, second, out);
@@ -1538,13 +1485,7 @@ pub extern "C" fn flaxbadger_common(
 }
 
 // The leaves of the first list alone, normalised.
-#[unsafe(no_mangle)]
-pub extern "C" fn flaxbadger_difference(
-    first: &[u64],
-    second: &[u64],
-    out: &mut [u64],
-    count: &mut u64,
-) -> u64
+pub fn flaxbadger_difference(first: &[u64], second: &[u64], out: &mut [u64], count: &mut u64) -> u64
     ensures { CalledOf (set_result Op.Difference first.now second.now (length out.old)) result out.old out.new count.new }
 {
     let a = sets::combine(Op::Difference, first, second, out);
@@ -1576,8 +1517,7 @@ fn tell_names(a: tokens::Answer, count: &mut u64, first: &mut u64) -> u64
 }
 
 // A list as a text, a token a line.
-#[unsafe(no_mangle)]
-pub extern "C" fn flaxbadger_write_tokens(
+pub fn flaxbadger_write_tokens(
     ids: &[u64],
     text: &mut [u8],
     count: &mut u64,
@@ -1590,13 +1530,7 @@ pub extern "C" fn flaxbadger_write_tokens(
 }
 
 // Such a text as the list.
-#[unsafe(no_mangle)]
-pub extern "C" fn flaxbadger_read_tokens(
-    text: &[u8],
-    ids: &mut [u64],
-    count: &mut u64,
-    first: &mut u64,
-) -> u64
+pub fn flaxbadger_read_tokens(text: &[u8], ids: &mut [u64], count: &mut u64, first: &mut u64) -> u64
     ensures { NamesCalled (read_result Form.Token text.now (length ids.old)) result ids.old ids.new count.new first.new }
 {
     let a = tokens::read(Form::Token, text, ids);
@@ -1604,8 +1538,7 @@ pub extern "C" fn flaxbadger_read_tokens(
 }
 
 // A night's orders, one after another: each record is answered as the functions above answer it alone, with the room that the orders before it left.
-#[unsafe(no_mangle)]
-pub extern "C" fn flaxbadger_night(orders: &mut [Order], mem: &mut [u64], out: &mut [u64]) -> u64
+pub fn flaxbadger_night(orders: &mut [Order], mem: &mut [u64], out: &mut [u64]) -> u64
     ensures { NightOver orders.old orders.new mem.old mem.new out.old out.new result }
 {
     orders::night(orders, mem, out)
