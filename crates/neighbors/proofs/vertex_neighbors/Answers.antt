@@ -1,12 +1,13 @@
 -- `neighbors::vertex_neighbors` meets its contract.
 -- what is known of the cell's place and of the two ways beside it
 use mathlib.Core.Bool.{and-eq-true_iff}
-use Rattle.std.proofs.Common.{◌^◌, ◌<◌, arith, rules}
+use Rattle.std.proofs.Common.{◌≡◌, ℕ, ◌^◌, ◌<◌, arith, rules}
 use Rattle.hilbert.specs.declared.FaceIj.{FaceIj}
 use Rattle.hilbert.proofs.Laws.{face_ij_in}
-use Rattle.neighbors.specs.Neighbors.{vertex_neighbors}
+use Rattle.neighbors.specs.declared.Toward.{Toward}
+use Rattle.neighbors.specs.Neighbors.{toward_of, vertex_neighbors}
 use Rattle.neighbors.proofs.Laws.{TowardIn, toward_in}
-use Rattle.neighbors.proofs.vertex_neighbors.Goals.{After-face_ij_orientation-f, After-nearer-a, After-nearer-b}
+use Rattle.neighbors.proofs.vertex_neighbors.Goals.{After-face_ij_orientation-f}
 use Rattle.neighbors.proofs.vertex_neighbors.Goals as goal
 
 record Known (f : FaceIj) : Type 0 where
@@ -17,11 +18,8 @@ record Known (f : FaceIj) : Type 0 where
 known : (c : After-face_ij_orientation-f) → Known c.face_ij_orientation-f.result
 known c = let k = face_ij_in c.args.id c.requires.cell in rw c.face_ij_orientation-f.ensures (record { face = k.face; i = k.i; j = k.j })
 
-along-i : (c : After-nearer-a) → TowardIn c.nearer-a.result
-along-i c = rw c.nearer-a.ensures (toward_in _ _ (known c).i)
-
-along-j : (c : After-nearer-b) → TowardIn c.nearer-b.result
-along-j c = rw c.nearer-b.ensures (toward_in _ _ (known c).j)
+along : (i half : ℕ) (t : Toward) → t ≡ toward_of i half → i < 2 ^ 30 → TowardIn t
+along i half t e h = rw e (toward_in i half h)
 
 pub nearer-a-requires : goal.nearer-a-requires
 nearer-a-requires c = record {
@@ -41,7 +39,7 @@ overflow_add-f c = let k = known (goal.at.overflow_add-f c).After-face_ij_orient
 pub from_face_ij_same-requires : goal.from_face_ij_same-requires
 from_face_ij_same-requires c =
     let k = known (goal.at.from_face_ij_same-requires c).After-face_ij_orientation-f in
-    let a = along-i (goal.at.from_face_ij_same-requires c).After-nearer-a in
+    let a = along _ _ _ c.nearer-a.ensures k.i in
     record {
       face_bound = k.face;
       i_bound = (a.past, omega (arith, k.j));
@@ -54,7 +52,7 @@ overflow_add-f-2 c = let k = known (goal.at.overflow_add-f-2 c).After-face_ij_or
 pub from_face_ij_same-requires-2 : goal.from_face_ij_same-requires-2
 from_face_ij_same-requires-2 c =
     let k = known (goal.at.from_face_ij_same-requires-2 c).After-face_ij_orientation-f in
-    let b = along-j (goal.at.from_face_ij_same-requires-2 c).After-nearer-b in
+    let b = along _ _ _ c.nearer-b.ensures k.j in
     record {
       face_bound = k.face;
       i_bound = (omega (arith, k.i), b.past);
@@ -63,11 +61,11 @@ from_face_ij_same-requires-2 c =
 
 pub from_face_ij_same-requires-then-a-b : goal.from_face_ij_same-requires-then-a-b
 from_face_ij_same-requires-then-a-b c =
-    let d = c in
-    let a = along-i (goal.at.from_face_ij_same-requires-then-a-b c).After-nearer-a in
-    let b = along-j (goal.at.from_face_ij_same-requires-then-a-b c).After-nearer-b in
+    let k = known (goal.at.from_face_ij_same-requires-then-a-b c).After-face_ij_orientation-f in
+    let a = along _ _ _ c.nearer-a.ensures k.i in
+    let b = along _ _ _ c.nearer-b.ensures k.j in
     record {
-      face_bound = (known (goal.at.from_face_ij_same-requires-then-a-b c).After-face_ij_orientation-f).face;
+      face_bound = k.face;
       i_bound = (a.past, b.past);
       i_nonzero = λ e. let s = (and-eq-true_iff _ _).0 e in ((a.on s.0).0, (a.on s.0).1, (b.on s.1).0, (b.on s.1).1);
     }
@@ -75,13 +73,9 @@ from_face_ij_same-requires-then-a-b c =
 pub returns-then-a-b : goal.returns-then-a-b
 unfolding vertex_neighbors
 returns-then-a-b c =
-    let d = c in
-    let e = d in
-    rw (← e.face_ij_orientation-f.ensures, ← e.nearer-a.ensures, ← e.nearer-b.ensures, ← d.from_face_ij_same.ensures, ← d.from_face_ij_same-2.ensures, ← c.from_face_ij_same-then-a-b.ensures, ← d.parent-own.ensures, ← d.parent-along_i.ensures, ← d.parent-along_j.ensures, ← c.parent-across.ensures, c.if-a-b.true)
+    rw (← c.face_ij_orientation-f.ensures, ← c.nearer-a.ensures, ← c.nearer-b.ensures, ← c.from_face_ij_same.ensures, ← c.from_face_ij_same-2.ensures, ← c.from_face_ij_same-then-a-b.ensures, ← c.parent-own.ensures, ← c.parent-along_i.ensures, ← c.parent-along_j.ensures, ← c.parent-across.ensures, c.if-a-b.true)
 
 pub returns : goal.returns
 unfolding vertex_neighbors
 returns c =
-    let d = c in
-    let e = d in
-    rw (← e.face_ij_orientation-f.ensures, ← e.nearer-a.ensures, ← e.nearer-b.ensures, ← d.from_face_ij_same.ensures, ← d.from_face_ij_same-2.ensures, ← d.parent-own.ensures, ← d.parent-along_i.ensures, ← d.parent-along_j.ensures, c.if-a-b.false)
+    rw (← c.face_ij_orientation-f.ensures, ← c.nearer-a.ensures, ← c.nearer-b.ensures, ← c.from_face_ij_same.ensures, ← c.from_face_ij_same-2.ensures, ← c.parent-own.ensures, ← c.parent-along_i.ensures, ← c.parent-along_j.ensures, c.if-a-b.false)
