@@ -106,7 +106,7 @@ pub record Joined (l : List ℕ) (b : Best) : Type 0 where
   pub shorter : length (joined l b) + 1 ≡ length l
   pub keeps : (low top step : ℕ) → AllUnder low top step l → AllUnder low top step (joined l b)
   pub wide : Cell (parent_at (get_or l b.at 0) (b.depth - 1)) × (holds (parent_at (get_or l b.at 0) (b.depth - 1)) (get_or l b.at 0) ≡ true)
-  pub in_place_lem : normalise (set l b.at (parent_at (get_or l b.at 0) (b.depth - 1))) ≡ normalise (joined l b)
+  pub written : normalise (set l b.at (parent_at (get_or l b.at 0) (b.depth - 1))) ≡ normalise (joined l b)
 
 join_laws : (l : List ℕ) (b : Best) → All Cell l → b.at + 1 < length l → Joint (get_or l b.at 0) (get_or l (b.at + 1) 0) (b.depth - 1) → Joined l b
 unfolding joined
@@ -131,7 +131,7 @@ join_laws l b C h J =
           let h' : level_of P ≤ level_of x = in_higher x P (all_get Cell l 0 i (omega arith) C) J.first.cell J.first.within in
           pair_all Q u v x y P (subst (All Q) l-is A) (under_le (level_of P) h' (all_get Q l 0 i (omega arith) A));
       wide = (J.first.cell, in_holds J.first.cell (all_get Cell l 0 i (omega arith) C) J.first.within);
-      in_place_lem = ap normalise s-is ∙ normalise_same (u ++ P ∷ y ∷ v) (u ++ P ∷ v) more cells (same_covered (u ++ P ∷ y ∷ v) (u ++ P ∷ v) more cells
+      written = ap normalise s-is ∙ normalise_same (u ++ P ∷ y ∷ v) (u ++ P ∷ v) more cells (same_covered (u ++ P ∷ y ∷ v) (u ++ P ∷ v) more cells
           (pair_cov u v P y P (omega arith, omega arith) J.second) (one_more u v x y P));
     }
 

@@ -161,7 +161,7 @@ module _ (low step cells : ℕ) where
           rw (is, ← e) joins.wide
 
       normal : normalise (take k (set m b.at P)) ≡ normalise (joined (take k m) b)
-      normal = ap normalise stored ∙ joins.in_place
+      normal = ap normalise stored ∙ joins.written
 
       shorter : length (normalise (take k (set m b.at P))) < k
       shorter = rw normal (omega (arith, normalise_short (joined (take k m) b) joins.cells, joins.shorter, going_size n m₀ m k G))

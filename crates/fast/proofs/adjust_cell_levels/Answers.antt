@@ -37,14 +37,14 @@ loop-i-preserved c =
     let p = c in
     let l = p in
     adjusting_turn _ _ _ _ _ _ _ _ l.loop-i.invariant p.loop-i-test.true
-    (up_is _ _ _ _ _ _ p.level.ensures p.adjust_level.ensures p.parent-up.ensures) _ _ c.keep_start-kept.auto.0 c.keep_start-kept.ensures
+    (up_is _ _ _ _ _ _ p.level.ensures p.adjust_level.ensures p.parent-up.ensures) _ _ c.keep_start-kept.auto.mem c.keep_start-kept.ensures
 
 pub clear-requires : goal.clear-requires
 clear-requires c = let A = c.loop-i.invariant in omega (arith, A.few, A.within, A.room, A.len)
 
 pub shape_of-mem : goal.shape_of-mem
 shape_of-mem c =
-    c.clear.auto.0 ∙ c.loop-i.invariant.len
+    c.clear.auto.mem ∙ c.loop-i.invariant.len
 
 pub returns : goal.returns
 returns c =

@@ -1,10 +1,11 @@
 -- `fast::keep_start` meets its contract: the definition's outcomes, one after another. Assumes nothing.
 use mathlib.Core.Path.{sym, ◌∙◌}
-use mathlib.Core.Logic.{⊎_elim, inl, inr}
+use mathlib.Core.Logic.{inl, inr}
 use borrow.Author.Rules.{rules}
 use Rattle.cellid.proofs.Laws.{cell_pos}
 use Rattle.cellunion.proofs.Runs.{head_pos}
 use Rattle.fast.proofs.StartTurns.{start_skip, start_swap, Free, start_push}
+use Rattle.fast.proofs.keep_start.Goals.{then-k-gt0+else-contains+else-contains-2, else-k-gt0}
 use Rattle.fast.proofs.keep_start.Goals as goal
 
 pub contains-requires : goal.contains-requires
@@ -24,9 +25,9 @@ returns-then-contains-2 c =
 
 pub returns : goal.returns
 returns c =
-    let s = c in
-    let f : Free s.args.mem.now s.args.k s.args.id = ⊎_elim
-    (λ w. inr (w.0.taken, sym w.2.ensures ∙ w.3.left, sym w.4.ensures ∙ w.5.left))
-    (λ w. inl w.left)
-    c.if-k-gt0.branch in
-    start_push _ _ _ s.requires.0 f
+    let f : Free c.args.mem.now c.args.k c.args.id = elim c.if-k-gt0.branch [
+      then-k-gt0+else-contains+else-contains-2 w ↦
+        inr (w.if-k-gt0.true, sym w.contains.ensures ∙ w.if-contains.false, sym w.contains-then-k-gt0.ensures ∙ w.if-contains-2.false)
+    | else-k-gt0 w ↦ inl w.if-k-gt0.false
+    ] in
+    start_push _ _ _ c.requires.0 f

@@ -1,5 +1,4 @@
 use mathlib.Core.Path.{◌≡◌}
-use mathlib.Core.Logic.{⊎_elim}
 use Prim.Native.Nat.{◌-◌, ◌≤◌}
 use native.Mathlib.Omega.{arith}
 use lib.ListN.{length, take}
@@ -7,9 +6,15 @@ use Rattle.fast.specs.Fast.{best_of}
 use Rattle.fast.proofs.Merging.{merged_short, merged_stop}
 use Rattle.fast.proofs.Scan.{Scanning, scan_start, pair_cells, scan_pass, scan_better, scan_worse, scan_done}
 use Rattle.fast.proofs.Turns.{Going, going_start, going_size, going_done, scanned, turn_place, turn_level, turn_wide, going_turn}
-use Rattle.fast.proofs.merge.Invariants.{best}
-use Rattle.fast.proofs.merge.Goals.{After-scan, In-merge}
+use Rattle.fast.proofs.merge.Goals.{After-scan, In-merge, then-a-b+then-best-d, then-a-b+else-best-d, else-a-b}
 use Rattle.fast.proofs.merge.Goals as goal
+
+-- the best pair of the whole list
+best : (h : After-scan) →
+    let at = h in
+    let a = at.args in
+    h.scan.best ≡ best_of a.c.min_level a.c.level_mod (take at.merge.k at.merge.mem) (length (take at.merge.k at.merge.mem) - 1)
+best h = let at = h in scanned _ _ _ _ _ _ _ at.merge.invariant _ (scan_done _ _ _ _ _ _ _ h.scan.invariant h.scan-test.false)
 
 room : (h : In-merge) → h.merge.k ≤ length h.merge.mem
 room h = let G = h.merge.invariant in omega (arith, G.within, G.len, G.room)
@@ -56,17 +61,13 @@ scan-smaller c = omega (arith, c.scan-test.true)
 
 pub scan-preserved : goal.scan-preserved
 scan-preserved c =
-    let t = c in
-    let s = t in
-    let at = s in
-    let z = at in
-    let N = at.merge.invariant.normal in
-    ⊎_elim
-    (λ w. rw (w.4, w.5) (scan_better _ _ z.requires.0.some _ _ (room (goal.at.scan-preserved c).In-merge) N.cells N.apart _ _ _ s.scan.invariant t.scan-test.true _ w.1.ensures w.3.taken))
-    (⊎_elim
-    (λ w. rw (w.4, w.5) (scan_worse _ _ z.requires.0.some _ _ (room (goal.at.scan-preserved c).In-merge) N.cells N.apart _ _ _ s.scan.invariant t.scan-test.true _ w.1.ensures w.3.left))
-    (λ w. rw (w.1, w.2) (scan_pass _ _ z.requires.0.some _ _ (room (goal.at.scan-preserved c).In-merge) N.cells N.apart _ _ _ s.scan.invariant t.scan-test.true w.0.left)))
-    c.if-a-b.branch
+    let N = c.merge.invariant.normal in
+    let R = room (goal.at.scan-preserved c).In-merge in
+    elim c.if-a-b.branch [
+      then-a-b+then-best-d w ↦ rw (w.best-is, w.least-is) (scan_better _ _ c.requires.0.some _ _ R N.cells N.apart _ _ _ c.scan.invariant c.scan-test.true _ w.depth-d.ensures w.if-best-d.true)
+    | then-a-b+else-best-d w ↦ rw (w.best-is, w.least-is) (scan_worse _ _ c.requires.0.some _ _ R N.cells N.apart _ _ _ c.scan.invariant c.scan-test.true _ w.depth-d.ensures w.if-best-d.false)
+    | else-a-b w ↦ rw (w.best-is, w.least-is) (scan_pass _ _ c.requires.0.some _ _ R N.cells N.apart _ _ _ c.scan.invariant c.scan-test.true w.if-a-b.false)
+    ]
 
 pub offset_bounds-mem-at : goal.offset_bounds-mem-at
 offset_bounds-mem-at c = omega (arith, turn_place _ _ _ _ _ _ _ c.merge.invariant _ (best (goal.at.offset_bounds-mem-at c).After-scan) c.if-deepest-low.false, room (goal.at.offset_bounds-mem-at c).In-merge)

@@ -11,13 +11,6 @@ use Rattle.fast.proofs.Scan.{Scanning, scan_start, pair_cells, scan_pass, scan_b
 use Rattle.fast.proofs.Turns.{Going, going_start, going_size, going_done, scanned, turn_place, turn_level, turn_wide, going_turn}
 use Rattle.fast.proofs.merge.Given as goal
 
--- the best pair of the whole list
-pub best : (h : After-scan) →
-    let at = h in
-    let a = at.args in
-    h.scan.best ≡ best_of a.c.min_level a.c.level_mod (take at.merge.k at.merge.mem) (length (take at.merge.k at.merge.mem) - 1)
-best h = let at = h in scanned _ _ _ _ _ _ _ at.merge.invariant _ (scan_done _ _ _ _ _ _ _ h.scan.invariant h.scan-test.false)
-
 abbrev pub invariant-scan : goal.invariant-scan
 invariant-scan l = Scanning l.c.min_level l.c.level_mod l.mem l.k l.best l.least l.i
 

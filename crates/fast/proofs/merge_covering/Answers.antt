@@ -10,7 +10,7 @@ pub normalize-k-requires : goal.normalize-k-requires
 normalize-k-requires c =
     let l = c in
     let s = l in
-    lifted_asks _ _ _ 0 _ _ s.requires.1.0 s.requires.1.1 _ l.lift.ensures l.lift.auto.1.0
+    lifted_asks _ _ _ 0 _ _ s.requires.1.0 s.requires.1.1 _ l.lift.ensures l.lift.auto.mem
 
 pub merge-requires : goal.merge-requires
 merge-requires c =
