@@ -1,7 +1,6 @@
 use native.Mathlib.Omega.{arith}
 use Prim.Native.Nat.{◌*◌, ◌/◌, ◌^◌}
 use lib.Bits.{and_mask}
-use borrow.Author.Rules.{rules}
 use Rattle.hilbert.proofs.four_bits.Goals as goal
 
 pub overflow_mul-result-2 : goal.overflow_mul-result-2

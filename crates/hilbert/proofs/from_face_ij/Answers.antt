@@ -32,10 +32,9 @@ next_fits c =
 last_is : (c : After-loop-k) → let a = c.args in leaf_of a.face a.i a.j ≡ a.face * 2 ^ 61 + 2 * c.loop-k.n + 1
 last_is c =
     let a = c.args in
-    let u = c.requires.1 in
     let z : c.loop-k.k ≡ 0 = omega arith in
     let e : c.loop-k.n ≡ (digit_fours a.face a.i a.j 8).n = c.loop-k.invariant.1.places ∙ ap (λ (k : ℕ). (digit_fours a.face a.i a.j (8 - k)).n) z in
-    leaf_by_fours a.face a.i a.j u.0 u.1 ∙ omega (arith, e)
+    leaf_by_fours a.face a.i a.j c.requires.i_bound c.requires.j_bound ∙ omega (arith, e)
 
 last-small : (c : After-loop-k) → let a = c.args in leaf_of a.face a.i a.j < 12 * 2 ^ 60
 last-small c = cell_lt _ _ _ (leaf_cell _ _ _ c.requires.face_bound)
