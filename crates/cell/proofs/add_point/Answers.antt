@@ -1,6 +1,5 @@
 -- `cell::add_point` meets its contract.
 use Rattle.cell.specs.Cell.{add_point}
-use borrow.Author.Rules.{rules}
 use Rattle.cell.proofs.add_point.Goals as goal
 
 pub returns-then-c : goal.returns-then-c

@@ -1,6 +1,5 @@
 -- `cell::cap_bound` meets its contract.
 use Rattle.cell.specs.Cell.{middle_of, cap_bound}
-use borrow.Author.Rules.{rules}
 use Rattle.cell.proofs.cap_bound.Goals as goal
 
 pub returns : goal.returns

@@ -1,6 +1,5 @@
 -- `cell::cell_scales` meets its contract.
 use Rattle.cell.specs.Siblings.{cell_scales}
-use borrow.Author.Rules.{rules}
 use Rattle.cell.proofs.cell_scales.Goals as goal
 
 pub returns : goal.returns

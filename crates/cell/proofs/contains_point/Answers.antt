@@ -1,7 +1,6 @@
 -- `cell::contains_point` meets its contract.
 use Rattle.cell.specs.Cell.{on_side, holds_point}
 use mathlib.Core.Path.{sym, ◌∙◌}
-use borrow.Author.Rules.{rules}
 use Rattle.cell.proofs.contains_point.Goals as goal
 
 pub returns-then-contains : goal.returns-then-contains

@@ -1,6 +1,5 @@
 -- `cell::corners` meets its contract.
 use Rattle.cell.specs.Siblings.{corners_of}
-use borrow.Author.Rules.{rules}
 use Rattle.cell.proofs.corners.Goals as goal
 
 pub returns : goal.returns

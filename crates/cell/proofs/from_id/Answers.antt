@@ -2,7 +2,6 @@
 use Rattle.cell.specs.Cell.{cell_of}
 use Rattle.hilbert.proofs.Laws.{face_ij_in}
 use Rattle.cellid.proofs.Laws.{level_le}
-use borrow.Author.Rules.{rules}
 use Rattle.cell.proofs.from_id.Goals as goal
 
 pub ij_level_to_bound_uv-uv-requires : goal.ij_level_to_bound_uv-uv-requires

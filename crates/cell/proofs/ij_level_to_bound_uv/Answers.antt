@@ -1,6 +1,5 @@
 -- `cell::ij_level_to_bound_uv` meets its contract.
 use Rattle.cell.specs.Cell.{bound_uv}
-use borrow.Author.Rules.{rules}
 use Rattle.cell.proofs.ij_level_to_bound_uv.Goals as goal
 
 pub returns : goal.returns

@@ -1,6 +1,5 @@
 -- `cell::ij_to_stmin` meets its contract.
 use native.Mathlib.Omega.{arith}
-use borrow.Author.Rules.{rules}
 use borrow.Author.Tests.{lt-ltb}
 use Rattle.cell.specs.Cell.{ij_to_st_min}
 use Rattle.cell.proofs.ij_to_stmin.Goals as goal

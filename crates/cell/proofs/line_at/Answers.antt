@@ -1,6 +1,5 @@
 -- `cell::line_at` meets its contract.
 use Rattle.cell.specs.Cell.{line_at}
-use borrow.Author.Rules.{rules}
 use Rattle.cell.proofs.line_at.Goals as goal
 
 pub returns : goal.returns

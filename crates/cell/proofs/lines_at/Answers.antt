@@ -5,7 +5,6 @@ use Rattle.cellid.proofs.Laws.{one_shl}
 use Rattle.cell.specs.Siblings.{lines_at}
 use Rattle.cell.proofs.Laws.{first_is, last_le}
 use Rattle.cell.proofs.Siblings.{half_le}
-use borrow.Author.Rules.{rules}
 use Rattle.cell.proofs.lines_at.Goals as goal
 
 pub line_at-requires : goal.line_at-requires
@@ -25,4 +24,4 @@ line_at-requires-3 c = omega (arith, first_is c.args.i (30 - c.args.level) c.req
 
 pub returns : goal.returns
 unfolding lines_at
-returns c = rw (c.line_at_lem.ensures, c.line_at-2.ensures, c.line_at-3.ensures, first_is c.args.i (30 - c.args.level) c.requires.0, one_shl (29 - c.args.level) (omega arith), one_shl (30 - c.args.level) (omega arith))
+returns c = rw (c.line_at.ensures, c.line_at-2.ensures, c.line_at-3.ensures, first_is c.args.i (30 - c.args.level) c.requires.0, one_shl (29 - c.args.level) (omega arith), one_shl (30 - c.args.level) (omega arith))

@@ -2,7 +2,6 @@
 use Rattle.cell.specs.Siblings.{quarter_at}
 use native.Mathlib.Omega.{arith}
 use Rattle.cellid.proofs.Laws.{last_arm}
-use borrow.Author.Rules.{rules}
 use Rattle.cell.proofs.quarter.Goals as goal
 
 pub returns-in-0 : goal.returns-in-0

@@ -1,7 +1,6 @@
 -- `cell::quarters_of` meets its contract.
 use Rattle.hilbert.proofs.Laws.{face_ij_in}
 use Rattle.cell.specs.Siblings.{quarters_of}
-use borrow.Author.Rules.{rules}
 use Rattle.cell.proofs.quarters_of.Goals as goal
 
 pub lines_at-x-requires : goal.lines_at-x-requires

@@ -1,6 +1,5 @@
 -- `cell::scale` meets its contract.
 use Rattle.cell.specs.Siblings.{scale_of}
-use borrow.Author.Rules.{rules}
 use Rattle.cell.proofs.scale.Goals as goal
 
 pub returns : goal.returns

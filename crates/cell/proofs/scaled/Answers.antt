@@ -1,6 +1,5 @@
 -- `cell::scaled` meets its contract.
 use Rattle.cell.specs.Siblings.{scaled_of}
-use borrow.Author.Rules.{rules}
 use Rattle.cell.proofs.scaled.Goals as goal
 
 pub returns : goal.returns

@@ -1,6 +1,5 @@
 -- `cell::scales` meets its contract.
 use Rattle.cell.specs.Siblings.{scales_of}
-use borrow.Author.Rules.{rules}
 use Rattle.cell.proofs.scales.Goals as goal
 
 pub returns : goal.returns

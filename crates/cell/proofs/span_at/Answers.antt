@@ -4,7 +4,6 @@ use Prim.Native.Nat.{◌-◌}
 use native.Mathlib.Omega.{arith}
 use Rattle.cellid.proofs.Laws.{one_shl}
 use Rattle.cell.proofs.Laws.{first_is, last_le}
-use borrow.Author.Rules.{rules}
 use Rattle.cell.proofs.span_at.Goals as goal
 
 pub line_at-requires : goal.line_at-requires
@@ -18,4 +17,4 @@ line_at-requires-2 c = let s = 30 - c.args.level in omega (arith, first_is c.arg
 
 pub returns : goal.returns
 unfolding span_at
-returns c = rw (c.line_at_lem.ensures, c.line_at-2.ensures, first_is c.args.i (30 - c.args.level) c.requires.0, one_shl (30 - c.args.level) (omega arith))
+returns c = rw (c.line_at.ensures, c.line_at-2.ensures, first_is c.args.i (30 - c.args.level) c.requires.0, one_shl (30 - c.args.level) (omega arith))

@@ -1,7 +1,6 @@
 -- `cell::u_back` meets its contract.
 use denote.Floats.{passes}
 use Rattle.cell.proofs.Lengths.{u_sized, back_scaled}
-use borrow.Author.Rules.{rules}
 use Rattle.cell.proofs.u_back.Goals as goal
 
 pub returns : goal.returns

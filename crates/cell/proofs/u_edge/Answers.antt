@@ -1,7 +1,6 @@
 -- `cell::u_edge` meets its contract.
 use denote.Floats.{passes}
 use Rattle.cell.proofs.Lengths.{u_sized, edge_scaled}
-use borrow.Author.Rules.{rules}
 use Rattle.cell.proofs.u_edge.Goals as goal
 
 pub returns : goal.returns

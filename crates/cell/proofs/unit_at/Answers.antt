@@ -1,6 +1,5 @@
 -- `cell::unit_at` meets its contract.
 use Rattle.cell.specs.Cell.{unit_at}
-use borrow.Author.Rules.{rules}
 use Rattle.cell.proofs.unit_at.Goals as goal
 
 pub returns : goal.returns

@@ -1,7 +1,6 @@
 -- `cell::v_back` meets its contract.
 use denote.Floats.{passes}
 use Rattle.cell.proofs.Lengths.{v_sized, back_scaled}
-use borrow.Author.Rules.{rules}
 use Rattle.cell.proofs.v_back.Goals as goal
 
 pub returns : goal.returns

@@ -1,7 +1,6 @@
 -- `cell::v_edge` meets its contract.
 use denote.Floats.{passes}
 use Rattle.cell.proofs.Lengths.{v_sized, edge_scaled}
-use borrow.Author.Rules.{rules}
 use Rattle.cell.proofs.v_edge.Goals as goal
 
 pub returns : goal.returns

@@ -2,7 +2,6 @@
 use Rattle.cell.specs.Cell.{vertex_at}
 use native.Mathlib.Omega.{arith}
 use Rattle.cellid.proofs.Laws.{last_arm}
-use borrow.Author.Rules.{rules}
 use Rattle.cell.proofs.vertex.Goals as goal
 
 pub returns-in-0 : goal.returns-in-0
