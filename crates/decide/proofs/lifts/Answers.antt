@@ -1,7 +1,6 @@
 -- `decide::lifts` meets its contract.
 use Prim.Native.Nat.{◌≤◌, ◌<◌}
 use Rattle.cellid.specs.CellId.{level_of}
-use borrow.Author.Rules.{rules}
 use borrow.Author.Tests.{le-leb, lt-leb, eq-eqb, ne_eqb}
 use lib.Count.{ones}
 use lib.Dec.{eqb}
@@ -24,18 +23,15 @@ all false a b e d = rw (e, d)
 
 pub returns-then-level-q : goal.returns-then-level-q
 returns-then-level-q c =
-    let z = c in
-    let h : level_of z.args.id < z.args.q.coverer.min_level = omega (arith, c.level.ensures, c.if-level-q.true) in
-    low z.args.q.inner _ (eqb (ones z.args.terminal) z.args.full) (lt-leb z.args.q.coverer.min_level (level_of z.args.id) h)
+    let h : level_of c.args.id < c.args.q.coverer.min_level = omega (arith, c.level.ensures, c.if-level-q.true) in
+    low c.args.q.inner _ (eqb (ones c.args.terminal) c.args.full) (lt-leb c.args.q.coverer.min_level (level_of c.args.id) h)
 
 pub returns-then-count-full : goal.returns-then-count-full
 returns-then-count-full c =
-    let z = c in
-    let h : z.args.q.coverer.min_level ≤ level_of z.args.id = omega (arith, c.level.ensures, c.if-level-q.false) in
-    few z.args.q.inner _ _ (le-leb z.args.q.coverer.min_level (level_of z.args.id) h) (ne_eqb _ _ (λ e. c.if-count-full.true (c.count.ensures.value ∙ e)))
+    let h : c.args.q.coverer.min_level ≤ level_of c.args.id = omega (arith, c.level.ensures, c.if-level-q.false) in
+    few c.args.q.inner _ _ (le-leb c.args.q.coverer.min_level (level_of c.args.id) h) (ne_eqb _ _ (λ e. c.if-count-full.true (c.count.ensures.value ∙ e)))
 
 pub returns : goal.returns
 returns c =
-    let z = c in
-    let h : z.args.q.coverer.min_level ≤ level_of z.args.id = omega (arith, c.level.ensures, c.if-level-q.false) in
-    all z.args.q.inner _ _ (le-leb z.args.q.coverer.min_level (level_of z.args.id) h) (eq-eqb _ _ (sym c.count.ensures.value ∙ c.if-count-full.false))
+    let h : c.args.q.coverer.min_level ≤ level_of c.args.id = omega (arith, c.level.ensures, c.if-level-q.false) in
+    all c.args.q.inner _ _ (le-leb c.args.q.coverer.min_level (level_of c.args.id) h) (eq-eqb _ _ (sym c.count.ensures.value ∙ c.if-count-full.false))

@@ -7,7 +7,6 @@ use native.Mathlib.Omega.{arith}
 use Rattle.order.proofs.HeapSteps.{lesser_left, lesser_left_2, lesser_right}
 use Rattle.records.specs.declared.Rec.{Rec}
 use Rattle.records.specs.Records.{get_r, put_r, before}
-use borrow.Author.Rules.{rules}
 use Rattle.heap.proofs.lesser.Goals as goal
 
 test : (m : List ℕ) (l r : ℕ) (x y : Rec) (t v : Bool) → y ≡ get_r m r → x ≡ get_r m l → t ≡ before y x → t ≡ v → before (get_r m r) (get_r m l) ≡ v
@@ -15,19 +14,13 @@ test m l r x y t v ey ex et ev = rw (← ey, ← ex, ← et) ev
 
 pub returns-then-goes_first : goal.returns-then-goes_first
 returns-then-goes_first c =
-    let first = c in
-    let get2 = first in
-    let get = get2 in
-    let t = test _ _ _ _ _ _ _ get2.get-y.ensures get.get-x.ensures first.goes_first.ensures c.if-goes_first.true in
-    (sym (lesser_right get_r put_r before _ _ _ (omega arith) t), get2.get-y.ensures, omega arith, omega arith)
+    let t = test _ _ _ _ _ _ _ c.get-y.ensures c.get-x.ensures c.goes_first.ensures c.if-goes_first.true in
+    (sym (lesser_right get_r put_r before _ _ _ (omega arith) t), c.get-y.ensures, omega arith, omega arith)
 
 pub returns-else-goes_first : goal.returns-else-goes_first
 returns-else-goes_first c =
-    let first = c in
-    let get2 = first in
-    let get = get2 in
-    let t = test _ _ _ _ _ _ _ get2.get-y.ensures get.get-x.ensures first.goes_first.ensures c.if-goes_first.false in
-    (sym (lesser_left_2 get_r put_r before _ _ _ (omega arith) t), get.get-x.ensures, omega arith, omega arith)
+    let t = test _ _ _ _ _ _ _ c.get-y.ensures c.get-x.ensures c.goes_first.ensures c.if-goes_first.false in
+    (sym (lesser_left_2 get_r put_r before _ _ _ (omega arith) t), c.get-x.ensures, omega arith, omega arith)
 
 pub returns-else-r-n : goal.returns-else-r-n
 returns-else-r-n c = (sym (lesser_left get_r put_r before _ _ _ (omega arith)), c.get-x.ensures, omega arith, omega arith)

@@ -1,17 +1,17 @@
 use mathlib.Core.Path.{◌≡◌, refl, sym, ap, ◌∙◌}
 use mathlib.Core.Bool.{true}
-use mathlib.Core.Logic.{⊎_elim}
 use mathlib.Core.List.{List}
-use Prim.Native.Nat.{ℕ, ◌+◌, ◌*◌, ◌-◌, ◌<◌}
+use Prim.Native.Nat.{ℕ, ◌+◌, ◌*◌, ◌<◌}
 use native.Mathlib.Omega.{arith}
 use lib.ListN.{length}
-use Rattle.order.proofs.HeapRun.{Down, Down_start, Down_turn, Down_leaf, Down_stop}
+use Rattle.order.proofs.HeapRun.{Down_start, Down_turn, Down_leaf, Down_stop}
 use Rattle.records.specs.declared.Rec.{Rec}
-use Rattle.records.specs.Records.{get_r, put_r, cap_r, before}
-use Rattle.heap.specs.Heap.{pop_r, lesser_r}
+use Rattle.records.specs.Records.{get_r, put_r, before}
+use Rattle.heap.specs.Heap.{lesser_r}
 use Rattle.records.proofs.Mem.{length_put_r}
 use Rattle.heap.proofs.pop.Invariants.{Inv}
 use Rattle.heap.proofs.pop.Goals as goal
+use Rattle.heap.proofs.pop.Goals.{else-loop-i-test, then-loop-i-test+else-goes_first}
 
 turn : (m₀ : List ℕ) (n : ℕ) (a : Rec) (m : List ℕ) (i c : ℕ) (x : Rec) (m' : List ℕ) → 2 * i + 1 < n
     → c ≡ lesser_r m n i → i < c → c < n → x ≡ get_r m c → before x a ≡ true → m' ≡ put_r m i x → Inv m₀ n a m i → Inv m₀ n a m' c
@@ -30,26 +30,19 @@ goes_first-requires c = tt
 
 pub loop-i-preserved : goal.loop-i-preserved
 loop-i-preserved c =
-    let after-put = c in
-    let then = after-put in
-    let after_first = then in
-    let after-lesser = after_first in
-    let in-loop = after-lesser in
-    let l = after-lesser.lesser-c.ensures in
-    turn _ _ _ _ _ _ _ _ (omega arith) l.0 l.2 l.3 l.1 (sym after_first.goes_first.ensures ∙ then.if-goes_first.true) after-put.put.ensures in-loop.loop-i.invariant
+    let l = c.lesser-c.ensures in
+    turn _ _ _ _ _ _ _ _ (omega arith) l.0 l.2 l.3 l.1 (sym c.goes_first.ensures ∙ c.if-goes_first.true) c.put.ensures c.loop-i.invariant
 
 pub shape_of-m : goal.shape_of-m
-shape_of-m c =
-    let after-put = c in
-    ap length after-put.put-2.ensures ∙ length_put_r _ _ _ ∙ after-put.loop-i.invariant.len
+shape_of-m c = ap length c.put-2.ensures ∙ length_put_r _ _ _ ∙ c.loop-i.invariant.len
 
 pub returns : goal.returns
 returns c =
-    let after-put = c in
-    let left = after-put in
-    let run = left.loop-i.invariant.run in
+    let run = c.loop-i.invariant.run in
     record {
-      value = left.get-least.ensures;
-      m_after = after-put.put-2.ensures ∙ ⊎_elim (λ w. Down_leaf get_r put_r _ (omega (arith, w.left)) run)
-          (λ w. Down_stop get_r put_r _ w.2.ensures.0 (ap (λ (y : Rec). before y _) (sym w.2.ensures.1) ∙ sym w.4.ensures ∙ w.5.left) run) left.loop-i-test.branch;
+      value = c.get-least.ensures;
+      m_after = c.put-2.ensures ∙ elim c.loop-i-test.branch [
+        | else-loop-i-test w ↦ Down_leaf get_r put_r _ (omega (arith, w.loop-i-test.false)) run
+        | then-loop-i-test+else-goes_first w ↦ Down_stop get_r put_r _ w.lesser-c.ensures.0 (ap (λ (y : Rec). before y _) (sym w.lesser-c.ensures.1) ∙ sym w.goes_first.ensures ∙ w.if-goes_first.false) run
+      ];
     }

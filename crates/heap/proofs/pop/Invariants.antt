@@ -1,16 +1,12 @@
 -- `heap::pop` meets its contract. The invariant: the rest of the defined move ends in what the contract says.
-use mathlib.Core.Path.{◌≡◌, refl, sym, ap, ◌∙◌}
-use mathlib.Core.Bool.{true}
-use mathlib.Core.Logic.{⊎_elim}
+use mathlib.Core.Path.{◌≡◌}
 use mathlib.Core.List.{List}
-use Prim.Native.Nat.{ℕ, ◌+◌, ◌*◌, ◌-◌, ◌<◌}
-use native.Mathlib.Omega.{arith}
+use Prim.Native.Nat.{ℕ, ◌-◌, ◌<◌}
 use lib.ListN.{length}
-use Rattle.order.proofs.HeapRun.{Down, Down_start, Down_turn, Down_leaf, Down_stop}
+use Rattle.order.proofs.HeapRun.{Down}
 use Rattle.records.specs.declared.Rec.{Rec}
 use Rattle.records.specs.Records.{get_r, put_r, cap_r, before}
-use Rattle.heap.specs.Heap.{pop_r, lesser_r}
-use Rattle.records.proofs.Mem.{length_put_r}
+use Rattle.heap.specs.Heap.{pop_r}
 use Rattle.heap.proofs.pop.Given as goal
 
 pub record Inv (m₀ : List ℕ) (n : ℕ) (a : Rec) (m : List ℕ) (i : ℕ) : Type 0 where

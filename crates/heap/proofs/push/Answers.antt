@@ -1,18 +1,17 @@
 use mathlib.Core.Path.{◌≡◌, refl, ap, ◌∙◌}
 use mathlib.Core.Bool.{Bool, true}
-use mathlib.Core.Logic.{⊎_elim}
 use mathlib.Core.List.{List}
-use Prim.Native.Nat.{ℕ, ◌≤◌, ◌<◌}
+use Prim.Native.Nat.{ℕ, ◌<◌}
 use native.Mathlib.Omega.{arith}
 use lib.ListN.{length}
 use Rattle.order.specs.Heap.{above}
-use Rattle.order.proofs.HeapRun.{Up, Up_start, Up_turn, Up_top, Up_stop}
+use Rattle.order.proofs.HeapRun.{Up_start, Up_turn, Up_top, Up_stop}
 use Rattle.records.specs.declared.Rec.{Rec}
 use Rattle.records.specs.Records.{get_r, put_r, before}
-use Rattle.heap.specs.Heap.{push_r}
 use Rattle.records.proofs.Mem.{length_put_r}
 use Rattle.heap.proofs.push.Invariants.{Inv}
 use Rattle.heap.proofs.push.Goals as goal
+use Rattle.heap.proofs.push.Goals.{else-loop-i-test, then-loop-i-test+else-goes_first}
 
 test : (r x : Rec) (m : List ℕ) (i : ℕ) (t v : Bool) → x ≡ get_r m i → t ≡ before r x → t ≡ v → before r (get_r m i) ≡ v
 test r x m i t v ex et ev = rw (← ex, ← et) ev
@@ -32,22 +31,15 @@ pub goes_first-requires : goal.goes_first-requires
 goes_first-requires c = tt
 
 pub loop-i-preserved : goal.loop-i-preserved
-loop-i-preserved c =
-    let after-put = c in
-    let then = after-put in
-    let after_first = then in
-    let after-get = after_first in
-    let in-loop = after-get in
-    turn _ _ _ _ _ _ _ in-loop.loop-i-test.true after-get.get-x.ensures (test _ _ _ _ _ _ after-get.get-x.ensures after_first.goes_first.ensures then.if-goes_first.true) after-put.put.ensures in-loop.loop-i.invariant
+loop-i-preserved c = turn _ _ _ _ _ _ _ c.loop-i-test.true c.get-x.ensures (test _ _ _ _ _ _ c.get-x.ensures c.goes_first.ensures c.if-goes_first.true) c.put.ensures c.loop-i.invariant
 
 pub shape_of-m : goal.shape_of-m
-shape_of-m c =
-    let after-put = c in
-    ap length after-put.put-2.ensures ∙ length_put_r _ _ _ ∙ after-put.loop-i.invariant.len
+shape_of-m c = ap length c.put-2.ensures ∙ length_put_r _ _ _ ∙ c.loop-i.invariant.len
 
 pub returns : goal.returns
 returns c =
-    let after-put = c in
-    let left = after-put in
-    let run = left.loop-i.invariant.run in
-    after-put.put-2.ensures ∙ ⊎_elim (λ w. Up_top get_r put_r _ w.left run) (λ w. Up_stop get_r put_r _ (test _ _ _ _ _ _ w.2.ensures w.3.ensures w.4.left) run) left.loop-i-test.branch
+    let run = c.loop-i.invariant.run in
+    c.put-2.ensures ∙ elim c.loop-i-test.branch [
+      | else-loop-i-test w ↦ Up_top get_r put_r _ w.loop-i-test.false run
+      | then-loop-i-test+else-goes_first w ↦ Up_stop get_r put_r _ (test _ _ _ _ _ _ w.get-x.ensures w.goes_first.ensures w.if-goes_first.false) run
+    ]

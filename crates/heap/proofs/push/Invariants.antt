@@ -1,17 +1,12 @@
 -- `heap::push` meets its contract. The invariant: the rest of the defined move ends in what the contract says.
-use mathlib.Core.Path.{◌≡◌, refl, ap, ◌∙◌}
-use mathlib.Core.Bool.{Bool, true}
-use mathlib.Core.Logic.{⊎_elim}
+use mathlib.Core.Path.{◌≡◌}
 use mathlib.Core.List.{List}
-use Prim.Native.Nat.{ℕ, ◌≤◌, ◌<◌}
-use native.Mathlib.Omega.{arith}
+use Prim.Native.Nat.{ℕ, ◌≤◌}
 use lib.ListN.{length}
-use Rattle.order.specs.Heap.{above}
-use Rattle.order.proofs.HeapRun.{Up, Up_start, Up_turn, Up_top, Up_stop}
+use Rattle.order.proofs.HeapRun.{Up}
 use Rattle.records.specs.declared.Rec.{Rec}
 use Rattle.records.specs.Records.{get_r, put_r, before}
 use Rattle.heap.specs.Heap.{push_r}
-use Rattle.records.proofs.Mem.{length_put_r}
 use Rattle.heap.proofs.push.Given as goal
 
 pub record Inv (m₀ : List ℕ) (n : ℕ) (r : Rec) (m : List ℕ) (i : ℕ) : Type 0 where

@@ -1,14 +1,13 @@
 use mathlib.Core.Path.{◌≡◌, refl, sym, ap, ◌∙◌}
 use mathlib.Core.Bool.{Bool, true, false}
 use mathlib.Core.List.{List}
-use Prim.Native.Nat.{ℕ, suc, ◌+◌, ◌-◌, ◌≤◌, ◌<◌}
+use Prim.Native.Nat.{ℕ, suc, ◌+◌, ◌-◌, ◌<◌}
 use native.Mathlib.Omega.{arith}
 use Rattle.order.specs.Plain.{least_at}
 use Rattle.order.proofs.PlainLaws.{least_new, least_old}
 use Rattle.records.specs.declared.Rec.{Rec}
-use Rattle.records.specs.Records.{get_r, cap_r, before}
+use Rattle.records.specs.Records.{get_r, before}
 use Rattle.plain.specs.Plain.{least_r}
-use Rattle.plain.proofs.least.Invariants.{Inv}
 use Rattle.plain.proofs.least.Goals as goal
 
 test : (m : List ℕ) (k i best : ℕ) (x y : Rec) (b t : Bool) → i ≡ suc k → x ≡ get_r m i → y ≡ get_r m best → b ≡ before x y → b ≡ t → best ≡ least_r m k
@@ -28,18 +27,14 @@ loop-i-init c = record { room = omega arith; some = omega arith; within = omega 
 
 pub loop-i-preserved-then-goes_first : goal.loop-i-preserved-then-goes_first
 loop-i-preserved-then-goes_first c =
-    let get2 = c in
-    let in-loop = c in
-    let I = in-loop.loop-i.invariant in
-    let t = test _ (in-loop.loop-i.i - 1) _ _ _ _ _ _ (omega (arith, I.some)) c.get.ensures get2.get-in-loop-i.ensures c.goes_first.ensures c.if-goes_first.true I.is in
+    let I = c.loop-i.invariant in
+    let t = test _ (c.loop-i.i - 1) _ _ _ _ _ _ (omega (arith, I.some)) c.get.ensures c.get-in-loop-i.ensures c.goes_first.ensures c.if-goes_first.true I.is in
     record { room = I.room; some = omega arith; within = omega arith; found = omega arith; is = turn-new _ _ I.some t }
 
 pub loop-i-preserved : goal.loop-i-preserved
 loop-i-preserved c =
-    let get2 = c in
-    let in-loop = c in
-    let I = in-loop.loop-i.invariant in
-    let t = test _ (in-loop.loop-i.i - 1) _ _ _ _ _ _ (omega (arith, I.some)) c.get.ensures get2.get-in-loop-i.ensures c.goes_first.ensures c.if-goes_first.false I.is in
+    let I = c.loop-i.invariant in
+    let t = test _ (c.loop-i.i - 1) _ _ _ _ _ _ (omega (arith, I.some)) c.get.ensures c.get-in-loop-i.ensures c.goes_first.ensures c.if-goes_first.false I.is in
     record { room = I.room; some = omega arith; within = omega arith; found = omega (arith, I.found); is = turn-old _ _ _ I.some t I.is }
 
 pub returns : goal.returns

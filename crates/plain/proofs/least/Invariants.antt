@@ -1,13 +1,8 @@
 -- `plain::least` meets its contract. The invariant: the best so far is the least of the places looked at.
-use mathlib.Core.Path.{◌≡◌, refl, sym, ap, ◌∙◌}
-use mathlib.Core.Bool.{Bool, true, false}
+use mathlib.Core.Path.{◌≡◌}
 use mathlib.Core.List.{List}
-use Prim.Native.Nat.{ℕ, suc, ◌+◌, ◌-◌, ◌≤◌, ◌<◌}
-use native.Mathlib.Omega.{arith}
-use Rattle.order.specs.Plain.{least_at}
-use Rattle.order.proofs.PlainLaws.{least_new, least_old}
-use Rattle.records.specs.declared.Rec.{Rec}
-use Rattle.records.specs.Records.{get_r, cap_r, before}
+use Prim.Native.Nat.{ℕ, ◌+◌, ◌-◌, ◌≤◌, ◌<◌}
+use Rattle.records.specs.Records.{cap_r}
 use Rattle.plain.specs.Plain.{least_r}
 use Rattle.plain.proofs.least.Given as goal
 

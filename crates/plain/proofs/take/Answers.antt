@@ -6,7 +6,6 @@ use Rattle.order.specs.Plain.{closed}
 use Rattle.records.specs.declared.Rec.{Rec}
 use Rattle.records.specs.Records.{get_r, put_r}
 use Rattle.plain.specs.Plain.{least_r, take_r}
-use borrow.Author.Rules.{rules}
 use Rattle.plain.proofs.take.Goals as goal
 
 done : (m : List ℕ) (n at : ℕ) (r last : Rec) (m' : List ℕ) → at ≡ least_r m n → r ≡ get_r m at → last ≡ get_r m n → m' ≡ put_r m at last
@@ -15,8 +14,4 @@ unfolding closed
 done m n at r last m' ea er el em = (rw (← ea) er, rw (em, el, ea))
 
 pub returns : goal.returns
-returns c =
-    let after-put = c in
-    let get2 = after-put in
-    let get1 = get2 in
-    let r = done _ _ _ _ _ _ get1.least-at.ensures.value get1.get-first.ensures get2.get-last.ensures after-put.put.ensures in record { value = r.0; m_after = r.1 }
+returns c = let r = done _ _ _ _ _ _ c.least-at.ensures.value c.get-first.ensures c.get-last.ensures c.put.ensures in record { value = r.0; m_after = r.1 }

@@ -37,40 +37,21 @@ returns-then-a-b c = told _ _ _ _ _ _ _ c.cost-a.ensures c.cost-b.ensures refl r
 
 pub returns-then-x-y : goal.returns-then-x-y
 unfolding lexb
-returns-then-x-y c =
-    let then = c in
-    let else = then in
-    told _ _ _ _ _ _ _ else.cost-a.ensures else.cost-b.ensures refl refl (later _ _ _ _ else.if-a-b.false (decided _ _ _ then.if-x-y.true))
+returns-then-x-y c = told _ _ _ _ _ _ _ c.cost-a.ensures c.cost-b.ensures refl refl (later _ _ _ _ c.if-a-b.false (decided _ _ _ c.if-x-y.true))
 
 pub returns-then-p-q : goal.returns-then-p-q
 unfolding lexb
 returns-then-p-q c =
-    let from2 = c in
-    let from = from2 in
-    let same = from in
-    let else = same in
-    told _ _ _ _ _ _ _ else.cost-a.ensures else.cost-b.ensures from.from-p.ensures from2.from-q.ensures (later _ _ _ _ else.if-a-b.false (later _ _ _ _ same.if-x-y.false (decided _ _ _ c.if-p-q.true)))
+    told _ _ _ _ _ _ _ c.cost-a.ensures c.cost-b.ensures c.from-p.ensures c.from-q.ensures (later _ _ _ _ c.if-a-b.false (later _ _ _ _ c.if-x-y.false (decided _ _ _ c.if-p-q.true)))
 
 pub returns-then-x-y-2 : goal.returns-then-x-y-2
 unfolding lexb
 returns-then-x-y-2 c =
-    let then = c in
-    let placed = then in
-    let from2 = placed in
-    let from = from2 in
-    let same = from in
-    let else = same in
-    told _ _ _ _ _ _ _ else.cost-a.ensures else.cost-b.ensures from.from-p.ensures from2.from-q.ensures
-    (later _ _ _ _ else.if-a-b.false (later _ _ _ _ same.if-x-y.false (later _ _ _ _ placed.if-p-q.false (decided _ _ _ then.if-x-y-2.true))))
+    told _ _ _ _ _ _ _ c.cost-a.ensures c.cost-b.ensures c.from-p.ensures c.from-q.ensures
+    (later _ _ _ _ c.if-a-b.false (later _ _ _ _ c.if-x-y.false (later _ _ _ _ c.if-p-q.false (decided _ _ _ c.if-x-y-2.true))))
 
 pub returns : goal.returns
 unfolding lexb
 returns c =
-    let whole = c in
-    let placed = whole in
-    let from2 = placed in
-    let from = from2 in
-    let same = from in
-    let else = same in
-    told _ _ _ _ _ _ _ else.cost-a.ensures else.cost-b.ensures from.from-p.ensures from2.from-q.ensures
-    (later _ _ _ _ else.if-a-b.false (later _ _ _ _ same.if-x-y.false (later _ _ _ _ placed.if-p-q.false (later _ _ _ _ whole.if-x-y-2.false (last _ _)))))
+    told _ _ _ _ _ _ _ c.cost-a.ensures c.cost-b.ensures c.from-p.ensures c.from-q.ensures
+    (later _ _ _ _ c.if-a-b.false (later _ _ _ _ c.if-x-y.false (later _ _ _ _ c.if-p-q.false (later _ _ _ _ c.if-x-y-2.false (last _ _)))))
