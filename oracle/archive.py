@@ -1,4 +1,4 @@
-"""C programs over the archive that `rt staticlib capi` writes. It is for x86-64: on Arm it needs a compiler for x86-64, and the Rattle kit's emulator."""
+"""C programs over the archive that bin/archive writes. It is for x86-64: on Arm it needs a compiler for x86-64, and qemu-x86_64."""
 
 import os
 import platform
@@ -13,19 +13,16 @@ COMPILER = os.environ.get("CC") or ("cc" if NATIVE else "x86_64-linux-gnu-gcc")
 
 def emulator():
     """The words before a program for x86-64."""
-    if NATIVE:
-        return []
-    home = os.environ.get("RATTLE_HOME") or os.path.dirname(os.path.dirname(os.path.realpath(shutil.which("rt"))))
-    return [os.path.join(home, "on", platform.machine(), "toolchain", "bin", "qemu-x86_64")]
+    return [] if NATIVE else [shutil.which("qemu-x86_64")]
 
 
 def lacking():
     """Why no program can be built over the archive; None if one can."""
     if not os.path.isfile(ARCHIVE):
-        return "no target/staticlib/libcapi.a; rt staticlib capi makes it"
+        return "no target/staticlib/libcapi.a; bin/archive makes it"
     if shutil.which(COMPILER) is None:
         return f"no {COMPILER}"
-    return "no rt, whose kit has the emulator" if not NATIVE and shutil.which("rt") is None else None
+    return "no qemu-x86_64" if not NATIVE and shutil.which("qemu-x86_64") is None else None
 
 
 def build(source, made):
