@@ -1,6 +1,5 @@
 -- `sight::four` meets its contract.
 use Rattle.sight.proofs.Laws.{two_sets}
-use borrow.Author.Rules.{rules}
 use Rattle.sight.proofs.four.Goals as goal
 
 pub returns : goal.returns

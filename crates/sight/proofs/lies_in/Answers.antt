@@ -1,5 +1,4 @@
 -- `sight::lies_in` meets its contract.
-use borrow.Author.Rules.{rules}
 use Rattle.sight.proofs.lies_in.Goals as goal
 
 pub returns-then-whole : goal.returns-then-whole

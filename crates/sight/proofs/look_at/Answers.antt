@@ -1,7 +1,6 @@
 -- `sight::look_at` meets its contract.
 use mathlib.Core.Path.{sym, ◌∙◌}
 use Rattle.sight.specs.Sight.{sight_by, sight_of}
-use borrow.Author.Rules.{rules}
 use Rattle.sight.proofs.look_at.Goals as goal
 
 pub returns-then-lies_in : goal.returns-then-lies_in

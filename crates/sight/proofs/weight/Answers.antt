@@ -2,7 +2,6 @@
 use mathlib.Core.Path.{refl}
 use native.Mathlib.Omega.{arith}
 use Rattle.cellid.specs.CellId.{one}
-use borrow.Author.Rules.{rules}
 use Rattle.sight.proofs.weight.Goals as goal
 
 pub returns-in-Outside : goal.returns-in-Outside
