@@ -1,6 +1,6 @@
 -- One look at a cell: the corners decide as the two tests do. Assumes nothing.
 use mathlib.Core.Path.{◌≡◌, refl, sym, ap, ◌∙◌}
-use mathlib.Core.Bool.{Bool, true, false, not, cond, ◌&&◌, ◌||◌, or_true, and-false, and-eq-true_iff, true≢false, beq}
+use mathlib.Core.Bool.{Bool, true, false, not, cond, ◌&&◌, ◌||◌, or-true, and-false, and-eq-true_iff, true≢false, beq}
 use Prim.Native.Nat.{ℕ, zero, suc, ◌+◌, ◌-◌, ◌<◌}
 use native.Mathlib.Omega.{arith}
 use lib.Ieee.{le}
@@ -56,9 +56,9 @@ module _ (cap : Cap) (c : Cell) where
   corner_in : (k : ℕ) → k < 4 → held_at_corner k ≡ true → meets_cell cap c ≡ true
   unfolding meets_cell
   corner_in zero l h = rw h
-  corner_in (suc zero) l h = rw (h, or_true (held_at_corner 0))
-  corner_in (suc (suc zero)) l h = rw (h, or_true (held_at_corner 1), or_true (held_at_corner 0))
-  corner_in (suc (suc (suc zero))) l h = rw (h, or_true (held_at_corner 2), or_true (held_at_corner 1), or_true (held_at_corner 0))
+  corner_in (suc zero) l h = rw (h, or-true (held_at_corner 0))
+  corner_in (suc (suc zero)) l h = rw (h, or-true (held_at_corner 1), or-true (held_at_corner 0))
+  corner_in (suc (suc (suc zero))) l h = rw (h, or-true (held_at_corner 2), or-true (held_at_corner 1), or-true (held_at_corner 0))
   corner_in (suc (suc (suc (suc k)))) l h = absurd (omega arith)
 
   corner_out : (k : ℕ) → k < 4 → held_at_corner k ≡ false → holds_cell cap c ≡ false

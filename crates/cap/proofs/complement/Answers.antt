@@ -11,8 +11,8 @@ returns-then-is_full c = rw (sym c.is_full.ensures ∙ c.if-is_full.true) c.arou
 
 pub returns-then-is_empty : goal.returns-then-is_empty
 unfolding complement_of
-returns-then-is_empty c = rw (sym c.is_full.ensures ∙ c.if-is_full.false, sym c.is_empty_lem.ensures ∙ c.if-is_empty.true) c.around-then-is_empty.ensures
+returns-then-is_empty c = rw (sym c.is_full.ensures ∙ c.if-is_full.false, sym c.is_empty.ensures ∙ c.if-is_empty.true) c.around-then-is_empty.ensures
 
 pub returns : goal.returns
 unfolding complement_of
-returns c = rw (sym c.is_full.ensures ∙ c.if-is_full.false, sym c.is_empty_lem.ensures ∙ c.if-is_empty.false, c.mul.ensures)
+returns c = rw (sym c.is_full.ensures ∙ c.if-is_full.false, sym c.is_empty.ensures ∙ c.if-is_empty.false, c.mul.ensures)

@@ -9,11 +9,11 @@ use Rattle.cap.proofs.touches_by.Goals as goal
 
 pub returns-then-is_empty : goal.returns-then-is_empty
 unfolding touches
-returns-then-is_empty c = rw (not-true (le right c.args.cap.radius) c.requires.0, sym c.is_empty_lem.ensures ∙ c.if-is_empty.true)
+returns-then-is_empty c = rw (not-true (le right c.args.cap.radius) c.requires.0, sym c.is_empty.ensures ∙ c.if-is_empty.true)
 
 pub returns-then-contains_point : goal.returns-then-contains_point
 unfolding touches
-returns-then-contains_point c = rw (not-true (le right c.args.cap.radius) c.requires.0, sym c.is_empty_lem.ensures ∙ c.if-is_empty.false, sym c.contains_point.ensures ∙ c.if-contains_point.true)
+returns-then-contains_point c = rw (not-true (le right c.args.cap.radius) c.requires.0, sym c.is_empty.ensures ∙ c.if-is_empty.false, sym c.contains_point.ensures ∙ c.if-contains_point.true)
 
 pub edges_say-requires : goal.edges_say-requires
 edges_say-requires c = let z = c in
@@ -26,4 +26,4 @@ pub returns : goal.returns
 unfolding touches
 returns c =
     let e = c in
-    rw (not-true (le right e.args.cap.radius) e.requires.0, sym e.is_empty_lem.ensures ∙ e.if-is_empty.false, sym c.contains_point.ensures ∙ c.if-contains_point.false, ← c.sin2.ensures) c.edges_say.ensures
+    rw (not-true (le right e.args.cap.radius) e.requires.0, sym e.is_empty.ensures ∙ e.if-is_empty.false, sym c.contains_point.ensures ∙ c.if-contains_point.false, ← c.sin2.ensures) c.edges_say.ensures
