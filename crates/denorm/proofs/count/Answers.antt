@@ -1,7 +1,6 @@
-use Prim.Native.Nat.{◌-◌}
 use native.Mathlib.Omega.{arith}
 use Rattle.cellid.proofs.Laws.{level_le}
-use Rattle.denorm.proofs.Writes.{Counting, turn_laws, count_turn, count_over, count_done}
+use Rattle.denorm.proofs.Writes.{turn_laws, count_turn, count_over, count_done}
 use Rattle.denorm.proofs.count.Goals as goal
 
 pub loop-i-init : goal.loop-i-init

@@ -1,7 +1,5 @@
 use Prim.Native.Nat.{◌-◌}
-use native.Mathlib.Omega.{arith}
-use Rattle.cellid.proofs.Laws.{level_le}
-use Rattle.denorm.proofs.Writes.{Counting, turn_laws, count_turn, count_over, count_done}
+use Rattle.denorm.proofs.Writes.{Counting}
 use Rattle.denorm.proofs.count.Given as goal
 
 abbrev pub invariant-loop-i : goal.invariant-loop-i

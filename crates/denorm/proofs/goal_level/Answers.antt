@@ -1,6 +1,5 @@
 use native.Mathlib.Omega.{arith}
 use Rattle.denorm.proofs.Writes.{goal_fits, goal_over, goal_is}
-use borrow.Author.Rules.{rules}
 use Rattle.denorm.proofs.goal_level.Goals as goal
 
 pub overflow_add-r : goal.overflow_add-r

@@ -1,9 +1,4 @@
-use mathlib.Core.Path.{refl}
-use Prim.Native.Nat.{◌-◌, ◌*◌}
-use native.Mathlib.Omega.{arith}
-use lib.Pow.{pow_mono}
-use Rattle.cellid.proofs.Laws.{cell_pos, cell_lt, low_le}
-use Rattle.denorm.proofs.Writes.{Spreading, spread_start, spread_word, spread_turn, spread_done}
+use Rattle.denorm.proofs.Writes.{Spreading}
 use Rattle.denorm.proofs.spread.Given as goal
 
 abbrev pub invariant-loop-left : goal.invariant-loop-left

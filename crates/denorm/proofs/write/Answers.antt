@@ -1,8 +1,7 @@
 use mathlib.Core.Path.{refl}
-use Prim.Native.Nat.{◌-◌}
 use native.Mathlib.Omega.{arith}
 use Rattle.cellid.proofs.Laws.{level_le}
-use Rattle.denorm.proofs.Writes.{Writing, write_asks, write_turn, write_done}
+use Rattle.denorm.proofs.Writes.{write_asks, write_turn, write_done}
 use Rattle.denorm.proofs.write.Goals as goal
 
 pub loop-i-init : goal.loop-i-init
@@ -27,8 +26,7 @@ spread-at-requires c = write_asks _ _ _ _ _ _ _ _ _ _ c.loop-i.invariant c.loop-
 
 pub loop-i-preserved : goal.loop-i-preserved
 loop-i-preserved c =
-    let g = c in
-    write_turn _ _ _ _ _ _ _ _ _ _ _ _ g.loop-i.invariant g.loop-i-test.true g.level.ensures g.goal_level-to.ensures
+    write_turn _ _ _ _ _ _ _ _ _ _ _ _ c.loop-i.invariant c.loop-i-test.true c.level.ensures c.goal_level-to.ensures
     c.spread-at.ensures.0 c.spread-at.ensures.1
 
 pub shape_of-out : goal.shape_of-out

@@ -1,8 +1,5 @@
-use mathlib.Core.Path.{refl}
 use Prim.Native.Nat.{◌-◌}
-use native.Mathlib.Omega.{arith}
-use Rattle.cellid.proofs.Laws.{level_le}
-use Rattle.denorm.proofs.Writes.{Writing, write_asks, write_turn, write_done}
+use Rattle.denorm.proofs.Writes.{Writing}
 use Rattle.denorm.proofs.write.Given as goal
 
 abbrev pub invariant-loop-i : goal.invariant-loop-i

@@ -1,6 +1,5 @@
-use Prim.Native.Nat.{◌-◌}
 use native.Mathlib.Omega.{arith}
-use Rattle.picklist.proofs.Laws.{pick_pos, Searching, search_start, search_up, search_down, search_done}
+use Rattle.picklist.proofs.Laws.{pick_pos, search_start, search_up, search_down, search_done}
 use Rattle.picklist.proofs.find.Goals as goal
 
 pub loop-low-init : goal.loop-low-init
@@ -25,13 +24,15 @@ pub loop-low-smaller-then-range_max-first : goal.loop-low-smaller-then-range_max
 loop-low-smaller-then-range_max-first c = omega (arith, c.loop-low-test.true)
 
 pub loop-low-preserved-then-range_max-first : goal.loop-low-preserved-then-range_max-first
-loop-low-preserved-then-range_max-first c = let g = c in search_up _ g.requires _ _ _ _ g.loop-low.invariant (omega (arith, g.loop-low-test.true)) (omega (arith, g.loop-low-test.true)) (rw (← c.range_max.ensures) c.if-range_max-first.true)
+loop-low-preserved-then-range_max-first c =
+    search_up _ c.requires _ _ _ _ c.loop-low.invariant (omega (arith, c.loop-low-test.true)) (omega (arith, c.loop-low-test.true)) (rw (← c.range_max.ensures) c.if-range_max-first.true)
 
 pub loop-low-smaller : goal.loop-low-smaller
 loop-low-smaller c = omega (arith, c.loop-low-test.true)
 
 pub loop-low-preserved : goal.loop-low-preserved
-loop-low-preserved c = let g = c in search_down _ g.requires _ _ _ _ g.loop-low.invariant (omega (arith, g.loop-low-test.true)) (omega (arith, g.loop-low-test.true)) (rw (← c.range_max.ensures) c.if-range_max-first.false)
+loop-low-preserved c =
+    search_down _ c.requires _ _ _ _ c.loop-low.invariant (omega (arith, c.loop-low-test.true)) (omega (arith, c.loop-low-test.true)) (rw (← c.range_max.ensures) c.if-range_max-first.false)
 
 pub returns : goal.returns
 returns c = search_done _ _ _ _ c.loop-low.invariant c.loop-low-test.false

@@ -1,7 +1,6 @@
 -- `picklist::find`: a turn looks at the middle and leaves half.
 use Prim.Native.Nat.{◌-◌}
-use native.Mathlib.Omega.{arith}
-use Rattle.picklist.proofs.Laws.{pick_pos, Searching, search_start, search_up, search_down, search_done}
+use Rattle.picklist.proofs.Laws.{Searching}
 use Rattle.picklist.proofs.find.Given as goal
 
 abbrev pub invariant-loop-low : goal.invariant-loop-low

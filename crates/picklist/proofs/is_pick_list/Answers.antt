@@ -1,5 +1,4 @@
 -- `picklist::is_pick_list`: short enough and a list, or too long.
-use borrow.Author.Rules.{rules}
 use Rattle.picklist.proofs.Laws.{pick_yes, pick_no}
 use Rattle.picklist.proofs.is_pick_list.Goals as goal
 

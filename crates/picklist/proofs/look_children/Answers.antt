@@ -3,7 +3,6 @@ use native.Mathlib.Omega.{arith}
 use Rattle.cellid.proofs.Laws.{cell_pos}
 use Rattle.cellid.proofs.Leaves.{child_valid}
 use Rattle.sight.specs.Sight.{sights_of}
-use borrow.Author.Rules.{rules}
 use Rattle.picklist.proofs.look_children.Goals as goal
 
 pub child-requires : goal.child-requires
