@@ -7,7 +7,6 @@ use Rattle.records.specs.Records.{put_r}
 use Rattle.heap.specs.Heap.{push_r}
 use Rattle.queue.specs.declared.Engine.{Engine}
 use Rattle.queue.specs.Queue.{add_r}
-use borrow.Author.Rules.{rules}
 use Rattle.queue.proofs.add.Goals as goal
 
 quick : (x : Engine) (m : List ℕ) (n : ℕ) (r : Rec) (m' : List ℕ) → x ≡ Engine.Quick → m' ≡ push_r m n r → m' ≡ add_r x m n r
