@@ -1,4 +1,4 @@
--- `heap::push` meets its contract. The invariant: the rest of the defined move ends in what the contract says.
+-- `heap::push`: the invariant: the rest of the defined move ends in what the contract says.
 use mathlib.Core.Path.{◌≡◌}
 use mathlib.Core.List.{List}
 use Prim.Native.Nat.{ℕ, ◌≤◌}

@@ -1,4 +1,4 @@
--- `plain::least` meets its contract. The invariant: the best so far is the least of the places looked at.
+-- `plain::least`: the invariant: the best so far is the least of the places looked at.
 use mathlib.Core.Path.{◌≡◌}
 use mathlib.Core.List.{List}
 use Prim.Native.Nat.{ℕ, ◌+◌, ◌-◌, ◌≤◌, ◌<◌}
