@@ -1,4 +1,4 @@
--- `heap::pop`: the invariant: the rest of the defined move ends in what the contract says.
+-- The invariant of `heap::pop`: the rest of the defined move ends in what the contract says.
 use mathlib.Core.Path.{◌≡◌}
 use mathlib.Core.List.{List}
 use Prim.Native.Nat.{ℕ, ◌-◌, ◌<◌}

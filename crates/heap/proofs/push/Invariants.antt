@@ -1,4 +1,4 @@
--- `heap::push`: the invariant: the rest of the defined move ends in what the contract says.
+-- The invariant of `heap::push`: the rest of the defined move ends in what the contract says.
 use mathlib.Core.Path.{◌≡◌}
 use mathlib.Core.List.{List}
 use Prim.Native.Nat.{ℕ, ◌≤◌}

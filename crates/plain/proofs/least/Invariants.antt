@@ -1,4 +1,4 @@
--- `plain::least`: the invariant: the best so far is the least of the places looked at.
+-- The invariant of `plain::least`: the best so far is the least of the places looked at.
 use mathlib.Core.Path.{◌≡◌}
 use mathlib.Core.List.{List}
 use Prim.Native.Nat.{ℕ, ◌+◌, ◌-◌, ◌≤◌, ◌<◌}
