@@ -24,4 +24,8 @@ line_at-requires-3 c = omega (arith, first_is c.args.i (30 - c.args.level) c.req
 
 pub returns : goal.returns
 unfolding lines_at
-returns c = rw (c.line_at.ensures, c.line_at-2.ensures, c.line_at-3.ensures, first_is c.args.i (30 - c.args.level) c.requires.0, one_shl (29 - c.args.level) (omega arith), one_shl (30 - c.args.level) (omega arith))
+returns c =
+    let f = first_is c.args.i (30 - c.args.level) c.requires.0 in
+    let h = one_shl (29 - c.args.level) (omega arith) in
+    let l = one_shl (30 - c.args.level) (omega arith) in
+    cc
