@@ -59,7 +59,7 @@ add_child-r-requires c =
     }
 
 pub shape_of-m-in-Refused : goal.shape_of-m-in-Refused
-shape_of-m-in-Refused c = c.add_child-r.auto.0 ∙ c.loop-j.invariant.long
+shape_of-m-in-Refused c = c.add_child-r.auto.m ∙ c.loop-j.invariant.long
 
 pub returns-in-Refused : goal.returns-in-Refused
 returns-in-Refused c =
@@ -69,7 +69,7 @@ returns-in-Refused c =
 pub loop-j-preserved : goal.loop-j-preserved
 loop-j-preserved c =
     let z = c in
-    turn _ _ _ _ _ _ _ _ _ _ _ _ _ z.requires.asks c.loop-j-test.true c.in-Going.is c.add_child-r.ensures.does c.add_child-r.ensures.aside_up_to c.add_child-r.auto.0 c.loop-j.invariant
+    turn _ _ _ _ _ _ _ _ _ _ _ _ _ z.requires.asks c.loop-j-test.true c.in-Going.is c.add_child-r.ensures.does c.add_child-r.ensures.aside_up_to c.add_child-r.auto.m c.loop-j.invariant
 
 pub shape_of-m : goal.shape_of-m
 shape_of-m c = c.loop-j.invariant.long

@@ -13,7 +13,7 @@ proceed-requires c =
     let e = c.in-Going.is in
     let six : length (take z.args.count z.args.ids) ≤ 6 = omega (arith, length-take z.args.count z.args.ids, z.requires.count_bound) in
     record {
-      memory_words_in_bounds = omega (arith, d.auto.0, z.requires.memory_words_in_bounds);
+      memory_words_in_bounds = omega (arith, d.auto.m, z.requires.memory_words_in_bounds);
       asks = z.requires.asks;
       live = runs_live _ _ _ _ _ _ z.args.allowance d.ensures _ e z.requires.all six;
       steps_le_allowance = runs_room _ _ _ _ _ _ _ d.ensures _ e;

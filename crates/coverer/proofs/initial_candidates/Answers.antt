@@ -57,7 +57,7 @@ end_turn-r-requires c =
     omega (arith, test.loop-i.invariant.six, test.loop-i-test.true)
 
 pub shape_of-m-in-Refused : goal.shape_of-m-in-Refused
-shape_of-m-in-Refused c = c.start-turn.auto.0 ∙ c.loop-i.invariant.long
+shape_of-m-in-Refused c = c.start-turn.auto.m ∙ c.loop-i.invariant.long
 
 pub returns-in-Refused : goal.returns-in-Refused
 returns-in-Refused c =
@@ -79,7 +79,7 @@ loop-i-preserved c =
       within = omega arith;
       six = I.six;
       wide = I.wide;
-      long = begun.start-turn.auto.0 ∙ I.long;
+      long = begun.start-turn.auto.m ∙ I.long;
       starting = starting_turn _ _ _ _ _ _ _ _ _ _ _ (inside _ _ _ h I.six I.wide) (omega (arith, I.six, h)) (sym (get_or-take _ _ _ 0 h)) begun.start-turn.ensures ended.end_turn-r.ensures I.starting _ c.in-Going.is;
     }
 

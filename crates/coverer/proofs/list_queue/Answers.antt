@@ -42,7 +42,7 @@ loop-left-preserved c =
     let test = c in
     let P = test.requires in
     let p = c.take-r in
-    rw (c.cost.ensures, c.from.ensures) (list_turn _ _ _ _ _ _ _ _ _ P.0 P.1 P.2 test.loop-left.invariant _ _ test.loop-left-test.true p.ensures.0 p.ensures.1 p.auto.1.0)
+    rw (c.cost.ensures, c.from.ensures) (list_turn _ _ _ _ _ _ _ _ _ P.0 P.1 P.2 test.loop-left.invariant _ _ test.loop-left-test.true p.ensures.value p.ensures.m_after p.auto.m)
 
 pub returns : goal.returns
 returns c =

@@ -36,7 +36,7 @@ step-r-requires c =
     }
 
 pub shape_of-m-in-Refused : goal.shape_of-m-in-Refused
-shape_of-m-in-Refused c = c.step-r.auto.0 ∙ c.loop-t.invariant.long
+shape_of-m-in-Refused c = c.step-r.auto.m ∙ c.loop-t.invariant.long
 
 pub returns-in-Refused : goal.returns-in-Refused
 returns-in-Refused c = going_stop _ _ _ _ _ _ _ c.loop-t.invariant.going _ _ c.loop-t-test.true c.if-t-allowance.false c.step-r.ensures _ c.in-Refused.is
@@ -48,7 +48,7 @@ loop-t-smaller c =
     omega (arith, T.1, T.0.left)
 
 pub loop-t-preserved : goal.loop-t-preserved
-loop-t-preserved c = record { long = c.step-r.auto.0 ∙ c.loop-t.invariant.long; going = (going_turn _ _ _ _ _ _ _ c.loop-t.invariant.going _ _ c.loop-t-test.true c.if-t-allowance.false c.step-r.ensures _ c.in-Going.is).0 }
+loop-t-preserved c = record { long = c.step-r.auto.m ∙ c.loop-t.invariant.long; going = (going_turn _ _ _ _ _ _ _ c.loop-t.invariant.going _ _ c.loop-t-test.true c.if-t-allowance.false c.step-r.ensures _ c.in-Going.is).0 }
 
 pub shape_of-m : goal.shape_of-m
 shape_of-m c = c.loop-t.invariant.long

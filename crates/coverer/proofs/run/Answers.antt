@@ -8,7 +8,7 @@ use Rattle.coverer.proofs.run.Goals as goal
 pub finish-requires : goal.finish-requires
 finish-requires c =
     let d = c.covering_internal-r in
-    (omega (arith, d.auto.0, c.requires.memory_words_in_bounds), answer_room _ _ _ _ _ _ _ d.ensures _ c.in-Going.is)
+    (omega (arith, d.auto.m, c.requires.memory_words_in_bounds), answer_room _ _ _ _ _ _ _ d.ensures _ c.in-Going.is)
 
 -- the allowance is used up
 pub returns-then-t-gt0 : goal.returns-then-t-gt0
@@ -24,4 +24,4 @@ pub returns-else-t-gt0 : goal.returns-else-t-gt0
 unfolding outcome_of
 returns-else-t-gt0 c =
     let d = c.covering_internal-r in
-    let r = answer_done _ _ _ _ _ _ _ d.ensures _ c.in-Going.is _ _ (omega (arith, d.auto.0, c.requires.memory_words_in_bounds)) c.if-t-gt0.false c.finish.ensures in record { value = r.0; mem_after = r.1 }
+    let r = answer_done _ _ _ _ _ _ _ d.ensures _ c.in-Going.is _ _ (omega (arith, d.auto.m, c.requires.memory_words_in_bounds)) c.if-t-gt0.false c.finish.ensures in record { value = r.0; mem_after = r.1 }

@@ -39,12 +39,12 @@ set_aside-requires c =
 pub returns-in-Kept : goal.returns-in-Kept
 returns-in-Kept c =
     let d = c.add_candidate in
-    start_kept _ _ _ _ _ _ _ c.new_candidate-c.ensures _ _ c.in-Kept.is d.ensures.0
+    start_kept _ _ _ _ _ _ _ c.new_candidate-c.ensures _ _ c.in-Kept.is d.ensures.does
 
 pub returns-in-Queued : goal.returns-in-Queued
 returns-in-Queued c =
     let d = c.add_candidate-in-Queued in
-    start_queued _ _ _ _ _ _ _ c.new_candidate-c.ensures _ _ c.in-Queued.is d.ensures.0
+    start_queued _ _ _ _ _ _ _ c.new_candidate-c.ensures _ _ c.in-Queued.is d.ensures.does
 
 pub returns-in-None : goal.returns-in-None
 returns-in-None c =

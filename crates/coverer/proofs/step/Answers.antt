@@ -32,7 +32,7 @@ use_taken-turn-requires c =
     let T = takes _ _ (domain _ _ z.requires.asks) _ _ _ z.requires.memory_words_in_bounds z.requires.queued_nonzero.0 took.take-r.ensures.value z.requires.live in
     let total = got.get.ensures ∙ ap (total_at z.args.t.aside) from.from-from.ensures in
     record {
-      memory_words_in_bounds = omega (arith, took.take-r.auto.1.0, z.requires.memory_words_in_bounds);
+      memory_words_in_bounds = omega (arith, took.take-r.auto.m, z.requires.memory_words_in_bounds);
       asks = z.requires.asks;
       kept_le_raw_most = (T.kept, omega (arith, T.queued));
       taken = T.taken;

@@ -8,8 +8,8 @@ pub returns-then-kept-queued : goal.returns-then-kept-queued
 returns-then-kept-queued c =
     let q = c.list_queue in
     record {
-      value = λ T s H. told _ T _ _ s _ c.requires.0 H _ _ c.if-kept-queued.true c.lay_raw.ensures q.ensures.0;
-      m_unchanged = q.ensures.1;
+      value = λ T s H. told _ T _ _ s _ c.requires.0 H _ _ c.if-kept-queued.true c.lay_raw.ensures q.ensures.out_after;
+      m_unchanged = q.ensures.m_unchanged;
     }
 
 pub returns-else-kept-queued : goal.returns-else-kept-queued

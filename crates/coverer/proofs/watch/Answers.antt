@@ -10,7 +10,7 @@ tell-seen-requires c =
     let d = told in
     let P = d.requires in
     let few = watch_few _ _ _ _ _ _ _ d.covering_internal-r.ensures _ told.in-Going.is in
-    (omega (arith, d.covering_internal-r.auto.0, P.0), few.0, few.1)
+    (omega (arith, d.covering_internal-r.auto.m, P.memory_words_in_bounds), few.0, few.1)
 
 pub returns-in-Refused : goal.returns-in-Refused
 returns-in-Refused c =
@@ -25,7 +25,7 @@ pub returns-in-Going : goal.returns-in-Going
 returns-in-Going c =
     let told = c in
     let t = told.tell-seen in
-    let a = watch_told _ _ _ _ _ _ _ told.covering_internal-r.ensures _ told.in-Going.is _ _ _ _ _ t.ensures.0 t.ensures.1 c.clear-in-Going.ensures in
+    let a = watch_told _ _ _ _ _ _ _ told.covering_internal-r.ensures _ told.in-Going.is _ _ _ _ _ t.ensures.value t.ensures.m_unchanged c.clear-in-Going.ensures in
     record {
       value = a.0;
       out_after = a.1;

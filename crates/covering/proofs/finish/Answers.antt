@@ -12,4 +12,4 @@ pub returns : goal.returns
 returns c =
     let l = c in
     let z = l.requires in
-    finish_gives _ _ _ _ z.0 z.1 _ _ _ _ _ _ _ _ l.lay_list-laid.ensures c.laid_answer.ensures c.clear.ensures
+    finish_gives _ _ _ _ z.memory_words_in_bounds z.mem_value _ _ _ _ _ _ _ _ l.lay_list-laid.ensures c.laid_answer.ensures c.clear.ensures

@@ -7,13 +7,13 @@ pub lay-requires-in-CellUnion : goal.lay-requires-in-CellUnion
 lay-requires-in-CellUnion c =
     let k = c in
     let s = k in
-    (front_asks _ _ _ _ k.normalize-k.ensures s.requires.0 s.requires.1 k.normalize-k.auto.0).0
+    (front_asks _ _ _ _ k.normalize-k.ensures s.requires.0 s.requires.1 k.normalize-k.auto.mem).0
 
 pub denormalize-requires : goal.denormalize-requires
 denormalize-requires c =
     let k = c in
     let s = k in
-    let a = front_asks _ _ _ _ k.normalize-k-in-Covering.ensures s.requires.0 s.requires.1 k.normalize-k-in-Covering.auto.0 in
+    let a = front_asks _ _ _ _ k.normalize-k-in-Covering.ensures s.requires.0 s.requires.1 k.normalize-k-in-Covering.auto.mem in
     (a.0, a.1, s.requires.2, s.requires.3)
 
 pub returns-in-Raw : goal.returns-in-Raw

@@ -9,7 +9,7 @@ finish-requires c =
     let r = c in
     let z = r in
     let d = ran_done _ _ _ _ (sym c.in-Done.is ∙ r.run_from_starts-ran.ensures.0) in
-    let same = r.run_from_starts-ran.auto.1.1.1.1.1.1.0 in
+    let same = r.run_from_starts-ran.auto.mem in
     record {
       memory_words_in_bounds = finish_asks z.args.e _ _ _ _ _ z.args.out.now z.requires _ r.run_from_starts-ran.ensures.1 _ _ _ d same;
       mem_value = finish_holds z.args.e _ _ _ _ _ z.args.out.now z.requires _ r.run_from_starts-ran.ensures.1 _ _ _ d same;
@@ -24,4 +24,4 @@ pub returns-in-Done : goal.returns-in-Done
 returns-in-Done c =
     let r = c in
     let d = ran_done _ _ _ _ (sym c.in-Done.is ∙ r.run_from_starts-ran.ensures.0) in
-    respond_done _ _ _ _ _ _ _ r.requires _ r.run_from_starts-ran.ensures.1 _ _ _ d r.run_from_starts-ran.auto.1.1.1.1.1.1.0 _ _ _ c.finish.ensures
+    respond_done _ _ _ _ _ _ _ r.requires _ r.run_from_starts-ran.ensures.1 _ _ _ d r.run_from_starts-ran.auto.mem _ _ _ c.finish.ensures

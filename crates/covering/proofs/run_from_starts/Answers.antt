@@ -14,7 +14,7 @@ pub run-requires : goal.run-requires
 run-requires c =
     let b = c in
     let z = b in
-    let a = run_asks _ _ _ (early_none _ _ _ z.requires) z.args.inner _ _ _ b.starts-starts.ensures.count_value.0 b.starts-starts.ensures.count_value.1 _ b.starts-starts.auto.1.1.1.0 in
+    let a = run_asks _ _ _ (early_none _ _ _ z.requires) z.args.inner _ _ _ b.starts-starts.ensures.count_value.0 b.starts-starts.ensures.count_value.1 _ b.starts-starts.auto.mem in
     record {
       memory_words_in_bounds = a.0;
       asks = a.1;
@@ -27,4 +27,4 @@ returns c =
     let r = c in
     let b = r in
     let z = b in
-    run_gives _ _ _ (early_none _ _ _ z.requires) z.args.inner _ _ _ b.starts-starts.ensures.count_value.0 b.starts-starts.ensures.count_value.1 _ _ _ _ _ refl b.starts-starts.auto.1.1.1.0 b.starts-starts.ensures.mem_after (r.run.ensures.value, r.run.ensures.mem_after)
+    run_gives _ _ _ (early_none _ _ _ z.requires) z.args.inner _ _ _ b.starts-starts.ensures.count_value.0 b.starts-starts.ensures.count_value.1 _ _ _ _ _ refl b.starts-starts.auto.mem b.starts-starts.ensures.mem_after (r.run.ensures.value, r.run.ensures.mem_after)
