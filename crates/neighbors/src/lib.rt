@@ -105,8 +105,8 @@ fn from_face_ij_wrap(face: u64, i: u64, j: u64) -> u64
 
 fn from_face_ij_same(face: u64, i: u64, j: u64, same: bool) -> u64
     requires face_bound { face < 6 }
-    requires i_bound { (i ≤ 2 ^ 30 + 1) × (j ≤ 2 ^ 30 + 1) }
-    requires i_nonzero { same ≡ true → (0 < i) × (i ≤ 2 ^ 30) × (0 < j) × (j ≤ 2 ^ 30) }
+    requires reach { (i ≤ 2 ^ 30 + 1) × (j ≤ 2 ^ 30 + 1) }
+    requires on_face { same ≡ true → (0 < i) × (i ≤ 2 ^ 30) × (0 < j) × (j ≤ 2 ^ 30) }
     ensures { result ≡ leaf_beside face i j same }
 {
     if same {

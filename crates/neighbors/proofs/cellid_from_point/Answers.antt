@@ -1,5 +1,4 @@
 -- `neighbors::cellid_from_point` meets its contract.
-use Rattle.std.proofs.Common.{rules}
 use Rattle.neighbors.specs.Neighbors.{leaf_of_point}
 use Rattle.neighbors.proofs.Floats.{ij_lt}
 use Rattle.neighbors.proofs.Laws.{face_uv_lt, point_leaf}

@@ -1,5 +1,5 @@
 -- `neighbors::coordinate` meets its contract.
-use Rattle.std.proofs.Common.{arith, rules, le-leb}
+use Rattle.std.proofs.Common.{arith, le-leb}
 use lib.Ieee.{of_int, neg, of_bits}
 use Rattle.neighbors.proofs.coordinate.Goals as goal
 

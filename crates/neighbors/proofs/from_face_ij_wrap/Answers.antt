@@ -1,5 +1,4 @@
 -- `neighbors::from_face_ij_wrap` meets its contract.
-use Rattle.std.proofs.Common.{rules}
 use Rattle.neighbors.specs.Neighbors.{leaf_wrapped}
 use Rattle.neighbors.proofs.Floats.{ij_lt}
 use Rattle.neighbors.proofs.Laws.{face_uv_lt}

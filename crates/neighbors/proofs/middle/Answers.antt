@@ -1,5 +1,4 @@
 -- `neighbors::middle` meets its contract.
-use Rattle.std.proofs.Common.{rules}
 use Rattle.neighbors.specs.Neighbors.{middle_at}
 use Rattle.neighbors.proofs.middle.Goals as goal
 

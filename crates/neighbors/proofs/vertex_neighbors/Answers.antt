@@ -1,7 +1,6 @@
 -- `neighbors::vertex_neighbors` meets its contract.
--- what is known of the cell's place and of the two ways beside it
 use mathlib.Core.Bool.{and-eq-true_iff}
-use Rattle.std.proofs.Common.{◌≡◌, ℕ, ◌^◌, ◌<◌, arith, rules}
+use Rattle.std.proofs.Common.{◌≡◌, ℕ, ◌^◌, ◌<◌, arith}
 use Rattle.hilbert.specs.declared.FaceIj.{FaceIj}
 use Rattle.hilbert.proofs.Laws.{face_ij_in}
 use Rattle.neighbors.specs.declared.Toward.{Toward}
@@ -10,6 +9,7 @@ use Rattle.neighbors.proofs.Laws.{TowardIn, toward_in}
 use Rattle.neighbors.proofs.vertex_neighbors.Goals.{After-face_ij_orientation-f}
 use Rattle.neighbors.proofs.vertex_neighbors.Goals as goal
 
+-- what is known of the cell's place and of the two ways beside it
 record Known (f : FaceIj) : Type 0 where
   face : f.face < 6
   i : f.i < 2 ^ 30
@@ -42,8 +42,8 @@ from_face_ij_same-requires c =
     let a = along _ _ _ c.nearer-a.ensures k.i in
     record {
       face_bound = k.face;
-      i_bound = (a.past, omega (arith, k.j));
-      i_nonzero = λ e. ((a.on e).0, (a.on e).1, omega arith, omega (arith, k.j));
+      reach = (a.past, omega (arith, k.j));
+      on_face = λ e. ((a.on e).0, (a.on e).1, omega arith, omega (arith, k.j));
     }
 
 pub overflow_add-f-2 : goal.overflow_add-f-2
@@ -55,8 +55,8 @@ from_face_ij_same-requires-2 c =
     let b = along _ _ _ c.nearer-b.ensures k.j in
     record {
       face_bound = k.face;
-      i_bound = (omega (arith, k.i), b.past);
-      i_nonzero = λ e. (omega arith, omega (arith, k.i), (b.on e).0, (b.on e).1);
+      reach = (omega (arith, k.i), b.past);
+      on_face = λ e. (omega arith, omega (arith, k.i), (b.on e).0, (b.on e).1);
     }
 
 pub from_face_ij_same-requires-then-a-b : goal.from_face_ij_same-requires-then-a-b
@@ -66,8 +66,8 @@ from_face_ij_same-requires-then-a-b c =
     let b = along _ _ _ c.nearer-b.ensures k.j in
     record {
       face_bound = k.face;
-      i_bound = (a.past, b.past);
-      i_nonzero = λ e. let s = (and-eq-true_iff _ _).0 e in ((a.on s.0).0, (a.on s.0).1, (b.on s.1).0, (b.on s.1).1);
+      reach = (a.past, b.past);
+      on_face = λ e. let s = (and-eq-true_iff _ _).0 e in ((a.on s.0).0, (a.on s.0).1, (b.on s.1).0, (b.on s.1).1);
     }
 
 pub returns-then-a-b : goal.returns-then-a-b

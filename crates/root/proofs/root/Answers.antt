@@ -1,5 +1,4 @@
 -- `root::root` meets its contract. Assumes nothing.
--- what owning an `f64` tells: the format holds it
 use Rattle.std.proofs.Common.{◌≡◌, ℕ, T}
 use denote.Floats.{passes}
 use lib.Ieee.{binary64, fits, of_bits, to_bits}
@@ -9,6 +8,7 @@ use Rattle.root.proofs.Short.{in_range, sound}
 use Rattle.root.proofs.root.Goals.{Start}
 use Rattle.root.proofs.root.Goals as goal
 
+-- what owning an `f64` tells: the format holds it
 held : (c : Start) → T (fits binary64 c.args.x)
 held c = passes _ c.well_formed.0.1
 

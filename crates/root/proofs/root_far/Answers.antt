@@ -1,5 +1,4 @@
 -- `root::root_far` meets its contract. Assumes nothing.
--- what owning an `f64` tells: the format holds it
 use Rattle.std.proofs.Common.{◌≡◌, ℕ, false, T, sym, refl, subst}
 use denote.Floats.{passes}
 use lib.Ieee.{Float, nan, binary64, fits, is_nan, of_bits, to_bits, div}
@@ -9,6 +8,7 @@ use Rattle.root.proofs.Kept.{root_negative, itself_number, no, read_back, no_nan
 use Rattle.root.proofs.root_far.Goals.{Else-x-2, Start}
 use Rattle.root.proofs.root_far.Goals as goal
 
+-- what owning an `f64` tells: the format holds it
 held : (c : Start) → T (fits binary64 c.args.x)
 held c = passes _ c.well_formed.0.1
 

@@ -1,5 +1,4 @@
 -- `root::root_near` meets its contract, whatever the guess: the test says that s is the whole part of the root of m. Assumes nothing.
--- m, from the pattern, and s, from the guess's pattern
 use Rattle.std.proofs.Common.{◌≡◌, ℕ, ◌+◌, ◌*◌, ◌/◌, ◌%◌, ◌^◌, ◌<◌, ◌≤◌, mul-le-mul, arith, w64, Fits}
 use lib.Bits.{bit_and, mask_lt}
 use lib.Ieee.{binary64, to_bits}
@@ -10,6 +9,7 @@ use Rattle.root.proofs.Short.{Digits, digits, answer}
 use Rattle.root.proofs.root_near.Goals.{Start}
 use Rattle.root.proofs.root_near.Goals as goal
 
+-- m, from the pattern, and s, from the guess's pattern
 abbrev even : ℕ → ℕ
 even b = (2 ^ 52 + bit_and b 0xf_ffff_ffff_ffff) * 2 ^ (b / 2 ^ 62) % 2 ^ 64
 

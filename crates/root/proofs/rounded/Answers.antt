@@ -1,4 +1,4 @@
--- `root::rounded` meets its contract. Each need is a bound of `Halves.Step`, and each return one of its two answers. Assumes nothing.
+-- `root::rounded` meets its contract. Each goal before a return is a bound of `Halves.Step`, and each return one of its two answers. Assumes nothing.
 use Rattle.std.proofs.Common.{ℕ, ◌-◌, ◌*◌, ◌/◌, ◌%◌, arith}
 use Rattle.root.proofs.Halves.{Step, step, up, mid}
 use Rattle.root.proofs.rounded.Goals.{Start}
