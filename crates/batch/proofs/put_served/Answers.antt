@@ -7,4 +7,4 @@ pub returns-then-o-eq0 : goal.returns-then-o-eq0
 returns-then-o-eq0 c = served_whole _ _ _ _ _ _ _ c.requires.1 (wrote_done _ _ _ _ _ _ _ c.if-o-eq0.true c.put_done.ensures)
 
 pub returns : goal.returns
-returns c = served_whole _ _ _ _ _ _ _ c.requires.1 (wrote_refused _ _ _ _ _ _ _ c.if-o-eq0.false c.Put-refused.ensures)
+returns c = served_whole _ _ _ _ _ _ _ c.requires.1 (wrote_refused _ _ _ _ _ _ _ c.if-o-eq0.false c.put_refused.ensures)

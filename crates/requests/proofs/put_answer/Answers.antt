@@ -12,4 +12,4 @@ pub returns-then-a-eq0 : goal.returns-then-a-eq0
 returns-then-a-eq0 c = wrote_done _ _ _ _ _ _ c.if-a-eq0.true c.put_ok.ensures
 
 pub returns : goal.returns
-returns c = wrote_refused _ _ _ _ _ _ c.if-a-eq0.false c.Put-refused.ensures
+returns c = wrote_refused _ _ _ _ _ _ c.if-a-eq0.false c.put_refused.ensures
