@@ -1,6 +1,5 @@
 -- `ranges::aligned`: half of the trailing zeros, 30 at most.
 use mathlib.Core.Path.{refl}
-use borrow.Author.Rules.{rules}
 use Rattle.ranges.proofs.Tilings.{aligned_is}
 use Rattle.ranges.proofs.aligned.Goals as goal
 

@@ -1,6 +1,5 @@
 -- `ranges::cells`: 25 or 26 as the one look told, or the cells are written.
 use mathlib.Core.Path.{sym, ◌∙◌}
-use borrow.Author.Rules.{rules}
 use Rattle.ranges.specs.Ranges.{cells_result}
 use Rattle.ranges.proofs.Answers.{looked_done, answer_bad, answer_full, answer_done}
 use Rattle.ranges.proofs.cells.Goals as goal

@@ -1,5 +1,4 @@
 -- `ranges::close`: joined and nothing is written, or the pair is.
-use borrow.Author.Rules.{rules}
 use Rattle.ranges.proofs.Writes.{close_yes, close_no}
 use Rattle.ranges.proofs.close.Goals as goal
 

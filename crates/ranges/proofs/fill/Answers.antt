@@ -1,7 +1,5 @@
-use Prim.Native.Nat.{◌-◌}
 use native.Mathlib.Omega.{arith}
-use lib.ListN.{length}
-use Rattle.ranges.proofs.Tilings.{Filling, fill_start, fill_asks, fill_turn, fill_done}
+use Rattle.ranges.proofs.Tilings.{fill_start, fill_asks, fill_turn, fill_done}
 use Rattle.ranges.proofs.fill.Goals as goal
 
 pub loop-i-init : goal.loop-i-init

@@ -1,8 +1,7 @@
 -- `ranges::fill`: the cells of one pair after another.
 use Prim.Native.Nat.{◌-◌}
-use native.Mathlib.Omega.{arith}
 use lib.ListN.{length}
-use Rattle.ranges.proofs.Tilings.{Filling, fill_start, fill_asks, fill_turn, fill_done}
+use Rattle.ranges.proofs.Tilings.{Filling}
 use Rattle.ranges.proofs.fill.Given as goal
 
 abbrev pub invariant-loop-i : goal.invariant-loop-i

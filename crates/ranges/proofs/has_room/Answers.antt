@@ -2,7 +2,6 @@
 use mathlib.Core.Path.{ap}
 use Prim.Native.Nat.{ℕ}
 use lib.Dec.{leb}
-use borrow.Author.Rules.{rules}
 use Rattle.ranges.proofs.Answers.{room_sure}
 use Rattle.ranges.proofs.has_room.Goals as goal
 

@@ -1,5 +1,4 @@
 -- `ranges::hold`: no pair yet, or its two words.
-use borrow.Author.Rules.{rules}
 use Rattle.ranges.proofs.Writes.{hold_none, hold_two}
 use Rattle.ranges.proofs.hold.Goals as goal
 

@@ -1,9 +1,8 @@
 use mathlib.Core.Path.{ap, ◌∙◌}
-use Prim.Native.Nat.{◌-◌}
 use native.Mathlib.Omega.{arith}
 use lib.ListN.{length}
 use lib.Seq.{length-sets}
-use Rattle.ranges.proofs.Writes.{Joining, join_start, join_pos, join_turn, join_done}
+use Rattle.ranges.proofs.Writes.{join_start, join_pos, join_turn, join_done}
 use Rattle.ranges.proofs.join.Goals as goal
 
 pub loop-i-init : goal.loop-i-init

@@ -1,8 +1,6 @@
 use mathlib.Core.Path.{refl}
-use Prim.Native.Nat.{◌-◌}
 use native.Mathlib.Omega.{arith}
-use lib.ListN.{length}
-use Rattle.ranges.proofs.Looks.{Pairing, pair_bad, pair_fine, pair_room, pair_on, pairs_whole, pairs_odd}
+use Rattle.ranges.proofs.Looks.{pair_bad, pair_fine, pair_room, pair_on, pairs_whole, pairs_odd}
 use Rattle.ranges.proofs.look_pairs.Goals as goal
 
 pub follows-requires : goal.follows-requires

@@ -1,9 +1,7 @@
 -- `ranges::look_pairs`: one pair after another is tested and counted.
-use mathlib.Core.Path.{refl}
 use Prim.Native.Nat.{◌-◌}
-use native.Mathlib.Omega.{arith}
 use lib.ListN.{length}
-use Rattle.ranges.proofs.Looks.{Pairing, pair_bad, pair_fine, pair_room, pair_on, pairs_whole, pairs_odd}
+use Rattle.ranges.proofs.Looks.{Pairing}
 use Rattle.ranges.proofs.look_pairs.Given as goal
 
 abbrev pub invariant-loop-i : goal.invariant-loop-i

@@ -1,6 +1,5 @@
 -- `ranges::open`: the pair goes on, or begins.
 use mathlib.Core.Path.{sym}
-use borrow.Author.Rules.{rules}
 use Rattle.ranges.proofs.Writes.{closed_yes, closed_no}
 use Rattle.ranges.proofs.open.Goals as goal
 

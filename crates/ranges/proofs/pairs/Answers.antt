@@ -1,6 +1,5 @@
 -- `ranges::pairs`: 25 or 26 as the two tests say, or the pairs are written.
 use mathlib.Core.Path.{sym, ◌∙◌}
-use borrow.Author.Rules.{rules}
 use Rattle.ranges.specs.Ranges.{pairs_result}
 use Rattle.ranges.proofs.Answers.{tested_bad, tested_full, tested_done}
 use Rattle.ranges.proofs.pairs.Goals as goal

@@ -1,6 +1,5 @@
 -- `ranges::put`: a place that is there, or none.
 use mathlib.Core.Path.{sym}
-use borrow.Author.Rules.{rules}
 use lib.Seq.{set_out}
 use Rattle.ranges.proofs.put.Goals as goal
 

@@ -1,6 +1,6 @@
 use mathlib.Core.Path.{refl}
 use native.Mathlib.Omega.{arith}
-use Rattle.ranges.proofs.Tilings.{Sizing, size_start, size_z, size_hit, size_miss, size_end}
+use Rattle.ranges.proofs.Tilings.{size_start, size_z, size_hit, size_miss, size_end}
 use Rattle.ranges.proofs.size.Goals as goal
 
 pub aligned-k-requires : goal.aligned-k-requires

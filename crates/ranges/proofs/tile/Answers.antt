@@ -1,7 +1,6 @@
 use mathlib.Core.Path.{refl}
-use Prim.Native.Nat.{◌-◌}
 use native.Mathlib.Omega.{arith}
-use Rattle.ranges.proofs.Tilings.{Tiling, tile_fits, tile_turn}
+use Rattle.ranges.proofs.Tilings.{tile_fits, tile_turn}
 use Rattle.cellid.proofs.Puts.{put_done}
 use Rattle.ranges.proofs.Tiles.{tile_end, sized}
 use Rattle.ranges.proofs.tile.Goals as goal

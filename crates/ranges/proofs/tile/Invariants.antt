@@ -1,10 +1,6 @@
 -- `ranges::tile`: one cell after another.
-use mathlib.Core.Path.{refl}
 use Prim.Native.Nat.{◌-◌}
-use native.Mathlib.Omega.{arith}
-use Rattle.ranges.proofs.Tilings.{Tiling, tile_fits, tile_turn}
-use Rattle.cellid.proofs.Puts.{put_done}
-use Rattle.ranges.proofs.Tiles.{tile_end, sized}
+use Rattle.ranges.proofs.Tilings.{Tiling}
 use Rattle.ranges.proofs.tile.Given as goal
 
 abbrev pub invariant-loop-from : goal.invariant-loop-from
