@@ -175,7 +175,7 @@ fn add_candidate(
     requires asks { Asks q (area_of g list.now) }
     requires from_lt_places_most { from < places_most }
     requires child_ok { ChildOk (task_of q (area_of g list.now)) (record { id = id; ends = terminal }) }
-    requires id_bound { t.aside + leaves_of id < 2 ^ 64 }
+    requires aside_fits { t.aside + leaves_of id < 2 ^ 64 }
     ensures does { Does e (task_of q (area_of g list.now)) from (add (course_of q (area_of g list.now)) (grown from id) terminal) m.old t m.new result }
     ensures aside_up_to { AsideUpTo (t.aside + leaves_of id) result }
 {
@@ -218,7 +218,7 @@ fn add_child(
     requires asks { Asks q (area_of g list.now) }
     requires j_bound { (j < 64) × (b.from < places_most) }
     requires all { All (ChildOk (task_of q (area_of g list.now))) (child_if b j) }
-    requires j_bound_2 { t.aside + leaves_in (child_if b j) < 2 ^ 64 }
+    requires aside_fits { t.aside + leaves_in (child_if b j) < 2 ^ 64 }
     ensures does { Does e (task_of q (area_of g list.now)) b.from (add_all (course_of q (area_of g list.now)) b.from (child_if b j)) m.old t m.new result }
     ensures aside_up_to { AsideUpTo (t.aside + leaves_in (child_if b j)) result }
 {
@@ -258,7 +258,7 @@ fn add_children(
     requires asks { Asks q (area_of g list.now) }
     requires places_bound { (b.places ≤ 64) × (b.from < places_most) }
     requires all { All (ChildOk (task_of q (area_of g list.now))) (children_from b 0) }
-    requires b_bound { s.aside + leaves_in (children_from b 0) < 2 ^ 64 }
+    requires aside_fits { s.aside + leaves_in (children_from b 0) < 2 ^ 64 }
     ensures { Does e (task_of q (area_of g list.now)) b.from (add_all (course_of q (area_of g list.now)) b.from (children_from b 0)) m.old s m.new result }
 {
     let places = b.places;
@@ -312,7 +312,7 @@ fn hand_on(
     requires asks { Asks q (area_of g list.now) }
     requires taken { Taken (task_of q (area_of g list.now)) r }
     requires children_value { children ≡ ones r.present }
-    requires id_bound { t.aside + leaves_of r.id < 2 ^ 64 }
+    requires aside_fits { t.aside + leaves_of r.id < 2 ^ 64 }
     ensures { Does e (task_of q (area_of g list.now)) (from_r r) (hand_on (task_of q (area_of g list.now)) (grown (from_r r) r.id)) m.old t m.new result }
 {
     let b = cells_under(r, decide::levels_under(q, r.id));
@@ -334,7 +334,7 @@ fn use_taken(
     requires asks { Asks q (area_of g list.now) }
     requires kept_le_raw_most { (t.kept ≤ raw_most) × (t.queued ≤ queue_most) }
     requires taken { Taken (task_of q (area_of g list.now)) r }
-    requires id_bound { t.aside + leaves_of r.id < 2 ^ 64 }
+    requires aside_fits { t.aside + leaves_of r.id < 2 ^ 64 }
     ensures { Does e (task_of q (area_of g list.now)) (from_r r) (step_with (course_of q (area_of g list.now)) (grown (from_r r) r.id)) m.old t m.new result }
 {
     if decide::is_full(q, t.kept) {
@@ -416,7 +416,7 @@ fn start(
     requires asks { Asks q (area_of g list.now) }
     requires from_lt_places_most { from < places_most }
     requires fit { Fit q id }
-    requires id_bound { t.aside + leaves_of id < 2 ^ 64 }
+    requires aside_fits { t.aside + leaves_of id < 2 ^ 64 }
     ensures { Does e (task_of q (area_of g list.now)) from (start_one (task_of q (area_of g list.now)) (grown from id)) m.old t m.new result }
 {
     let c = candidate::new_candidate(q, g, list, id);

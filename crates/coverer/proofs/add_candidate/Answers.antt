@@ -27,7 +27,7 @@ lsb-requires c =
 pub set_aside-requires : goal.set_aside-requires
 set_aside-requires c =
     let at = c in
-    omega (arith, c.lsb.ensures, low_leaves _ at.requires.child_ok.fit.cell, at.requires.id_bound)
+    omega (arith, c.lsb.ensures, low_leaves _ at.requires.child_ok.fit.cell, at.requires.aside_fits)
 
 pub returns-then-f-eq0 : goal.returns-then-f-eq0
 returns-then-f-eq0 c =

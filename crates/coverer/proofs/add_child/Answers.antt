@@ -28,7 +28,7 @@ add_candidate-requires c =
       asks = at.requires.asks;
       from_lt_places_most = at.requires.j_bound.1;
       child_ok = child_ok _ _ _ _ e c.is_in-ends.ensures at.requires.all;
-      id_bound = omega (arith, leaves_there at.args.b at.args.j e, at.requires.j_bound_2);
+      aside_fits = omega (arith, leaves_there at.args.b at.args.j e, at.requires.aside_fits);
     }
 
 pub returns-then-is_full : goal.returns-then-is_full

@@ -43,7 +43,7 @@ stop e q a b places m₀ t₀ m t j m' r n A h er d I =
 pub loop-j-init : goal.loop-j-init
 loop-j-init c =
     let z = c in
-    record { all = refl; within = omega arith; long = refl; waits = record { all = z.requires.all; room = z.requires.b_bound }; goes = goes_start _ _ _ _ _ _ }
+    record { all = refl; within = omega arith; long = refl; waits = record { all = z.requires.all; room = z.requires.aside_fits }; goes = goes_start _ _ _ _ _ _ }
 
 pub add_child-r-requires : goal.add_child-r-requires
 add_child-r-requires c =
@@ -55,7 +55,7 @@ add_child-r-requires c =
       asks = z.requires.asks;
       j_bound = (omega (arith, z.requires.places_bound.0, I.all), z.requires.places_bound.1);
       all = W.all;
-      j_bound_2 = W.room;
+      aside_fits = W.room;
     }
 
 pub shape_of-m-in-Refused : goal.shape_of-m-in-Refused

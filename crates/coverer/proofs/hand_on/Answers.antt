@@ -41,13 +41,13 @@ pub overflow_mul-failed : goal.overflow_mul-failed
 overflow_mul-failed c =
     let z = c in
     let h : (c.cells_under-b.result.places - z.args.children) * c.cells_under-b.result.unit ≤ leaves_of z.args.r.id = brood_failed_le _ _ _ _ _ _ (made _ _ z.requires.asks _ _ _ _ z.requires.taken c.levels_under.ensures z.requires.children_value c.cells_under-b.ensures) in
-    omega (arith, z.requires.id_bound)
+    omega (arith, z.requires.aside_fits)
 
 pub set_aside-requires : goal.set_aside-requires
 set_aside-requires c =
     let z = c in
     let h : (c.cells_under-b.result.places - z.args.children) * c.cells_under-b.result.unit ≤ leaves_of z.args.r.id = brood_failed_le _ _ _ _ _ _ (made _ _ z.requires.asks _ _ _ _ z.requires.taken c.levels_under.ensures z.requires.children_value c.cells_under-b.ensures) in
-    omega (arith, z.requires.id_bound)
+    omega (arith, z.requires.aside_fits)
 
 pub add_children-requires : goal.add_children-requires
 add_children-requires c =
@@ -60,7 +60,7 @@ add_children-requires c =
       asks = z.requires.asks;
       places_bound = (brood_places _ _ _ _ _ _ B A.some A.few, omega (arith, brood_from _ _ _ _ _ _ B, z.requires.taken.place));
       all = brood_ok _ _ _ _ _ _ B;
-      b_bound = omega (arith, z.requires.id_bound);
+      aside_fits = omega (arith, z.requires.aside_fits);
     }
 
 pub returns : goal.returns

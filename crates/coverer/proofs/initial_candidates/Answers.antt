@@ -48,7 +48,7 @@ start-turn-requires c =
       asks = z.requires.asks;
       from_lt_places_most = omega (arith, I.six, test.loop-i-test.true);
       fit = F;
-      id_bound = omega (arith, leaves_le (get_or z.args.ids test.loop-i.i 0));
+      aside_fits = omega (arith, leaves_le (get_or z.args.ids test.loop-i.i 0));
     }
 
 pub end_turn-r-requires : goal.end_turn-r-requires

@@ -14,7 +14,7 @@ add_candidate-requires c =
       asks = z.requires.asks;
       from_lt_places_most = z.requires.from_lt_places_most;
       child_ok = start_kept_ok _ _ _ c.new_candidate-c.ensures z.requires.fit c.in-Kept.is;
-      id_bound = z.requires.id_bound;
+      aside_fits = z.requires.aside_fits;
     }
 
 pub add_candidate-requires-in-Queued : goal.add_candidate-requires-in-Queued
@@ -25,7 +25,7 @@ add_candidate-requires-in-Queued c =
       asks = z.requires.asks;
       from_lt_places_most = z.requires.from_lt_places_most;
       child_ok = start_queued_ok _ _ _ c.new_candidate-c.ensures z.requires.fit c.in-Queued.is;
-      id_bound = z.requires.id_bound;
+      aside_fits = z.requires.aside_fits;
     }
 
 pub lsb-requires : goal.lsb-requires
@@ -34,7 +34,7 @@ lsb-requires c = cell_pos _ _ _ c.requires.fit.cell
 pub set_aside-requires : goal.set_aside-requires
 set_aside-requires c =
     let z = c in
-    omega (arith, c.lsb.ensures, low_leaves z.args.id z.requires.fit.cell, z.requires.id_bound)
+    omega (arith, c.lsb.ensures, low_leaves z.args.id z.requires.fit.cell, z.requires.aside_fits)
 
 pub returns-in-Kept : goal.returns-in-Kept
 returns-in-Kept c =

@@ -36,7 +36,7 @@ use_taken-turn-requires c =
       asks = z.requires.asks;
       kept_le_raw_most = (T.kept, omega (arith, T.queued));
       taken = T.taken;
-      id_bound = omega (arith, total, T.room);
+      aside_fits = omega (arith, total, T.room);
     }
 
 pub end_turn-requires : goal.end_turn-requires

@@ -17,7 +17,7 @@ hand_on-requires c =
       asks = z.requires.asks;
       taken = z.requires.taken;
       children_value = c.count-children.ensures.value;
-      id_bound = z.requires.id_bound;
+      aside_fits = z.requires.aside_fits;
     }
 
 pub returns-then-is_handed_on : goal.returns-then-is_handed_on
