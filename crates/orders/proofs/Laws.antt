@@ -1,19 +1,18 @@
 -- Laws of the definitions: an order takes no more than the room that it is given; one order served; the orders before place i are served and the rest are to come. Assumes nothing.
 use mathlib.Core.Path.{◌≡◌, refl, ap, ◌∙◌}
-use mathlib.Core.Bool.{true, false}
 use mathlib.Core.List.{List, [], ◌∷◌, ◌++◌, append_assoc, append-nil}
 use Prim.Native.Nat.{ℕ, suc, ◌+◌, ◌-◌, ◌≤◌, ◌<◌}
 use native.Mathlib.Omega.{arith}
 use native.Mathlib.Numerals.{add-one}
 use lib.ListN.{length, take, drop, set, get_or, length-append, length-drop, length-set}
+use Rattle.std.proofs.lemmas.List.{get_or-set_same, set-set}
 use lib.Seq.{take-length, drop-length, drop-cons, take-suc-set, drop-set-lt, length-take-le}
-use lib.Ieee.{binary64, of_bits}
 use borrow.Author.Tests.{lt-ltb, le-ltb}
 use borrow.Author.Rules.{part_to_end}
 use borrow.Rule.Slice.PartMut.{mid_of, put_mid}
 use Rattle.cellunion.proofs.Memory.{past_end}
 use Rattle.region.specs.Region.{Area}
-use Rattle.totals.specs.Totals.{no_totals}
+use Rattle.totals.specs.declared.Totals.{Totals}
 use Rattle.covering.specs.declared.Answer.{Answer}
 use Rattle.covering.specs.declared.Kind.{Kind}
 use Rattle.covering.specs.Covering.{Result, barred, refused, done, result_of, answer_of, memory_after, output_after, Answered}
@@ -73,22 +72,6 @@ serve_one o os mem out used = rw (serve_all, count_is)
 
 -- ---- the orders before place i are served, and the rest are to come
 
--- stands for an order where a place has none
-abbrev pub no_order : Order
-no_order = record {
-  number = 0;
-  count = 0;
-  steps = 0;
-  aside = no_totals;
-  fast = false;
-  inner = false;
-  cell = true;
-  id = 0;
-  cap = record { center = record { x = of_bits binary64 0; y = of_bits binary64 0; z = of_bits binary64 0 }; radius = of_bits binary64 0 };
-  coverer = record { min_level = 0; max_level = 0; level_mod = 0; max_cells = 0; edition = 0 };
-  allowance = 0;
-}
-
 -- the rest of the defined night from here is the whole night
 pub record Going (night : After) (i used : ℕ) (os : List Order) (mem out : List ℕ) : Type 0 where
   pub same : night ≡ before (take i os) (serve_all (drop i os) mem out used)
@@ -97,62 +80,80 @@ pub record Going (night : After) (i used : ℕ) (os : List Order) (mem out : Lis
 pub going_start : (os : List Order) (mem out : List ℕ) → Going (serve_all os mem out 0) 0 0 os mem out
 going_start os mem out = record { same = refl; room = omega arith }
 
-module _ (night : After) (i used : ℕ) (os : List Order) (mem out : List ℕ) (r : Answer) (mem' out' : List ℕ) (h : i < length os) (g : Going night i used os mem out)
-    (s : Served (get_or os i no_order) used r mem mem' out out') where
+-- d stands for an order where a place has none
+module _ (night : After) (i used : ℕ) (os : List Order) (mem out : List ℕ) (d : Order) (r : Answer) (mem' out' : List ℕ) (h : i < length os) (g : Going night i used os mem out)
+    (s : Served (get_or os i d) used r mem mem' out out') where
   step_is : before (take i os) (serve_all (drop i os) mem out used)
-      ≡ before (take (i + 1) (set os i (with_answer (get_or os i no_order) r))) (serve_all (drop (i + 1) (set os i (with_answer (get_or os i no_order) r))) mem' out' (used + r.count))
-  step_is = rw (drop-cons os i no_order h, add-one i, take-suc-set os i (with_answer (get_or os i no_order) r) h, drop-set-lt (suc i) os i (with_answer (get_or os i no_order) r) (omega arith), serve_one, s.answer, s.memory, s.output, append_assoc)
+      ≡ before (take (i + 1) (set os i (with_answer (get_or os i d) r))) (serve_all (drop (i + 1) (set os i (with_answer (get_or os i d) r))) mem' out' (used + r.count))
+  step_is = rw (drop-cons os i d h, add-one i, take-suc-set os i (with_answer (get_or os i d) r) h, drop-set-lt (suc i) os i (with_answer (get_or os i d) r) (omega arith), serve_one, s.answer, s.memory, s.output, append_assoc)
 
   -- what is taken afterwards fits into the output
   pub room_after : used + r.count ≤ length out'
-  room_after = rw (s.answer, s.output, laid_long (get_or os i no_order) mem out used g.room) (omega (arith, g.room, takes_room (get_or os i no_order) (length mem) (length out - used)))
+  room_after = rw (s.answer, s.output, laid_long (get_or os i d) mem out used g.room) (omega (arith, g.room, takes_room (get_or os i d) (length mem) (length out - used)))
 
-  pub going_more : Going night (i + 1) (used + r.count) (set os i (with_answer (get_or os i no_order) r)) mem' out'
+  pub going_more : Going night (i + 1) (used + r.count) (set os i (with_answer (get_or os i d) r)) mem' out'
   going_more = record { same = g.same ∙ step_is; room = room_after }
 
--- ---- where the loop stands
+-- ---- the four answers are written into the record at place i, one after another
 
-pub record Turn (ys : List Order) (ms os : List ℕ) : Type 0 where
-  pub i : ℕ
-  pub used : ℕ
-  pub orders : List Order
-  pub memory : List ℕ
-  pub output : List ℕ
+abbrev pub with_number : Order → ℕ → Order
+with_number o n = record { number = n; count = o.count; steps = o.steps; aside = o.aside; fast = o.fast; inner = o.inner; cell = o.cell; id = o.id; cap = o.cap; coverer = o.coverer; allowance = o.allowance }
+
+abbrev pub with_count : Order → ℕ → Order
+with_count o n = record { number = o.number; count = n; steps = o.steps; aside = o.aside; fast = o.fast; inner = o.inner; cell = o.cell; id = o.id; cap = o.cap; coverer = o.coverer; allowance = o.allowance }
+
+abbrev pub with_steps : Order → ℕ → Order
+with_steps o n = record { number = o.number; count = o.count; steps = n; aside = o.aside; fast = o.fast; inner = o.inner; cell = o.cell; id = o.id; cap = o.cap; coverer = o.coverer; allowance = o.allowance }
+
+abbrev pub with_aside : Order → Totals → Order
+with_aside o t = record { number = o.number; count = o.count; steps = o.steps; aside = t; fast = o.fast; inner = o.inner; cell = o.cell; id = o.id; cap = o.cap; coverer = o.coverer; allowance = o.allowance }
+
+-- what stands at a place is changed by f
+abbrev pub changed : (Order → Order) → Order → ℕ → List Order → List Order
+changed f d i os = set os i (f (get_or os i d))
+
+changed_twice : (f g : Order → Order) (d : Order) (i : ℕ) (os : List Order) → i < length os → changed g d i (changed f d i os) ≡ changed (λ (o : Order). g (f o)) d i os
+changed_twice f g d i os h = rw (set-set os i (f (get_or os i d)) (g (get_or (set os i (f (get_or os i d))) i d))) (ap (λ (o : Order). set os i (g o)) (get_or-set_same os i (f (get_or os i d)) d h))
+
+pub four_written : (r : Answer) (d : Order) (i : ℕ) (os : List Order) → i < length os
+    → changed (λ (o : Order). with_aside o r.aside) d i (changed (λ (o : Order). with_steps o r.steps) d i (changed (λ (o : Order). with_count o r.count) d i (changed (λ (o : Order). with_number o r.number) d i os)))
+    ≡ set os i (with_answer (get_or os i d) r)
+four_written r d i os h =
+    let n = λ (o : Order). with_number o r.number in
+    let c = λ (o : Order). with_count o r.count in
+    let s = λ (o : Order). with_steps o r.steps in
+    let a = λ (o : Order). with_aside o r.aside in
+    ap (λ (l : List Order). changed a d i (changed s d i l)) (changed_twice n c d i os h)
+    ∙ ap (changed a d i) (changed_twice (λ (o : Order). c (n o)) s d i os h)
+    ∙ changed_twice (λ (o : Order). s (c (n o))) a d i os h
+
+-- ---- where the loop stands: of the orders ys the first i are served
+
+pub record Turn (ys : List Order) (ms os : List ℕ) (i used : ℕ) (orders : List Order) (memory output : List ℕ) : Type 0 where
   pub within : i ≤ length ys
   pub long : length orders ≡ length ys
-  pub memory_long : length memory ≡ length ms
   pub output_long : length output ≡ length os
   pub going : Going (serve_all ys ms os 0) i used orders memory output
 
-abbrev pub start : (ys : List Order) (ms os : List ℕ) → Turn ys ms os
-start ys ms os = record {
-  i = 0;
-  used = 0;
-  orders = ys;
-  memory = ms;
-  output = os;
-  within = omega arith;
-  long = refl;
-  memory_long = refl;
-  output_long = refl;
-  going = going_start ys ms os;
-}
+pub start : (ys : List Order) (ms os : List ℕ) → Turn ys ms os 0 0 ys ms os
+start ys ms os = record { within = omega arith; long = refl; output_long = refl; going = going_start ys ms os }
 
--- the turn after t, once the order at its place was answered with r
-abbrev pub next : {ys : List Order} {ms os : List ℕ} (t : Turn ys ms os) → t.i < length t.orders → (r : Answer) (mem' out' : List ℕ)
-    → Served (get_or t.orders t.i no_order) t.used r t.memory mem' t.output out' → length mem' ≡ length t.memory → length out' ≡ length t.output → Turn ys ms os
-next {ys} {ms} {os} t h r mem' out' s e f = record {
-  i = t.i + 1;
-  used = t.used + r.count;
-  orders = set t.orders t.i (with_answer (get_or t.orders t.i no_order) r);
-  memory = mem';
-  output = out';
-  within = omega (arith, t.long, h);
-  long = length-set t.orders t.i (with_answer (get_or t.orders t.i no_order) r) ∙ t.long;
-  memory_long = e ∙ t.memory_long;
-  output_long = f ∙ t.output_long;
-  going = going_more (serve_all ys ms os 0) t.i t.used t.orders t.memory t.output r mem' out' h t.going s;
-}
+-- the turn after, once the order at its place was answered with r
+module _ {ys : List Order} {ms os : List ℕ} {i used : ℕ} {orders : List Order} {memory output : List ℕ} (t : Turn ys ms os i used orders memory output) (h : i < length ys) (d : Order) (r : Answer) (mem' out' : List ℕ)
+    (s : Served (get_or orders i d) used r memory mem' output out') where
+  inside : i < length orders
+  inside = omega (arith, t.long, h)
+
+  pub fits_after : used + r.count ≤ length out'
+  fits_after = room_after (serve_all ys ms os 0) i used orders memory output d r mem' out' inside t.going s
+
+  pub next : length out' ≡ length output → Turn ys ms os (i + 1) (used + r.count) (set orders i (with_answer (get_or orders i d) r)) mem' out'
+  next f = record {
+    within = omega (arith, h);
+    long = length-set orders i (with_answer (get_or orders i d) r) ∙ t.long;
+    output_long = f ∙ t.output_long;
+    going = going_more (serve_all ys ms os 0) i used orders memory output d r mem' out' inside t.going s;
+  }
 
 -- ---- the whole night
 
@@ -172,9 +173,9 @@ night_all os mem out h =
     let e = night_serves os mem out h in
     record { number = rw (night_number, le-ltb 256 (length os) h); orders = rw e; memory = rw e; output = rw e }
 
-pub ending : {ys : List Order} {ms os : List ℕ} (t : Turn ys ms os) → length ys ≤ 256 → length ys ≤ t.i → NightOver ys t.orders ms t.memory os t.output 0
+pub ending : {ys : List Order} {ms os : List ℕ} {i used : ℕ} {orders : List Order} {memory output : List ℕ} → Turn ys ms os i used orders memory output → length ys ≤ 256 → length ys ≤ i → NightOver ys orders ms memory os output 0
 unfolding serve_all
-ending {ys} {ms} {os} t few over =
-    let e : t.i ≡ length t.orders = omega (arith, t.long, t.within) in
-    let d : serve_all ys ms os 0 ≡ record { orders = t.orders; memory = t.memory; output = t.output } = t.going.same ∙ rw (e, take-length t.orders, drop-length t.orders, serve_all, append-nil) in
+ending {ys} {ms} {os} {i} {used} {orders} {memory} {output} t few over =
+    let e : i ≡ length orders = omega (arith, t.long, t.within, over) in
+    let d : serve_all ys ms os 0 ≡ record { orders = orders; memory = memory; output = output } = t.going.same ∙ rw (e, take-length orders, drop-length orders, serve_all, append-nil) in
     rw d at (night_all ys ms os few)
