@@ -11,7 +11,7 @@ use lib.Arith.{digits_div, digits_mod}
 use lib.ListN.{length, get_or, set, replicate, length-append, replicate-append-replicate}
 use lib.Seq.{get_or_at, set_comm, sets}
 use borrow.Author.Tests.{lt-ltb, le-ltb, le-leb, lt-leb, ltb-true, eq-eqb, ne_eqb}
-use Rattle.tokens.specs.Digits.{last_digits, hex_digit_ascii}
+use Rattle.io.specs.Digits.{last_digits, hex_digit_ascii}
 use Rattle.text.specs.Text.{digit_of, all_digits, value_from}
 use Rattle.text.proofs.Fields.{digits_then, value_then}
 use Rattle.cellid.proofs.Puts.{sets_append}

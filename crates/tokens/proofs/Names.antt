@@ -13,7 +13,7 @@ use lib.Dec.{leb, eqb}
 use lib.ListN.{length, get_or, take, replicate}
 use lib.Seq.{take-suc, take_all}
 use borrow.Author.Tests.{leb-true, le-leb, eqb-true, eqb-false, eq-eqb, ne_eqb, ltb-true, not-true}
-use Rattle.tokens.specs.Digits.{last_digits as digits, hex_digit_ascii}
+use Rattle.io.specs.Digits.{last_digits as digits, hex_digit_ascii}
 use Rattle.text.specs.Text.{digit_of, all_digits, value_from}
 use Rattle.text.proofs.Fields.{digits_then, value_then}
 use Rattle.cellid.specs.CellId.{valid_id}

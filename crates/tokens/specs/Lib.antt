@@ -1,4 +1,3 @@
-pub mod Digits
 pub mod Tokens
 pub mod Texts
 pub mod Steps

@@ -1,7 +1,7 @@
 -- An id's name, sixteen hexadecimal digits or its token; a list of ids as a text with a name a line; such a text as a list again; and what is answered. Quoted
 -- lines are paper 02's words, from d.
 use Rattle.std.specs.Prelude.{◌≡◌, Bool, true, false, ◌&&◌, not, List, [], ◌∷◌, ◌++◌, ℕ, suc, ◌-◌, ◌*◌, ◌^◌, leb, eqb, length, get_or, drop}
-use Rattle.tokens.specs.Digits.{last_digits}
+use Rattle.io.specs.Digits.{last_digits}
 use Rattle.text.specs.Text.{all_digits, value_from}
 use Rattle.cellid.specs.CellId.{valid_id}
 use Rattle.tokens.specs.declared.Form.{Form}

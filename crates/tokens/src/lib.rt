@@ -4,7 +4,7 @@
 
 ghost use Rattle.std.specs.Prelude.{◌≡◌, ◌+◌, ◌^◌, ◌≤◌, ◌<◌, min, length};
 ghost use Rattle.std.proofs.lemmas.List.Edits.{sets};
-ghost use Rattle.tokens.specs.Digits.{last_digits, hex_digit_ascii};
+ghost use Rattle.io.specs.Digits.{last_digits, hex_digit_ascii};
 ghost use Rattle.tokens.specs.Tokens.{name_of, name_line, lines_of, ids_of, write_result, read_result, token_answer, Answered, seen, sound};
 ghost use Rattle.tokens.specs.Steps.{of_digits, FirstLine};
 

@@ -3,7 +3,7 @@ use mathlib.Core.Path.{◌≡◌}
 use Prim.Native.Nat.{◌≤◌}
 use lib.ListN.{length}
 use lib.Seq.{sets}
-use Rattle.tokens.specs.Digits.{last_digits}
+use Rattle.io.specs.Digits.{last_digits}
 use Rattle.tokens.proofs.put_digits.Given as goal
 
 abbrev pub invariant-loop-left : goal.invariant-loop-left
