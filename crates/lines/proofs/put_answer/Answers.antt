@@ -8,7 +8,7 @@ use Rattle.lines.proofs.put_answer.Goals as goal
 
 pub slice_bounds-put_list-end : goal.slice_bounds-put_list-end
 unfolding words_of
-slice_bounds-put_list-end c = sym (length-take-le _ _ (rw c.in-Done.is at c.pre))
+slice_bounds-put_list-end c = sym (length-take-le _ _ (rw c.in-Done.is at c.requires))
 
 pub returns-in-Done : goal.returns-in-Done
 unfolding answer_text

@@ -19,4 +19,4 @@ overflow_add-result c = omega (arith, read_fits _ _ _ _ c.read_list-a.ensures, r
 pub returns : goal.returns
 returns c = let first = c in
     let second = c in
-    lists_read _ _ _ first.read_list-a.result second.read_second-b.result first.args.words.now first.read_list-a.new.1.1.0 second.read_second-b.new.1.1.1.0 first.read_list-a.ensures second.read_second-b.ensures
+    lists_read _ _ _ first.read_list-a.result second.read_second-b.result first.args.words.now first.read_list-a.new.ids second.read_second-b.new.words first.read_list-a.ensures second.read_second-b.ensures
