@@ -1,6 +1,5 @@
 -- `input::make_room`: all goes on waiting, or nothing does.
 use mathlib.Core.Path.{sym, ◌∙◌}
-use borrow.Author.Rules.{rules}
 use Rattle.input.specs.Feed.{left_waiting}
 use Rattle.input.proofs.make_room.Goals as goal
 

@@ -1,5 +1,4 @@
 -- `input::may_wait`: test by test.
-use borrow.Author.Rules.{rules}
 use borrow.Author.Tests.{lt-ltb, le-ltb}
 use Rattle.input.specs.Feed.{may_wait}
 use Rattle.input.proofs.may_wait.Goals as goal

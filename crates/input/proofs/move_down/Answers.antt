@@ -1,8 +1,7 @@
 use mathlib.Core.Path.{◌≡◌, refl}
-use Prim.Native.Nat.{◌-◌, ◌≤◌}
+use Prim.Native.Nat.{◌-◌}
 use native.Mathlib.Omega.{arith}
-use lib.ListN.{length}
-use Rattle.input.proofs.Feeding.{moved_down, moved_more, moved_front}
+use Rattle.input.proofs.Feeding.{moved_more, moved_front}
 use borrow.Author.Rules.{rules}
 use Rattle.input.proofs.move_down.Goals as goal
 

@@ -1,10 +1,8 @@
 -- `input::move_down`: so many bytes are moved.
-use mathlib.Core.Path.{◌≡◌, refl}
+use mathlib.Core.Path.{◌≡◌}
 use Prim.Native.Nat.{◌-◌, ◌≤◌}
-use native.Mathlib.Omega.{arith}
 use lib.ListN.{length}
-use Rattle.input.proofs.Feeding.{moved_down, moved_more, moved_front}
-use borrow.Author.Rules.{rules}
+use Rattle.input.proofs.Feeding.{moved_down}
 use Rattle.input.proofs.move_down.Given as goal
 
 abbrev pub invariant-loop-i : goal.invariant-loop-i

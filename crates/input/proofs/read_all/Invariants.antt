@@ -1,10 +1,7 @@
 -- `input::read_all`: the buffer keeps its length, and no more is filled than it has.
-use mathlib.Core.Path.{◌≡◌, refl}
+use mathlib.Core.Path.{◌≡◌}
 use Prim.Native.Nat.{◌-◌, ◌≤◌}
-use native.Mathlib.Omega.{arith}
 use lib.ListN.{length}
-use borrow.Author.Rules.{rules}
-use Rattle.input.specs.Feed.{held_bytes}
 use Rattle.input.proofs.read_all.Given as goal
 
 abbrev pub invariant-loop-filled : goal.invariant-loop-filled

@@ -2,7 +2,6 @@
 use mathlib.Core.Bool.{true≢false}
 use native.Mathlib.Omega.{arith}
 use Rattle.input.proofs.Feeding.{left_room, left_none}
-use borrow.Author.Rules.{rules}
 use Rattle.input.proofs.read_line.Goals as goal
 
 pub returns-then-p : goal.returns-then-p

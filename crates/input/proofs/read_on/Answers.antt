@@ -1,10 +1,8 @@
-use mathlib.Core.Path.{◌≡◌, refl, ◌∙◌}
-use Prim.Native.Nat.{◌-◌, ◌≤◌}
+use mathlib.Core.Path.{refl, ◌∙◌}
 use native.Mathlib.Omega.{arith}
-use lib.ListN.{length, take}
 use lib.Seq.{take-length}
 use borrow.Author.Rules.{rules}
-use Rattle.input.specs.Feed.{failed, Held, ended, last, none}
+use Rattle.input.specs.Feed.{failed, ended, last, none}
 use Rattle.input.proofs.Feeding.{held_kept, begins_on, end_on}
 use Rattle.input.proofs.read_on.Goals as goal
 

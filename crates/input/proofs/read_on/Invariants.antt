@@ -1,12 +1,8 @@
 -- `input::read_on`: the bytes read so far have no newline, and the buffer keeps its length.
-use mathlib.Core.Path.{◌≡◌, refl, ◌∙◌}
+use mathlib.Core.Path.{◌≡◌}
 use Prim.Native.Nat.{◌-◌, ◌≤◌}
-use native.Mathlib.Omega.{arith}
 use lib.ListN.{length, take}
-use lib.Seq.{take-length}
-use borrow.Author.Rules.{rules}
-use Rattle.input.specs.Feed.{failed, Held, ended, last, none}
-use Rattle.input.proofs.Feeding.{held_kept, begins_on, end_on}
+use Rattle.input.specs.Feed.{Held}
 use Rattle.input.proofs.read_on.Given as goal
 
 abbrev pub invariant-loop-filled : goal.invariant-loop-filled

@@ -1,10 +1,7 @@
 -- `input::skip_line`: the buffer keeps its length, and what is unread begins after a newline of what was read last.
-use mathlib.Core.Path.{◌≡◌, refl}
+use mathlib.Core.Path.{◌≡◌}
 use Prim.Native.Nat.{◌-◌}
-use native.Mathlib.Omega.{arith}
 use lib.ListN.{length}
-use borrow.Author.Rules.{rules}
-use Rattle.input.specs.Feed.{passed, through, failed}
 use Rattle.input.proofs.skip_line.Given as goal
 
 abbrev pub invariant-loop : goal.invariant-loop
