@@ -2,7 +2,6 @@
 use Rattle.text.specs.Ascii.{ascii}
 use Rattle.replies.proofs.Writing.{wrote_then}
 use Rattle.filter.specs.Filter.{over_text}
-use borrow.Author.Rules.{rules}
 use Rattle.filter.proofs.put_over.Goals as goal
 
 pub returns : goal.returns

@@ -3,8 +3,6 @@ use mathlib.Core.Path.{sym}
 use native.Mathlib.Omega.{arith}
 use lib.Seq.{length-take-le}
 use Rattle.input.specs.Feed.{held_bytes}
-use Rattle.filter.proofs.Laws.{reply_within}
-use borrow.Author.Rules.{rules}
 use Rattle.filter.proofs.run.Goals as goal
 
 pub slice_bounds-answer-end : goal.slice_bounds-answer-end

@@ -3,7 +3,6 @@ use mathlib.Core.Path.{sym}
 use lib.Seq.{length-take-le}
 use Rattle.tokens.proofs.Answers.{written}
 use Rattle.filter.proofs.Laws.{turned_done, turned_kept, not_bad, not_full}
-use borrow.Author.Rules.{rules}
 use Rattle.filter.proofs.turn.Goals as goal
 
 pub slice_bounds-write-end-in-Done : goal.slice_bounds-write-end-in-Done

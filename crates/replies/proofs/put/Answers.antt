@@ -1,8 +1,6 @@
-use mathlib.Core.Path.{◌≡◌, refl, sym, ◌∙◌}
-use Prim.Native.Nat.{◌+◌, ◌-◌, ◌≤◌}
+use mathlib.Core.Path.{refl, sym, ◌∙◌}
 use native.Mathlib.Omega.{arith}
-use lib.ListN.{length, drop, drop_of_length-le}
-use lib.Seq.{sets}
+use lib.ListN.{drop, drop_of_length-le}
 use Rattle.replies.proofs.Writing.{sets_out, sets_go}
 use borrow.Author.Rules.{rules}
 use Rattle.replies.proofs.put.Goals as goal

@@ -1,11 +1,8 @@
 -- `replies::put`: to write the rest from here is to write the whole.
-use mathlib.Core.Path.{◌≡◌, refl, sym, ◌∙◌}
+use mathlib.Core.Path.{◌≡◌}
 use Prim.Native.Nat.{◌+◌, ◌-◌, ◌≤◌}
-use native.Mathlib.Omega.{arith}
-use lib.ListN.{length, drop, drop_of_length-le}
+use lib.ListN.{length, drop}
 use lib.Seq.{sets}
-use Rattle.replies.proofs.Writing.{sets_out, sets_go}
-use borrow.Author.Rules.{rules}
 use Rattle.replies.proofs.put.Given as goal
 
 abbrev pub invariant-loop-i : goal.invariant-loop-i

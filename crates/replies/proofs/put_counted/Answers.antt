@@ -1,7 +1,6 @@
 -- `replies::put_counted`: one part after another.
 use Rattle.replies.specs.Write.{counted_text}
 use Rattle.replies.proofs.Writing.{wrote_then}
-use borrow.Author.Rules.{rules}
 use Rattle.replies.proofs.put_counted.Goals as goal
 
 pub returns : goal.returns

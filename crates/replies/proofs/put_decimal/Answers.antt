@@ -1,7 +1,6 @@
 -- `replies::put_decimal`: the digits that `io` gives are the number with no zeros in front.
 use mathlib.Core.Path.{◌∙◌}
 use Rattle.replies.proofs.Writing.{decimal_text_lem}
-use borrow.Author.Rules.{rules}
 use Rattle.replies.proofs.put_decimal.Goals as goal
 
 pub returns : goal.returns

@@ -1,7 +1,6 @@
 -- `replies::put_disagree`: the text.
 use Rattle.text.specs.Ascii.{ascii}
 use Rattle.replies.specs.Write.{disagree_text}
-use borrow.Author.Rules.{rules}
 use Rattle.replies.proofs.put_disagree.Goals as goal
 
 pub returns : goal.returns

@@ -1,7 +1,6 @@
 -- `replies::put_fault`: the word at the place of the fault.
 use Rattle.text.specs.Ascii.{ascii}
 use Rattle.replies.specs.Write.{fault_words, fault_text}
-use borrow.Author.Rules.{rules}
 use Rattle.replies.proofs.put_fault.Goals as goal
 
 pub returns : goal.returns

@@ -1,7 +1,6 @@
 -- `replies::put_id`: a space, then the digits.
 use Rattle.replies.specs.Write.{id_text}
 use Rattle.replies.proofs.Writing.{wrote_then}
-use borrow.Author.Rules.{rules}
 use Rattle.replies.proofs.put_id.Goals as goal
 
 pub returns : goal.returns

@@ -1,9 +1,7 @@
-use mathlib.Core.Path.{◌≡◌, refl}
-use mathlib.Core.List.{List}
-use Prim.Native.Nat.{ℕ, ◌-◌, ◌≤◌}
+use mathlib.Core.Path.{refl}
 use native.Mathlib.Omega.{arith}
-use lib.ListN.{length, drop, drop_of_length-le}
-use Rattle.replies.specs.Write.{Wrote, ids_text}
+use lib.ListN.{drop_of_length-le}
+use Rattle.replies.specs.Write.{ids_text}
 use Rattle.replies.proofs.Writing.{wrote_none, wrote_then, ids_go}
 use borrow.Author.Rules.{rules}
 use Rattle.replies.proofs.put_ids.Goals as goal

@@ -1,12 +1,9 @@
 -- `replies::put_ids`: to write the rest from here is to write the whole.
-use mathlib.Core.Path.{◌≡◌, refl}
+use mathlib.Core.Path.{◌≡◌}
 use mathlib.Core.List.{List}
 use Prim.Native.Nat.{ℕ, ◌-◌, ◌≤◌}
-use native.Mathlib.Omega.{arith}
-use lib.ListN.{length, drop, drop_of_length-le}
+use lib.ListN.{length, drop}
 use Rattle.replies.specs.Write.{Wrote, ids_text}
-use Rattle.replies.proofs.Writing.{wrote_none, wrote_then, ids_go}
-use borrow.Author.Rules.{rules}
 use Rattle.replies.proofs.put_ids.Given as goal
 
 abbrev pub invariant-loop-i : goal.invariant-loop-i

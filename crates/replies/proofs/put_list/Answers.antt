@@ -2,7 +2,6 @@
 use Rattle.text.specs.Ascii.{ascii}
 use Rattle.replies.specs.Write.{list_text}
 use Rattle.replies.proofs.Writing.{wrote_then}
-use borrow.Author.Rules.{rules}
 use Rattle.replies.proofs.put_list.Goals as goal
 
 pub returns : goal.returns

@@ -1,6 +1,5 @@
 -- `replies::put_number`: one part after another.
 use Rattle.replies.proofs.Writing.{wrote_then}
-use borrow.Author.Rules.{rules}
 use Rattle.replies.proofs.put_number.Goals as goal
 
 pub returns : goal.returns

@@ -1,7 +1,6 @@
 -- `replies::put_totals`: one total after another.
 use Rattle.replies.specs.Write.{numbers_text, totals_text}
 use Rattle.replies.proofs.Writing.{wrote_none, wrote_then}
-use borrow.Author.Rules.{rules}
 use Rattle.replies.proofs.put_totals.Goals as goal
 
 pub returns : goal.returns

@@ -4,7 +4,6 @@ use mathlib.Core.Path.{◌≡◌}
 use Prim.Native.Nat.{◌-◌}
 use Rattle.text.specs.Text.{bytes_of}
 use Rattle.replies.proofs.Writing.{wrote_none}
-use borrow.Author.Rules.{rules}
 use Rattle.replies.proofs.put_word.Goals as goal
 
 pub slice_bounds-put-end : goal.slice_bounds-put-end
