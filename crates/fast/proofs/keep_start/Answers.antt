@@ -26,8 +26,8 @@ returns-then-contains-2 c =
 pub returns : goal.returns
 returns c =
     let f : Free c.args.mem.now c.args.k c.args.id = elim c.if-k-gt0.branch [
-      then-k-gt0+else-contains+else-contains-2 w ↦
-        inr (w.if-k-gt0.true, sym w.contains.ensures ∙ w.if-contains.false, sym w.contains-then-k-gt0.ensures ∙ w.if-contains-2.false)
-    | else-k-gt0 w ↦ inl w.if-k-gt0.false
+      | then-k-gt0+else-contains+else-contains-2 w ↦
+          inr (w.if-k-gt0.true, sym w.contains.ensures ∙ w.if-contains.false, sym w.contains-then-k-gt0.ensures ∙ w.if-contains-2.false)
+      | else-k-gt0 w ↦ inl w.if-k-gt0.false
     ] in
     start_push _ _ _ c.requires.0 f

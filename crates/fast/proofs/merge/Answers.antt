@@ -64,9 +64,9 @@ scan-preserved c =
     let N = c.merge.invariant.normal in
     let R = room (goal.at.scan-preserved c).In-merge in
     elim c.if-a-b.branch [
-      then-a-b+then-best-d w ↦ rw (w.best-is, w.least-is) (scan_better _ _ c.requires.0.some _ _ R N.cells N.apart _ _ _ c.scan.invariant c.scan-test.true _ w.depth-d.ensures w.if-best-d.true)
-    | then-a-b+else-best-d w ↦ rw (w.best-is, w.least-is) (scan_worse _ _ c.requires.0.some _ _ R N.cells N.apart _ _ _ c.scan.invariant c.scan-test.true _ w.depth-d.ensures w.if-best-d.false)
-    | else-a-b w ↦ rw (w.best-is, w.least-is) (scan_pass _ _ c.requires.0.some _ _ R N.cells N.apart _ _ _ c.scan.invariant c.scan-test.true w.if-a-b.false)
+      | then-a-b+then-best-d w ↦ rw (w.best-is, w.least-is) (scan_better _ _ c.requires.0.some _ _ R N.cells N.apart _ _ _ c.scan.invariant c.scan-test.true _ w.depth-d.ensures w.if-best-d.true)
+      | then-a-b+else-best-d w ↦ rw (w.best-is, w.least-is) (scan_worse _ _ c.requires.0.some _ _ R N.cells N.apart _ _ _ c.scan.invariant c.scan-test.true _ w.depth-d.ensures w.if-best-d.false)
+      | else-a-b w ↦ rw (w.best-is, w.least-is) (scan_pass _ _ c.requires.0.some _ _ R N.cells N.apart _ _ _ c.scan.invariant c.scan-test.true w.if-a-b.false)
     ]
 
 pub offset_bounds-mem-at : goal.offset_bounds-mem-at
