@@ -1,6 +1,5 @@
 -- `sets::combine`: 15, 16 or 17, or the answer is written.
 use mathlib.Core.Path.{sym, ◌∙◌}
-use borrow.Author.Rules.{rules}
 use Rattle.picklist.proofs.Laws.{pick_list}
 use Rattle.sets.proofs.Answers.{answer_first, answer_second, answer_full, answer_done}
 use Rattle.sets.proofs.combine.Goals as goal

@@ -1,5 +1,4 @@
 -- `sets::cursor_at`: the next cell has begun, it has not, or there is none.
-use borrow.Author.Rules.{rules}
 use Rattle.sets.proofs.Turns.{next_cell, cursor_begun, cursor_ahead, cursor_none}
 use Rattle.sets.proofs.cursor_at.Goals as goal
 

@@ -2,7 +2,6 @@
 use mathlib.Core.Path.{ap}
 use Prim.Native.Nat.{ℕ}
 use lib.Dec.{leb}
-use borrow.Author.Rules.{rules}
 use Rattle.picklist.proofs.Laws.{pick_list}
 use Rattle.sets.proofs.Answers.{room_sure}
 use Rattle.sets.proofs.has_room.Goals as goal

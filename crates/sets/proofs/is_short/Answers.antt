@@ -1,5 +1,4 @@
 -- `sets::is_short`: case by case.
-use borrow.Author.Rules.{rules}
 use Rattle.sets.specs.Steps.{is_short}
 use Rattle.sets.proofs.is_short.Goals as goal
 

@@ -1,6 +1,5 @@
 -- `sets::move_to`: before the edge, or at it.
 use mathlib.Core.Path.{◌∙◌}
-use borrow.Author.Rules.{rules}
 use Rattle.sets.proofs.Turns.{cells_on, move_none, move_past, move_on}
 use Rattle.sets.proofs.move_to.Goals as goal
 

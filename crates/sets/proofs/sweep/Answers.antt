@@ -1,11 +1,9 @@
 use mathlib.Core.Path.{ap, ◌∙◌}
-use Prim.Native.Nat.{◌-◌}
 use native.Mathlib.Omega.{arith}
 use lib.ListN.{length}
 use lib.Seq.{length-sets}
-use Rattle.ranges.specs.Ranges.{leaves}
 use Rattle.cellunion.proofs.Lists.{is_list_lem}
-use Rattle.sets.proofs.Turns.{Sweeping, sweep_start, sweep_on, sweep_turn, sweep_done}
+use Rattle.sets.proofs.Turns.{sweep_start, sweep_on, sweep_turn, sweep_done}
 use Rattle.sets.proofs.sweep.Goals as goal
 
 pub wants-want-requires : goal.wants-want-requires

@@ -1,12 +1,7 @@
 -- `sets::sweep`: from one edge of either list to the next.
-use mathlib.Core.Path.{ap, ◌∙◌}
 use Prim.Native.Nat.{◌-◌}
-use native.Mathlib.Omega.{arith}
-use lib.ListN.{length}
-use lib.Seq.{length-sets}
 use Rattle.ranges.specs.Ranges.{leaves}
-use Rattle.cellunion.proofs.Lists.{is_list_lem}
-use Rattle.sets.proofs.Turns.{Sweeping, sweep_start, sweep_on, sweep_turn, sweep_done}
+use Rattle.sets.proofs.Turns.{Sweeping}
 use Rattle.sets.proofs.sweep.Given as goal
 
 abbrev pub invariant-loop-p : goal.invariant-loop-p

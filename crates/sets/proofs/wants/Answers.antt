@@ -1,5 +1,4 @@
 -- `sets::wants`: case by case.
-use borrow.Author.Rules.{rules}
 use Rattle.sets.specs.Sets.{wants}
 use Rattle.sets.proofs.wants.Goals as goal
 

@@ -1,5 +1,4 @@
 -- `sets::write_done`: nothing, or the stretch's cells.
-use borrow.Author.Rules.{rules}
 use Rattle.sets.proofs.Turns.{done_yes, done_no}
 use Rattle.sets.proofs.write_done.Goals as goal
 
