@@ -3,7 +3,7 @@
  * The functions are proved: whatever numbers they are given, each does exactly what is said here, in bounded memory, and returns.
  * They allocate nothing and keep nothing between calls.
  *
- * Link with the archive that `rt staticlib capi` writes, target/staticlib/libcapi.a (x86-64 Linux). bin/examples shows the commands.
+ * Link with the archive that bin/archive writes, target/staticlib/libcapi.a (x86-64 Linux). bin/examples shows the commands.
  *
  * REGION. A cap is given by its centre (x, y, z), a point of unit length as S2 tests it, and by its radius: the SQUARED CHORD from
  * the centre to the rim, 0 for a point, 2 for half of the sphere, 4 for all of it; negative for the empty cap. A cell is given by
