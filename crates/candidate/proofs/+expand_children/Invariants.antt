@@ -1,18 +1,16 @@
-use Rattle.std.proofs.Common.{◌-◌, ◌≡◌, ◌+◌, ◌<◌, ◌≤◌, ℕ, ◌*◌, length}
-use Rattle.cellid.specs.CellId.{Cell, level_of}
-use Rattle.run.specs.Run.{level_mod, look, depth}
+-- `expand_children`: the measure is the number of levels left; the loop has in `acc` the sets of the first k children.
+use Prim.Native.Nat.{◌-◌, ◌*◌, ◌^◌, ◌≤◌}
+use mathlib.Core.Path.{◌≡◌}
 use Rattle.region.specs.Region.{area_of}
-use Rattle.run.specs.Masks.{place_in, found}
-use Rattle.candidate.specs.Candidate.{task_of, Asks, asks_whole, crossing_as, candidate_of, Roomy}
+use Rattle.run.specs.Masks.{up_to, found_part}
+use Rattle.candidate.specs.Candidate.{task_of}
 use Rattle.candidate.proofs.+expand_children.Given as goal
 
--- proposed from what the function passes where it calls itself
 abbrev pub decreases-expand_children : goal.decreases-expand_children
 decreases-expand_children l = l.left
 
 abbrev pub invariant-loop-k : goal.invariant-loop-k
-invariant-loop-k l = ?
+invariant-loop-k l = record { few : l.k ≤ 4; so_far : l.acc ≡ up_to (found_part (task_of l.fn.q (area_of l.fn.g l.fn.list)) (l.fn.left - 1)) (2 ^ (2 * (l.fn.left - 1))) l.fn.id l.k }
 
--- proposed from the loop's first test
 abbrev pub decreases-loop-k : goal.decreases-loop-k
 decreases-loop-k l = 4 - l.k

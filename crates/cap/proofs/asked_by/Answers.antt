@@ -1,5 +1,4 @@
 -- `cap::asked_by` meets its contract.
-use borrow.Author.Rules.{rules}
 use Rattle.cap.proofs.asked_by.Goals as goal
 
 pub returns-then-can : goal.returns-then-can

@@ -1,6 +1,5 @@
 -- `cap::asks_edges` meets its contract.
 use mathlib.Core.Path.{sym, ◌∙◌}
-use borrow.Author.Rules.{rules}
 use Rattle.cap.proofs.asks_edges.Goals as goal
 
 pub returns-then-asked_by : goal.returns-then-asked_by

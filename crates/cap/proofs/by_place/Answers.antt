@@ -3,7 +3,6 @@ use mathlib.Core.Path.{◌∙◌}
 use native.Mathlib.Omega.{arith}
 use Rattle.cellid.proofs.Laws.{last_arm}
 use Rattle.cap.proofs.Siblings.{row_0, row_1, row_2, row_3}
-use borrow.Author.Rules.{rules}
 use Rattle.cap.proofs.by_place.Goals as goal
 
 pub returns-in-0 : goal.returns-in-0

@@ -5,7 +5,6 @@ use mathlib.Core.Path.{◌≡◌, sym, ◌∙◌}
 use Prim.Native.Nat.{suc, ◌-◌, ◌≤◌}
 use native.Mathlib.Omega.{arith}
 use Rattle.cap.proofs.BoundLaws.{level_at_most, four_six}
-use borrow.Author.Rules.{rules}
 use Rattle.cap.proofs.cell_union_bound.Goals as goal
 
 pub returns-then-level-eq0 : goal.returns-then-level-eq0

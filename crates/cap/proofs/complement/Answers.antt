@@ -2,7 +2,6 @@
 use Rattle.cap.specs.Cap.{complement_of}
 use mathlib.Core.Path.{sym, ◌∙◌}
 use lib.Ieee.{of_bits, neg}
-use borrow.Author.Rules.{rules}
 use Rattle.cap.proofs.complement.Goals as goal
 
 pub returns-then-is_full : goal.returns-then-is_full

@@ -1,6 +1,5 @@
 -- `cap::contains_point` meets its contract.
 use Rattle.cap.specs.Cap.{cap_holds}
-use borrow.Author.Rules.{rules}
 use Rattle.cap.proofs.contains_point.Goals as goal
 
 pub returns : goal.returns

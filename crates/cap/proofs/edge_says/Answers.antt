@@ -1,6 +1,5 @@
 -- `cap::edge_says` meets its contract.
 use Rattle.cap.specs.Cap.{edge_says}
-use borrow.Author.Rules.{rules}
 use Rattle.cap.proofs.edge_says.Goals as goal
 
 pub returns-then-dot : goal.returns-then-dot

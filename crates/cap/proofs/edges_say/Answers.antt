@@ -1,7 +1,5 @@
-use borrow.Author.Rules.{rules}
 use Rattle.cap.specs.Cap.{edges_say}
 use mathlib.Core.Path.{◌≡◌, refl, sym, ◌∙◌}
-use Prim.Native.Nat.{◌-◌, ◌≤◌}
 use native.Mathlib.Omega.{arith}
 use Rattle.cap.proofs.Laws.{edge_step}
 use Rattle.cap.proofs.edges_say.Goals as goal

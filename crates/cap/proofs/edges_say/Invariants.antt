@@ -1,10 +1,7 @@
 -- `cap::edges_say` meets its contract. The invariant: the edges from the k-th on decide as all four do.
-use borrow.Author.Rules.{rules}
 use Rattle.cap.specs.Cap.{edges_say}
-use mathlib.Core.Path.{◌≡◌, refl, sym, ◌∙◌}
+use mathlib.Core.Path.{◌≡◌}
 use Prim.Native.Nat.{◌-◌, ◌≤◌}
-use native.Mathlib.Omega.{arith}
-use Rattle.cap.proofs.Laws.{edge_step}
 use Rattle.cap.proofs.edges_say.Given as goal
 
 abbrev pub invariant-loop-k : goal.invariant-loop-k

@@ -1,5 +1,4 @@
 -- `cap::held` meets its contract.
-use borrow.Author.Rules.{rules}
 use Rattle.cap.proofs.held.Goals as goal
 
 pub returns : goal.returns

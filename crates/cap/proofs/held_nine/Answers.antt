@@ -1,6 +1,5 @@
 -- `cap::held_nine` meets its contract.
 use Rattle.cap.specs.Looks.{held_nine}
-use borrow.Author.Rules.{rules}
 use Rattle.cap.proofs.held_nine.Goals as goal
 
 pub returns : goal.returns

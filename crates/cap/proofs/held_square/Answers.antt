@@ -3,7 +3,6 @@ use mathlib.Core.Path.{refl}
 use Prim.Native.Nat.{◌+◌}
 use native.Mathlib.Omega.{arith}
 use Rattle.cap.specs.Looks.{held_at}
-use borrow.Author.Rules.{rules}
 use Rattle.cap.proofs.held_square.Goals as goal
 
 pub overflow_add-result-2 : goal.overflow_add-result-2

@@ -1,10 +1,6 @@
-use Rattle.cap.specs.Bound.{thresholds, level_in, level_for}
 use mathlib.Core.Path.{◌≡◌, sym}
-use Prim.Native.Nat.{◌+◌, ◌-◌, ◌≤◌}
-use lib.ListN.{drop}
 use native.Mathlib.Omega.{arith}
 use Rattle.cap.proofs.BoundLaws.{level_first, level_up, level_here, level_last}
-use borrow.Author.Rules.{rules}
 use Rattle.cap.proofs.level_for.Goals as goal
 
 pub loop-level-init : goal.loop-level-init

@@ -1,11 +1,8 @@
 -- `cap::level_for` meets its contract. The invariant: the thresholds passed, and the level in the rest of the table.
 use Rattle.cap.specs.Bound.{thresholds, level_in, level_for}
-use mathlib.Core.Path.{◌≡◌, sym}
+use mathlib.Core.Path.{◌≡◌}
 use Prim.Native.Nat.{◌+◌, ◌-◌, ◌≤◌}
 use lib.ListN.{drop}
-use native.Mathlib.Omega.{arith}
-use Rattle.cap.proofs.BoundLaws.{level_first, level_up, level_here, level_last}
-use borrow.Author.Rules.{rules}
 use Rattle.cap.proofs.level_for.Given as goal
 
 abbrev pub invariant-loop-level : goal.invariant-loop-level

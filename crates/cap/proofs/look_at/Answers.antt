@@ -3,7 +3,6 @@ use mathlib.Core.Path.{sym, ◌∙◌}
 use native.Mathlib.Omega.{arith}
 use Rattle.cap.proofs.Laws.{face_of_lem}
 use Rattle.cap.proofs.Looks.{first_enough, first_not}
-use borrow.Author.Rules.{rules}
 use Rattle.cap.proofs.look_at.Goals as goal
 
 pub vertex-a-requires : goal.vertex-a-requires

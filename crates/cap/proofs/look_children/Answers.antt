@@ -1,7 +1,6 @@
 -- `cap::look_children` meets its contract.
 use Rattle.cell.proofs.Siblings.{quarters_in}
 use Rattle.cap.proofs.Siblings.{in_row, sights_turned}
-use borrow.Author.Rules.{rules}
 use Rattle.cap.proofs.look_children.Goals as goal
 
 pub look_quarters-l-requires : goal.look_quarters-l-requires

@@ -5,7 +5,6 @@ use Rattle.cellid.proofs.Laws.{same_bool}
 use Rattle.cell.specs.Cell.{vertices_of}
 use Rattle.cap.proofs.Laws.{at_corner_lem}
 use Rattle.cap.proofs.Looks.{differing, edges_decide}
-use borrow.Author.Rules.{rules}
 use borrow.Author.Tests.{not-false}
 use Rattle.cap.proofs.look_corners.Goals as goal
 

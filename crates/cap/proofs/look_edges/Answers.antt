@@ -3,7 +3,6 @@ use mathlib.Core.Path.{sym, ap, ◌∙◌}
 use mathlib.Core.Bool.{true≢false}
 use Rattle.cap.specs.Looks.{sight_past}
 use Rattle.cap.proofs.Looks.{touches_not}
-use borrow.Author.Rules.{rules}
 use Rattle.cap.proofs.look_edges.Goals as goal
 
 pub touches_by-requires : goal.touches_by-requires

@@ -1,7 +1,6 @@
 -- `cap::look_parts` meets its contract.
 use native.Mathlib.Omega.{arith}
 use Rattle.cap.proofs.Siblings.{held_le, edges_asked, part_asks}
-use borrow.Author.Rules.{rules}
 use Rattle.cap.proofs.look_parts.Goals as goal
 
 pub asks_edges-requires : goal.asks_edges-requires

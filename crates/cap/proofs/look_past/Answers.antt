@@ -2,7 +2,6 @@
 use mathlib.Core.Path.{sym, ap, ◌∙◌}
 use Rattle.cap.specs.Looks.{sight_past}
 use Rattle.cap.proofs.Looks.{touches_not}
-use borrow.Author.Rules.{rules}
 use Rattle.cap.proofs.look_past.Goals as goal
 
 pub touches_by-requires : goal.touches_by-requires

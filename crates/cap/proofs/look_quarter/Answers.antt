@@ -1,7 +1,6 @@
 -- `cap::look_quarter` meets its contract.
 use mathlib.Core.Path.{sym, ◌∙◌}
 use Rattle.cap.proofs.Looks.{none_held, all_held, some_held}
-use borrow.Author.Rules.{rules}
 use Rattle.cap.proofs.look_quarter.Goals as goal
 
 pub look_past-requires : goal.look_past-requires

@@ -2,7 +2,6 @@
 use mathlib.Core.Path.{sym, ◌∙◌}
 use native.Mathlib.Omega.{arith}
 use Rattle.cap.proofs.Siblings.{nine_le, held_read, shared_enough, shared_not}
-use borrow.Author.Rules.{rules}
 use Rattle.cap.proofs.look_quarters.Goals as goal
 
 pub returns-then-shared_is_enough : goal.returns-then-shared_is_enough

@@ -1,5 +1,4 @@
 -- `cap::other_side` meets its contract.
-use borrow.Author.Rules.{rules}
 use Rattle.cap.proofs.other_side.Goals as goal
 
 pub returns-then-all : goal.returns-then-all

@@ -1,7 +1,6 @@
 -- `cap::scaled_if` meets its contract.
 use mathlib.Core.Path.{sym, ◌∙◌}
 use mathlib.Core.Bool.{true≢false}
-use borrow.Author.Rules.{rules}
 use Rattle.cap.proofs.scaled_if.Goals as goal
 
 pub returns-then-asked : goal.returns-then-asked

@@ -1,5 +1,4 @@
 -- `cap::scales_of` meets its contract.
-use borrow.Author.Rules.{rules}
 use Rattle.cap.proofs.scales_of.Goals as goal
 
 pub returns-then-known : goal.returns-then-known

@@ -1,5 +1,4 @@
 -- `cap::shared_is_enough` meets its contract.
-use borrow.Author.Rules.{rules}
 use Rattle.cap.proofs.shared_is_enough.Goals as goal
 
 pub returns-then-whole : goal.returns-then-whole

@@ -1,7 +1,6 @@
 -- `cap::some_zero` meets its contract.
 use native.Mathlib.Omega.{arith}
 use Rattle.cap.proofs.Siblings.{product_le}
-use borrow.Author.Rules.{rules}
 use Rattle.cap.proofs.some_zero.Goals as goal
 
 pub overflow_mul-result : goal.overflow_mul-result

@@ -1,7 +1,6 @@
 -- `cap::square` meets its contract.
 use mathlib.Core.Path.{refl}
 use Rattle.cap.specs.Looks.{square_at}
-use borrow.Author.Rules.{rules}
 use Rattle.cap.proofs.square.Goals as goal
 
 pub returns : goal.returns

@@ -3,7 +3,6 @@ use mathlib.Core.Path.{sym, ◌∙◌}
 use lib.Ieee.{le}
 use Rattle.point.specs.ChordAngle.{right}
 use Rattle.cap.specs.Cap.{touches}
-use borrow.Author.Rules.{rules}
 use borrow.Author.Tests.{not-true}
 use Rattle.cap.proofs.touches_by.Goals as goal
 
