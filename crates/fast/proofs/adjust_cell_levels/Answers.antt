@@ -1,13 +1,12 @@
 use mathlib.Core.Path.{◌≡◌, ap, ◌∙◌}
-use Prim.Native.Nat.{ℕ, ◌-◌, ◌≤◌}
+use Prim.Native.Nat.{ℕ, ◌≤◌}
 use native.Mathlib.Omega.{arith}
-use borrow.Author.Rules.{rules}
 use Rattle.cellid.specs.CellId.{level_of, parent_at}
 use Rattle.cellid.proofs.Laws.{level_le}
 use Rattle.fast.specs.Fast.{adjusted}
 use Rattle.fast.proofs.Levels.{adjusted_le}
 use Rattle.fast.proofs.StartLaws.{raised}
-use Rattle.fast.proofs.StartTurns.{Adjusting, adjusting_start, adjusting_asks, adjusting_turn, adjusting_done}
+use Rattle.fast.proofs.StartTurns.{adjusting_start, adjusting_asks, adjusting_turn, adjusting_done}
 use Rattle.fast.proofs.adjust_cell_levels.Goals as goal
 
 to-small : (low step id level to : ℕ) → level ≡ level_of id → to ≡ adjusted low step level → to ≤ 30

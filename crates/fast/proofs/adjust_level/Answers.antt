@@ -3,7 +3,6 @@ use mathlib.Core.Path.{sym}
 use Prim.Native.Nat.{◌-◌}
 use native.Mathlib.Nat.{mod-le}
 use native.Mathlib.Omega.{arith}
-use borrow.Author.Rules.{rules}
 use Rattle.fast.proofs.Levels.{adjusted_low, adjusted_high, adjusted_one}
 use Rattle.fast.proofs.adjust_level.Goals as goal
 

@@ -2,7 +2,6 @@
 use mathlib.Core.Path.{◌≡◌, sym, ◌∙◌}
 use Prim.Native.Nat.{◌+◌}
 use native.Mathlib.Omega.{arith}
-use borrow.Author.Rules.{rules}
 use Rattle.fast.specs.Fast.{pair_depth}
 use Rattle.fast.proofs.Levels.{pair_small, depth_some, depth_none}
 use Rattle.fast.proofs.depth.Goals.{After-adjust_level}

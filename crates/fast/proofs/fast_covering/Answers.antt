@@ -1,7 +1,6 @@
 -- `fast::fast_covering` meets its contract: the bound, in the memory's first words, is what is covered. Assumes nothing.
 use Rattle.region.proofs.Laws.{bound_cells}
 use Rattle.fast.proofs.Regions.{bounded, bounded_cells, fast_gives}
-use borrow.Author.Rules.{rules}
 use Rattle.fast.proofs.fast_covering.Goals as goal
 
 pub normalize_covering-requires : goal.normalize_covering-requires

@@ -1,7 +1,6 @@
 -- `fast::keep_start` meets its contract: the definition's outcomes, one after another. Assumes nothing.
 use mathlib.Core.Path.{sym, ◌∙◌}
 use mathlib.Core.Logic.{inl, inr}
-use borrow.Author.Rules.{rules}
 use Rattle.cellid.proofs.Laws.{cell_pos}
 use Rattle.cellunion.proofs.Runs.{head_pos}
 use Rattle.fast.proofs.StartTurns.{start_skip, start_swap, Free, start_push}

@@ -1,12 +1,11 @@
 use mathlib.Core.Path.{◌≡◌, refl, ap, ◌∙◌}
-use Prim.Native.Nat.{ℕ, ◌-◌, min}
+use Prim.Native.Nat.{ℕ, min}
 use native.Mathlib.Omega.{arith}
-use borrow.Author.Rules.{rules}
 use Rattle.cellid.specs.CellId.{level_of, parent_at}
 use Rattle.fast.specs.Fast.{adjusted, lifted}
 use Rattle.fast.proofs.Levels.{adjusted_le}
 use Rattle.fast.proofs.Laws.{lifted_all}
-use Rattle.fast.proofs.Turns.{Lifting, lift_none, lift_turn, lift_done}
+use Rattle.fast.proofs.Turns.{lift_none, lift_turn, lift_done}
 use Rattle.fast.proofs.lift.Goals as goal
 
 up_is : (low top step id level least up r : ℕ) → level ≡ level_of id → least ≡ min level top → up ≡ adjusted low step least → r ≡ parent_at id up → r ≡ lifted low top step id

@@ -1,13 +1,7 @@
 -- `fast::lift` meets its contract. The loop's invariant: the words passed are lifted. Assumes nothing.
-use mathlib.Core.Path.{◌≡◌, refl, ap, ◌∙◌}
-use Prim.Native.Nat.{ℕ, ◌-◌, min}
-use native.Mathlib.Omega.{arith}
-use borrow.Author.Rules.{rules}
-use Rattle.cellid.specs.CellId.{level_of, parent_at}
-use Rattle.fast.specs.Fast.{adjusted, lifted}
-use Rattle.fast.proofs.Levels.{adjusted_le}
-use Rattle.fast.proofs.Laws.{lifted_all}
-use Rattle.fast.proofs.Turns.{Lifting, lift_none, lift_turn, lift_done}
+use Prim.Native.Nat.{◌-◌}
+use Rattle.fast.specs.Fast.{lifted}
+use Rattle.fast.proofs.Turns.{Lifting}
 use Rattle.fast.proofs.lift.Given as goal
 
 abbrev pub invariant-loop-i : goal.invariant-loop-i

@@ -4,8 +4,8 @@ use native.Mathlib.Omega.{arith}
 use lib.ListN.{length, take}
 use Rattle.fast.specs.Fast.{best_of}
 use Rattle.fast.proofs.Merging.{merged_short, merged_stop}
-use Rattle.fast.proofs.Scan.{Scanning, scan_start, pair_cells, scan_pass, scan_better, scan_worse, scan_done}
-use Rattle.fast.proofs.Turns.{Going, going_start, going_size, going_done, scanned, turn_place, turn_level, turn_wide, going_turn}
+use Rattle.fast.proofs.Scan.{scan_start, pair_cells, scan_pass, scan_better, scan_worse, scan_done}
+use Rattle.fast.proofs.Turns.{going_start, going_size, going_done, scanned, turn_place, turn_level, turn_wide, going_turn}
 use Rattle.fast.proofs.merge.Goals.{After-scan, In-merge, then-a-b+then-best-d, then-a-b+else-best-d, else-a-b}
 use Rattle.fast.proofs.merge.Goals as goal
 

@@ -1,14 +1,8 @@
 -- `fast::merge` meets its contract. The outer loop's invariant: the rest of the merge, from the list in memory, is the whole merge; the scan's: the best
 -- of the pairs passed, and no pair whose exclusive or is `least` or more lies deeper. Assumes nothing.
-use mathlib.Core.Path.{◌≡◌}
-use mathlib.Core.Logic.{⊎_elim}
-use Prim.Native.Nat.{◌-◌, ◌≤◌}
-use native.Mathlib.Omega.{arith}
-use lib.ListN.{length, take}
-use Rattle.fast.specs.Fast.{best_of}
-use Rattle.fast.proofs.Merging.{merged_short, merged_stop}
-use Rattle.fast.proofs.Scan.{Scanning, scan_start, pair_cells, scan_pass, scan_better, scan_worse, scan_done}
-use Rattle.fast.proofs.Turns.{Going, going_start, going_size, going_done, scanned, turn_place, turn_level, turn_wide, going_turn}
+use Prim.Native.Nat.{◌-◌}
+use Rattle.fast.proofs.Scan.{Scanning}
+use Rattle.fast.proofs.Turns.{Going}
 use Rattle.fast.proofs.merge.Given as goal
 
 abbrev pub invariant-scan : goal.invariant-scan

@@ -1,5 +1,4 @@
 -- `fast::merge_covering` meets its contract: lift, normalise and merge follow one another. Assumes nothing.
-use borrow.Author.Rules.{rules}
 use Rattle.fast.proofs.Turns.{lifted_asks, merge_asks, merge_done}
 use Rattle.fast.proofs.merge_covering.Goals as goal
 

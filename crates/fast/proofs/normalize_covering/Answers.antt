@@ -3,7 +3,6 @@ use mathlib.Core.Path.{ap, ◌∙◌}
 use mathlib.Core.List.{List}
 use Prim.Native.Nat.{ℕ}
 use native.Mathlib.Nat.{le_trans}
-use borrow.Author.Rules.{rules}
 use Rattle.cellunion.specs.Memory.{room_for, laid_over}
 use Rattle.fast.proofs.Turns.{covering_asks, covering_fast}
 use Rattle.fast.proofs.normalize_covering.Goals as goal

@@ -1,6 +1,5 @@
 -- `fast::start_cells` meets its contract: the list is merged to a rough covering, and that is adjusted. Assumes nothing.
 use native.Mathlib.Omega.{arith}
-use borrow.Author.Rules.{rules}
 use Rattle.fast.proofs.StartTurns.{starts_done, adjust_asks, starts_adjusted_done}
 use Rattle.fast.proofs.start_cells.Goals as goal
 

@@ -1,7 +1,6 @@
 -- `fast::starts` meets its contract: the bound, in the memory's first words, becomes the start cells, and these are copied. Assumes nothing.
 use Rattle.region.proofs.Laws.{bound_cells}
 use Rattle.fast.proofs.Regions.{bounded, bounded_cells, six_asks, starts_give}
-use borrow.Author.Rules.{rules}
 use Rattle.fast.proofs.starts.Goals as goal
 
 pub start_cells-count-requires : goal.start_cells-count-requires
