@@ -13,18 +13,18 @@ same_words-agree-requires c =
     let first = c.respond-first in
     let h = c.hold-n in
     let second = c.respond-answer in
-    (omega (arith, h.ensures.0, h.auto.1.1.0), within_second _ _ _ _ _ _ _ _ _ _ _ _ _ h.result first.auto.1.1.1.1.1.1.0 (h.auto.0 ∙ first.auto.1.1.1.1.1.1.1.0) (omega (arith, h.ensures.0)) first.ensures h.ensures.2 second.ensures)
+    (omega (arith, h.ensures.0, h.auto.held), within_second _ _ _ _ _ _ _ _ _ _ _ _ _ h.result first.auto.mem (h.auto.out ∙ first.auto.out) (omega (arith, h.ensures.0)) first.ensures h.ensures.2 second.ensures)
 
 pub returns-then-same_answer : goal.returns-then-same_answer
 returns-then-same_answer c =
     let first = c.respond-first in
     let h = c.hold-n in
     let second = c.respond-answer in
-    (answered_twice _ _ _ _ _ _ _ _ _ _ _ _ _ h.result first.auto.1.1.1.1.1.1.0 (h.auto.0 ∙ first.auto.1.1.1.1.1.1.1.0) (omega (arith, h.ensures.0)) first.ensures h.ensures.2 second.ensures, agrees _ _ _ _ _ _ _ _ _ _ _ _ _ h.result first.auto.1.1.1.1.1.1.0 (h.auto.0 ∙ first.auto.1.1.1.1.1.1.1.0) (omega (arith, h.ensures.0)) first.ensures h.ensures.2 second.ensures _ _ _ h.ensures.1 c.same_words-agree.ensures)
+    (answered_twice _ _ _ _ _ _ _ _ _ _ _ _ _ h.result first.auto.mem (h.auto.out ∙ first.auto.out) (omega (arith, h.ensures.0)) first.ensures h.ensures.2 second.ensures, agrees _ _ _ _ _ _ _ _ _ _ _ _ _ h.result first.auto.mem (h.auto.out ∙ first.auto.out) (omega (arith, h.ensures.0)) first.ensures h.ensures.2 second.ensures _ _ _ h.ensures.1 c.same_words-agree.ensures)
 
 pub returns-else-same_answer : goal.returns-else-same_answer
 returns-else-same_answer c =
     let first = c.respond-first in
     let h = c.hold-n in
     let second = c.respond-answer in
-    absurd (never _ _ _ _ _ _ _ _ _ _ _ _ _ h.result first.auto.1.1.1.1.1.1.0 (h.auto.0 ∙ first.auto.1.1.1.1.1.1.1.0) (omega (arith, h.ensures.0)) first.ensures h.ensures.2 second.ensures _ c.same_answer.ensures c.if-same_answer.false)
+    absurd (never _ _ _ _ _ _ _ _ _ _ _ _ _ h.result first.auto.mem (h.auto.out ∙ first.auto.out) (omega (arith, h.ensures.0)) first.ensures h.ensures.2 second.ensures _ c.same_answer.ensures c.if-same_answer.false)
