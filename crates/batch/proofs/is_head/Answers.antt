@@ -1,6 +1,5 @@
 -- `batch::is_head`: the first field is the word, or not.
 use Rattle.batch.specs.Batch.{is_head}
-use borrow.Author.Rules.{rules}
 use Rattle.batch.proofs.is_head.Goals as goal
 
 pub returns : goal.returns

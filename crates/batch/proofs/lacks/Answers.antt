@@ -1,6 +1,5 @@
 -- `batch::lacks`: given or not, or a fault before it.
 use Rattle.batch.proofs.Laws.{lacks_it, has_it, bad_before}
-use borrow.Author.Rules.{rules}
 use Rattle.batch.proofs.lacks.Goals as goal
 
 pub returns-then-v-eq18446744073709551615 : goal.returns-then-v-eq18446744073709551615

@@ -2,7 +2,6 @@
 use Rattle.text.specs.Ascii.{ascii}
 use Rattle.replies.proofs.Writing.{wrote_then}
 use Rattle.batch.specs.Batch.{done_text}
-use borrow.Author.Rules.{rules}
 use Rattle.batch.proofs.put_done.Goals as goal
 
 pub returns : goal.returns

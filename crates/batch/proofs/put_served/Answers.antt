@@ -1,6 +1,5 @@
 -- `batch::put_served`: a success, or a refusal; there is room for either.
 use Rattle.batch.proofs.Laws.{wrote_done, wrote_refused, served_whole}
-use borrow.Author.Rules.{rules}
 use Rattle.batch.proofs.put_served.Goals as goal
 
 pub returns-then-o-eq0 : goal.returns-then-o-eq0

@@ -3,7 +3,6 @@ use Rattle.text.specs.Ascii.{ascii}
 use Rattle.replies.proofs.Writing.{wrote_then}
 use Rattle.batch.specs.Batch.{summary_text}
 use Rattle.batch.proofs.Laws.{summary_whole}
-use borrow.Author.Rules.{rules}
 use Rattle.batch.proofs.put_summary.Goals as goal
 
 pub returns : goal.returns

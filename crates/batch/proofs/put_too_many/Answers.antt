@@ -2,7 +2,6 @@
 use Rattle.text.specs.Ascii.{ascii}
 use Rattle.batch.specs.Batch.{too_many_text}
 use Rattle.batch.proofs.Laws.{too_many_whole}
-use borrow.Author.Rules.{rules}
 use Rattle.batch.proofs.put_too_many.Goals as goal
 
 pub returns : goal.returns

@@ -1,6 +1,5 @@
 -- `batch::read_about`: by its word.
 use Rattle.batch.proofs.Laws.{about_cap, about_cell}
-use borrow.Author.Rules.{rules}
 use Rattle.batch.proofs.read_about.Goals as goal
 
 pub returns-then-which-eq0 : goal.returns-then-which-eq0

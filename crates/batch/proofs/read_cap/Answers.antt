@@ -1,6 +1,5 @@
 -- `batch::read_cap`: the four floats, each in its place.
 use Rattle.batch.proofs.Laws.{cap_read}
-use borrow.Author.Rules.{rules}
 use Rattle.batch.proofs.read_cap.Goals as goal
 
 pub returns : goal.returns

@@ -1,6 +1,5 @@
 -- `batch::read_cell`: the id.
 use Rattle.batch.proofs.Laws.{cell_read}
-use borrow.Author.Rules.{rules}
 use Rattle.batch.proofs.read_cell.Goals as goal
 
 pub returns : goal.returns

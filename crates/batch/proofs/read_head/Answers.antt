@@ -1,6 +1,5 @@
 -- `batch::read_head`: one part after another.
 use Rattle.batch.proofs.Laws.{head_read}
-use borrow.Author.Rules.{rules}
 use Rattle.batch.proofs.read_head.Goals as goal
 
 pub returns : goal.returns

@@ -1,7 +1,6 @@
 -- `batch::read_kind`: one of the words.
 use Rattle.text.specs.Ascii.{ascii}
 use Rattle.batch.specs.Batch.{kind_after}
-use borrow.Author.Rules.{rules}
 use Rattle.batch.proofs.read_kind.Goals as goal
 
 pub returns : goal.returns

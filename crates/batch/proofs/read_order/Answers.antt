@@ -1,6 +1,5 @@
 -- `batch::read_order`: one part after another.
 use Rattle.batch.proofs.Laws.{order_read}
-use borrow.Author.Rules.{rules}
 use Rattle.batch.proofs.read_order.Goals as goal
 
 pub returns : goal.returns

@@ -1,7 +1,6 @@
 -- `batch::read_shape`: one of the words.
 use Rattle.text.specs.Ascii.{ascii}
 use Rattle.batch.specs.Batch.{shape_after}
-use borrow.Author.Rules.{rules}
 use Rattle.batch.proofs.read_shape.Goals as goal
 
 pub returns : goal.returns

@@ -1,6 +1,5 @@
 -- `batch::read_terms`: one part after another.
 use Rattle.batch.proofs.Laws.{terms_read}
-use borrow.Author.Rules.{rules}
 use Rattle.batch.proofs.read_terms.Goals as goal
 
 pub returns : goal.returns

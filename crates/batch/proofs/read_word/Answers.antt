@@ -1,7 +1,6 @@
 -- `batch::read_word`: the word.
 use Rattle.text.specs.Ascii.{ascii}
 use Rattle.batch.specs.Batch.{word_after}
-use borrow.Author.Rules.{rules}
 use Rattle.batch.proofs.read_word.Goals as goal
 
 pub returns : goal.returns

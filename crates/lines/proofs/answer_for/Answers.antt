@@ -1,6 +1,5 @@
 -- `lines::answer_for`: pairs, cells, or what is made of two lists.
 use Rattle.lines.proofs.Laws.{answered_pairs, answered_cells, answered_set}
-use borrow.Author.Rules.{rules}
 use Rattle.lines.proofs.answer_for.Goals as goal
 
 pub returns-then-kind-eq0 : goal.returns-then-kind-eq0

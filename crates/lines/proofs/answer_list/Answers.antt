@@ -2,7 +2,6 @@
 use mathlib.Core.Path.{sym}
 use lib.Seq.{length-take-le}
 use Rattle.lines.proofs.Laws.{lists_fit, first_fits, answer_fits, list_asked, list_bad}
-use borrow.Author.Rules.{rules}
 use Rattle.lines.proofs.answer_list.Goals as goal
 
 pub slice_bounds-answer_in-end : goal.slice_bounds-answer_in-end

@@ -1,6 +1,5 @@
 -- `lines::asks_list`: the first field is such a word, or not.
 use Rattle.lines.specs.Lines.{asks_list}
-use borrow.Author.Rules.{rules}
 use Rattle.lines.proofs.asks_list.Goals as goal
 
 pub returns : goal.returns

@@ -3,7 +3,6 @@ use mathlib.Core.Path.{sym}
 use lib.Seq.{length-take-le}
 use Rattle.ranges.specs.Ranges.{words_of}
 use Rattle.lines.specs.Lines.{answer_text}
-use borrow.Author.Rules.{rules}
 use Rattle.lines.proofs.put_answer.Goals as goal
 
 pub slice_bounds-put_list-end : goal.slice_bounds-put_list-end

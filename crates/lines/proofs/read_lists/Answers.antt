@@ -1,7 +1,6 @@
 -- `lines::read_lists`: one list behind the other.
 use native.Mathlib.Omega.{arith}
 use Rattle.lines.proofs.Laws.{read_fits, lists_read}
-use borrow.Author.Rules.{rules}
 use Rattle.lines.proofs.read_lists.Goals as goal
 
 pub offset_bounds-words-first : goal.offset_bounds-words-first

@@ -1,6 +1,5 @@
 -- `lines::read_question`: one part after another.
 use Rattle.lines.proofs.Laws.{question_read}
-use borrow.Author.Rules.{rules}
 use Rattle.lines.proofs.read_question.Goals as goal
 
 pub returns : goal.returns

@@ -1,6 +1,5 @@
 -- `lines::read_second`: no list, or one.
 use Rattle.lines.proofs.Laws.{read_none, read_some}
-use borrow.Author.Rules.{rules}
 use Rattle.lines.proofs.read_second.Goals as goal
 
 pub returns-then-kind-lt2 : goal.returns-then-kind-lt2

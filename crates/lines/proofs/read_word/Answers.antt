@@ -1,7 +1,6 @@
 -- `lines::read_word`: one of the words.
 use Rattle.text.specs.Ascii.{ascii}
 use Rattle.lines.specs.Lines.{word_after}
-use borrow.Author.Rules.{rules}
 use Rattle.lines.proofs.read_word.Goals as goal
 
 pub returns : goal.returns

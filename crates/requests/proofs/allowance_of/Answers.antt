@@ -1,7 +1,6 @@
 -- `requests::allowance_of`: the lesser of the two.
 use native.Mathlib.Omega.{arith}
 use Rattle.requests.specs.Requests.{allowance_of}
-use borrow.Author.Rules.{rules}
 use Rattle.requests.proofs.allowance_of.Goals as goal
 
 pub returns-then-n-lt4294967295 : goal.returns-then-n-lt4294967295

@@ -2,7 +2,6 @@
 use mathlib.Core.Path.{sym}
 use lib.Seq.{length-take-le}
 use Rattle.requests.proofs.Laws.{wrote_done, wrote_refused}
-use borrow.Author.Rules.{rules}
 use Rattle.requests.proofs.put_answer.Goals as goal
 
 pub slice_bounds-put_ok-end : goal.slice_bounds-put_ok-end

@@ -1,6 +1,5 @@
 -- `requests::put_tested`: the engines agree, or not.
 use Rattle.requests.proofs.Laws.{wrote_agreed, wrote_disagree}
-use borrow.Author.Rules.{rules}
 use Rattle.requests.proofs.put_tested.Goals as goal
 
 pub returns-then-t : goal.returns-then-t

@@ -1,6 +1,5 @@
 -- `requests::line::cap_of`: part by part.
 use Rattle.requests.specs.Line.{cap_of}
-use borrow.Author.Rules.{rules}
 use Rattle.requests.proofs.line.cap_of.Goals as goal
 
 pub returns : goal.returns

@@ -1,7 +1,6 @@
 -- `requests::line::next_option`: a field, none, or a fault before.
 use Rattle.text.specs.Text.{bytes_of}
 use Rattle.requests.proofs.Reading.{next_there, next_none, next_bad}
-use borrow.Author.Rules.{rules}
 use Rattle.requests.proofs.line.next_option.Goals as goal
 
 pub slice_bounds-option_of-end : goal.slice_bounds-option_of-end

@@ -1,6 +1,5 @@
 -- `requests::line::option_given`: the first of its key, or one more.
 use Rattle.requests.proofs.Reading.{option_first, option_again}
-use borrow.Author.Rules.{rules}
 use Rattle.requests.proofs.line.option_given.Goals as goal
 
 pub returns-then-values-i : goal.returns-then-values-i

@@ -4,7 +4,6 @@ use native.Mathlib.Omega.{arith}
 use lib.Seq.{length-take-le}
 use Rattle.text.specs.Ascii.{ascii}
 use Rattle.requests.proofs.Reading.{option_key, option_other, option_none}
-use borrow.Author.Rules.{rules}
 use Rattle.requests.proofs.line.option_of.Goals as goal
 
 pub slice_bounds-place_among-end : goal.slice_bounds-place_among-end

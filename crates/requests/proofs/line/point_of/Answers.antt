@@ -1,6 +1,5 @@
 -- `requests::line::point_of`: part by part.
 use Rattle.requests.specs.Line.{point_of}
-use borrow.Author.Rules.{rules}
 use Rattle.requests.proofs.line.point_of.Goals as goal
 
 pub returns : goal.returns

@@ -1,6 +1,5 @@
 -- `requests::line::read_asked`: one part after another.
 use Rattle.requests.proofs.Reading.{asked_read}
-use borrow.Author.Rules.{rules}
 use Rattle.requests.proofs.line.read_asked.Goals as goal
 
 pub returns : goal.returns

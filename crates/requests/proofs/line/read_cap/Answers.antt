@@ -1,6 +1,5 @@
 -- `requests::line::read_cap`: the four floats, each in its place.
 use Rattle.requests.proofs.Reading.{cap_read}
-use borrow.Author.Rules.{rules}
 use Rattle.requests.proofs.line.read_cap.Goals as goal
 
 pub returns : goal.returns

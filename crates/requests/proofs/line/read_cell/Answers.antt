@@ -1,6 +1,5 @@
 -- `requests::line::read_cell`: the id.
 use Rattle.requests.proofs.Reading.{cell_read}
-use borrow.Author.Rules.{rules}
 use Rattle.requests.proofs.line.read_cell.Goals as goal
 
 pub returns : goal.returns

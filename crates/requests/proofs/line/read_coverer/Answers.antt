@@ -1,6 +1,5 @@
 -- `requests::line::read_coverer`: the four numbers, each in its place.
 use Rattle.requests.proofs.Reading.{coverer_read}
-use borrow.Author.Rules.{rules}
 use Rattle.requests.proofs.line.read_coverer.Goals as goal
 
 pub returns : goal.returns

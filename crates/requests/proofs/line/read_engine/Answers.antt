@@ -1,7 +1,6 @@
 -- `requests::line::read_engine`: one of the words, or none of them.
 use Rattle.text.specs.Ascii.{ascii}
 use Rattle.requests.proofs.Reading.{engine_one, engine_other}
-use borrow.Author.Rules.{rules}
 use Rattle.requests.proofs.line.read_engine.Goals as goal
 
 pub returns-then-k-lt3 : goal.returns-then-k-lt3

@@ -1,6 +1,5 @@
 -- `requests::line::read_four`: the values are those that were read.
 use Rattle.requests.proofs.Reading.{four_read}
-use borrow.Author.Rules.{rules}
 use Rattle.requests.proofs.line.read_four.Goals as goal
 
 pub returns : goal.returns

@@ -1,6 +1,5 @@
 -- `requests::line::read_ids`: the list.
 use Rattle.requests.proofs.Reading.{ids_read}
-use borrow.Author.Rules.{rules}
 use Rattle.requests.proofs.line.read_ids.Goals as goal
 
 pub returns : goal.returns

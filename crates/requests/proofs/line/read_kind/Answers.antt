@@ -1,6 +1,5 @@
 -- `requests::line::read_kind`: one of the words.
 use Rattle.text.specs.Ascii.{ascii}
-use borrow.Author.Rules.{rules}
 use Rattle.requests.proofs.line.read_kind.Goals as goal
 
 pub returns : goal.returns

@@ -1,6 +1,5 @@
 -- `requests::line::read_options`: one option after another.
 use Rattle.requests.proofs.Reading.{options_read}
-use borrow.Author.Rules.{rules}
 use Rattle.requests.proofs.line.read_options.Goals as goal
 
 pub returns : goal.returns

@@ -1,6 +1,5 @@
 -- `requests::line::read_region`: by its word.
 use Rattle.requests.proofs.Reading.{region_cap, region_cell, region_list}
-use borrow.Author.Rules.{rules}
 use Rattle.requests.proofs.line.read_region.Goals as goal
 
 pub returns-then-which-eq0 : goal.returns-then-which-eq0

@@ -1,6 +1,5 @@
 -- `requests::line::read_value`: a number, or a word.
 use Rattle.requests.proofs.Reading.{value_number, value_engine}
-use borrow.Author.Rules.{rules}
 use Rattle.requests.proofs.line.read_value.Goals as goal
 
 pub returns-then-k-lt5 : goal.returns-then-k-lt5
