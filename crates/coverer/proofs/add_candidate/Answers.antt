@@ -1,7 +1,6 @@
 -- `coverer::add_candidate` meets its contract.
 use Rattle.cellid.proofs.Laws.{cell_pos}
 use Rattle.coverer.proofs.Adds.{domain, low_leaves, queued, expands, add_kept, add_empty, add_lifted, add_queued}
-use borrow.Author.Rules.{rules}
 use native.Mathlib.Omega.{arith}
 use Rattle.coverer.proofs.add_candidate.Goals as goal
 

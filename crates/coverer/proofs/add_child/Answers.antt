@@ -2,7 +2,6 @@
 use Rattle.coverer.proofs.Adds.{domain, child_none, child_full, child_added, child_id, child_ok, leaves_there}
 use Rattle.coverer.proofs.Stands.{up_to}
 use Rattle.coverer.specs.Engine.{AsideUpTo}
-use borrow.Author.Rules.{rules}
 use mathlib.Core.Path.{sym, ◌∙◌}
 use native.Mathlib.Omega.{arith}
 use Rattle.coverer.proofs.add_child.Goals as goal

@@ -3,21 +3,18 @@ use Rattle.coverer.specs.Coverer.{course_of}
 use Rattle.run.specs.Run.{add_all}
 use Rattle.run.specs.Ground.{ChildOk}
 use Rattle.run.specs.declared.Request.{Request}
-use Prim.Native.Nat.{ℕ, ◌+◌, ◌-◌, ◌≤◌, ◌<◌}
-use Rattle.candidate.specs.Candidate.{task_of, Asks}
-use Rattle.coverer.proofs.Adds.{domain, Waiting, waiting_one, waiting_next, children_then, children_over}
-use Rattle.coverer.proofs.Stands.{Goes, goes_start, goes_turn, goes_stop, goes_end}
-use Rattle.coverer.specs.Engine.{AsideUpTo, child_if, children_from, leaves_in, Does}
+use Prim.Native.Nat.{ℕ, ◌-◌, ◌≤◌}
+use Rattle.candidate.specs.Candidate.{task_of}
+use Rattle.coverer.proofs.Adds.{Waiting}
+use Rattle.coverer.proofs.Stands.{Goes}
+use Rattle.coverer.specs.Engine.{children_from}
 use Rattle.coverer.specs.declared.Brood.{Brood}
 use Rattle.coverer.specs.declared.Counts.{Counts}
-use Rattle.coverer.specs.declared.Turn.{Turn}
 use Rattle.queue.specs.declared.Engine.{Engine}
 use Rattle.region.specs.Region.{Area, area_of}
-use borrow.Author.Rules.{rules}
 use lib.ListN.{length}
 use mathlib.Core.List.{List}
-use mathlib.Core.Path.{◌≡◌, refl, ◌∙◌, subst}
-use native.Mathlib.Omega.{arith}
+use mathlib.Core.Path.{◌≡◌}
 use Rattle.coverer.proofs.add_children.Given as goal
 
 pub record Inv (e : Engine) (q : Request) (a : Area) (b : Brood) (places : ℕ) (m₀ : List ℕ) (t₀ : Counts) (m : List ℕ) (t : Counts) (j : ℕ) : Type 0 where

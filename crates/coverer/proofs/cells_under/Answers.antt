@@ -2,7 +2,6 @@
 use Prim.Native.Nat.{◌*◌, ◌≤◌}
 use Rattle.cellid.proofs.Laws.{low_le, one_shl}
 use Rattle.coverer.specs.Engine.{brood_of}
-use borrow.Author.Rules.{rules}
 use native.Mathlib.Omega.{arith}
 use Rattle.coverer.proofs.cells_under.Goals as goal
 

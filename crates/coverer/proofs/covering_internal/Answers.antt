@@ -1,7 +1,6 @@
 -- `coverer::covering_internal` meets its contract.
 use Prim.Native.Nat.{◌≤◌}
 use Rattle.coverer.proofs.Runs.{runs_live, runs_room, runs_refused, runs_on}
-use borrow.Author.Rules.{rules}
 use lib.ListN.{length, take, length-take}
 use native.Mathlib.Omega.{arith}
 use Rattle.coverer.proofs.covering_internal.Goals as goal

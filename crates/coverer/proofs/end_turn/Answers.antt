@@ -1,6 +1,5 @@
 -- `coverer::end_turn` meets its contract.
 use Rattle.coverer.specs.Engine.{stage_after}
-use borrow.Author.Rules.{rules}
 use Rattle.coverer.proofs.end_turn.Goals as goal
 
 pub returns-in-Refused : goal.returns-in-Refused

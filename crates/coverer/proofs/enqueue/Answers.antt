@@ -1,7 +1,6 @@
 -- `coverer::enqueue` meets its contract.
 use Rattle.coverer.proofs.Stands.{queues, queues_not}
 use Rattle.coverer.specs.Engine.{AsideUpTo}
-use borrow.Author.Rules.{rules}
 use native.Mathlib.Omega.{arith}
 use Rattle.coverer.proofs.enqueue.Goals as goal
 

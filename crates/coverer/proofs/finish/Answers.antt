@@ -3,7 +3,6 @@ use mathlib.Core.Path.{refl, ap, ◌∙◌}
 use Prim.Native.Nat.{◌+◌}
 use Rattle.run.specs.Run.{queue_words, memory_words}
 use Rattle.coverer.specs.Coverer.{cleared}
-use borrow.Author.Rules.{rules}
 use Rattle.coverer.proofs.finish.Goals as goal
 
 pub returns : goal.returns

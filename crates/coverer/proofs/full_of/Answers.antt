@@ -2,7 +2,6 @@
 use Prim.Native.Nat.{◌*◌, ◌≤◌}
 use Rattle.cellid.proofs.Laws.{one_shl}
 use Rattle.run.specs.Run.{level_mod, full}
-use borrow.Author.Rules.{rules}
 use lib.Pow.{pow_mono}
 use native.Mathlib.Omega.{arith}
 use Rattle.coverer.proofs.full_of.Goals as goal

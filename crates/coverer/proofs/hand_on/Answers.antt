@@ -11,7 +11,6 @@ use Rattle.coverer.specs.declared.Brood.{Brood}
 use Rattle.records.specs.declared.Rec.{Rec}
 use Rattle.region.specs.Region.{Area}
 use Rattle.run.specs.Run.{depth}
-use borrow.Author.Rules.{rules}
 use lib.Count.{ones}
 use mathlib.Core.Path.{◌≡◌}
 use native.Mathlib.Omega.{arith}

@@ -1,21 +1,15 @@
 use Rattle.run.specs.declared.Request.{Request}
-use Prim.Native.Nat.{ℕ, ◌-◌, ◌≤◌, ◌<◌}
-use Rattle.candidate.specs.Candidate.{task_of}
-use Rattle.coverer.proofs.Runs.{Starting, starting, starting_turn, starting_stop, starting_end}
-use Rattle.coverer.specs.declared.Tally.{Tally}
+use Prim.Native.Nat.{ℕ, ◌≤◌, ◌<◌}
+use Rattle.coverer.proofs.Runs.{starting, starting_turn, starting_stop, starting_end}
 use Rattle.order.specs.Order.{All}
 use Rattle.order.proofs.OrderLaws.{all_get}
-use Rattle.queue.specs.declared.Engine.{Engine}
-use Rattle.region.specs.Region.{Area, area_of}
 use Rattle.run.proofs.Totals.{leaves_le}
 use Rattle.run.specs.Ground.{Fit}
-use borrow.Author.Rules.{rules}
 use lib.ListN.{length, get_or, take}
 use lib.Seq.{get_or-take, length-take-le}
 use mathlib.Core.List.{List}
 use mathlib.Core.Path.{◌≡◌, refl, sym, ◌∙◌, subst}
 use native.Mathlib.Omega.{arith}
-use Rattle.coverer.proofs.initial_candidates.Invariants.{Inv}
 use Rattle.coverer.proofs.initial_candidates.Goals as goal
 
 -- the i-th of the start cells

@@ -1,21 +1,14 @@
 -- `coverer::initial_candidates` meets its contract. The invariant: the start cells from i on are what is left of the definition's start.
 use Rattle.run.specs.declared.Request.{Request}
-use Prim.Native.Nat.{ℕ, ◌-◌, ◌≤◌, ◌<◌}
+use Prim.Native.Nat.{ℕ, ◌-◌, ◌≤◌}
 use Rattle.candidate.specs.Candidate.{task_of}
-use Rattle.coverer.proofs.Runs.{Starting, starting, starting_turn, starting_stop, starting_end}
+use Rattle.coverer.proofs.Runs.{Starting}
 use Rattle.coverer.specs.declared.Tally.{Tally}
-use Rattle.order.specs.Order.{All}
-use Rattle.order.proofs.OrderLaws.{all_get}
 use Rattle.queue.specs.declared.Engine.{Engine}
 use Rattle.region.specs.Region.{Area, area_of}
-use Rattle.run.proofs.Totals.{leaves_le}
-use Rattle.run.specs.Ground.{Fit}
-use borrow.Author.Rules.{rules}
-use lib.ListN.{length, get_or, take}
-use lib.Seq.{get_or-take, length-take-le}
+use lib.ListN.{length, take}
 use mathlib.Core.List.{List}
-use mathlib.Core.Path.{◌≡◌, refl, sym, ◌∙◌, subst}
-use native.Mathlib.Omega.{arith}
+use mathlib.Core.Path.{◌≡◌}
 use Rattle.coverer.proofs.initial_candidates.Given as goal
 
 pub record Inv (e : Engine) (q : Request) (a : Area) (count : ℕ) (ids m₀ m : List ℕ) (t : Tally) (i : ℕ) : Type 0 where

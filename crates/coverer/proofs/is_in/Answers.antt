@@ -1,6 +1,5 @@
 -- `coverer::is_in` meets its contract.
 use Prim.Native.Nat.{◌/◌, ◌^◌}
-use borrow.Author.Rules.{rules}
 use lib.Bits.{and_mask}
 use Rattle.coverer.proofs.is_in.Goals as goal
 

@@ -1,7 +1,6 @@
 -- `coverer::keep` meets its contract.
 use Rattle.coverer.proofs.Stands.{keeps, keeps_not}
 use Rattle.coverer.specs.Engine.{AsideUpTo}
-use borrow.Author.Rules.{rules}
 use native.Mathlib.Omega.{arith}
 use Rattle.coverer.proofs.keep.Goals as goal
 

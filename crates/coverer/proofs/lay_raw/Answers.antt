@@ -1,7 +1,6 @@
 -- `coverer::lay_raw` meets its contract.
 use Rattle.coverer.proofs.Watching.{lay_part}
 use Rattle.run.specs.Run.{queue_words}
-use borrow.Author.Rules.{rules}
 use Rattle.coverer.proofs.lay_raw.Goals as goal
 
 pub returns : goal.returns

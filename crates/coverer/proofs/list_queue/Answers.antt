@@ -1,5 +1,4 @@
-use Rattle.coverer.proofs.Watching.{Listing, list_start, list_room, list_turn, list_end}
-use borrow.Author.Rules.{rules}
+use Rattle.coverer.proofs.Watching.{list_start, list_room, list_turn, list_end}
 use lib.ListN.{length-set}
 use native.Mathlib.Omega.{arith}
 use Rattle.coverer.proofs.list_queue.Goals as goal

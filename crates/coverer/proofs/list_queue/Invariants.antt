@@ -1,8 +1,5 @@
 -- `coverer::list_queue` meets its contract. The invariant: what is left of the queue, listed over the output as it is now, makes the output that is wanted.
-use Rattle.coverer.proofs.Watching.{Listing, list_start, list_room, list_turn, list_end}
-use borrow.Author.Rules.{rules}
-use lib.ListN.{length-set}
-use native.Mathlib.Omega.{arith}
+use Rattle.coverer.proofs.Watching.{Listing}
 use Rattle.coverer.proofs.list_queue.Given as goal
 
 abbrev pub invariant-loop-left : goal.invariant-loop-left

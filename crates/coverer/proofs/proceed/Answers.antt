@@ -1,16 +1,6 @@
-use Rattle.run.specs.declared.Request.{Request}
-use Prim.Native.Nat.{ℕ, ◌-◌}
-use Rattle.candidate.specs.Candidate.{task_of}
-use Rattle.coverer.proofs.Runs.{Going, going_spent, going_end, going_stop, going_turn}
-use Rattle.coverer.specs.declared.Tally.{Tally}
-use Rattle.queue.specs.declared.Engine.{Engine}
-use Rattle.region.specs.Region.{Area, area_of}
-use borrow.Author.Rules.{rules}
-use lib.ListN.{length}
-use mathlib.Core.List.{List}
-use mathlib.Core.Path.{◌≡◌, refl, ◌∙◌}
+use Rattle.coverer.proofs.Runs.{going_spent, going_end, going_stop, going_turn}
+use mathlib.Core.Path.{refl, ◌∙◌}
 use native.Mathlib.Omega.{arith}
-use Rattle.coverer.proofs.proceed.Invariants.{Inv}
 use Rattle.coverer.proofs.proceed.Goals as goal
 
 pub loop-t-init : goal.loop-t-init

@@ -2,15 +2,13 @@
 use Rattle.run.specs.declared.Request.{Request}
 use Prim.Native.Nat.{ℕ, ◌-◌}
 use Rattle.candidate.specs.Candidate.{task_of}
-use Rattle.coverer.proofs.Runs.{Going, going_spent, going_end, going_stop, going_turn}
+use Rattle.coverer.proofs.Runs.{Going}
 use Rattle.coverer.specs.declared.Tally.{Tally}
 use Rattle.queue.specs.declared.Engine.{Engine}
 use Rattle.region.specs.Region.{Area, area_of}
-use borrow.Author.Rules.{rules}
 use lib.ListN.{length}
 use mathlib.Core.List.{List}
-use mathlib.Core.Path.{◌≡◌, refl, ◌∙◌}
-use native.Mathlib.Omega.{arith}
+use mathlib.Core.Path.{◌≡◌}
 use Rattle.coverer.proofs.proceed.Given as goal
 
 pub record Inv (e : Engine) (q : Request) (a : Area) (allowance : ℕ) (m₀ : List ℕ) (t₀ : Tally) (m : List ℕ) (t : Tally) : Type 0 where

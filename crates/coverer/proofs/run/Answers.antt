@@ -1,7 +1,6 @@
 -- `coverer::run` meets its contract.
 use Rattle.coverer.proofs.Answers.{answer_room, answer_refused, answer_spent, answer_done}
 use Rattle.coverer.specs.Coverer.{outcome_of}
-use borrow.Author.Rules.{rules}
 use native.Mathlib.Omega.{arith}
 use Rattle.coverer.proofs.run.Goals as goal
 

@@ -1,6 +1,5 @@
 -- `coverer::set_aside` meets its contract.
 use Rattle.coverer.proofs.Stands.{aside_in, aside_out}
-use borrow.Author.Rules.{rules}
 use mathlib.Core.Path.{sym}
 use Rattle.coverer.proofs.set_aside.Goals as goal
 

@@ -2,7 +2,6 @@
 use Rattle.cellid.proofs.Laws.{cell_pos}
 use Rattle.coverer.proofs.Adds.{low_leaves}
 use Rattle.coverer.proofs.Runs.{start_kept_ok, start_queued_ok, start_kept, start_queued, start_none}
-use borrow.Author.Rules.{rules}
 use native.Mathlib.Omega.{arith}
 use Rattle.coverer.proofs.start.Goals as goal
 

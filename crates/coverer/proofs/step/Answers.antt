@@ -5,7 +5,6 @@ use Prim.Native.Nat.{◌≤◌}
 use Rattle.totals.specs.Totals.{total_at}
 use Rattle.coverer.proofs.Adds.{domain}
 use Rattle.coverer.proofs.Runs.{takes, steps}
-use borrow.Author.Rules.{rules}
 use native.Mathlib.Omega.{arith}
 use Rattle.coverer.proofs.step.Goals as goal
 

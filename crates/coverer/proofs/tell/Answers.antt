@@ -1,7 +1,6 @@
 -- `coverer::tell` meets its contract: the kept ids, then the queue; or there is no room.
 use mathlib.Core.Path.{refl}
 use Rattle.coverer.proofs.Watching.{told, told_not}
-use borrow.Author.Rules.{rules}
 use Rattle.coverer.proofs.tell.Goals as goal
 
 pub returns-then-kept-queued : goal.returns-then-kept-queued

@@ -1,7 +1,6 @@
 -- `coverer::use_taken` meets its contract.
 use Rattle.coverer.proofs.Adds.{domain}
 use Rattle.coverer.proofs.Steps.{taken_full, taken_handed, taken_kept}
-use borrow.Author.Rules.{rules}
 use Rattle.coverer.proofs.use_taken.Goals as goal
 
 pub returns-then-is_full : goal.returns-then-is_full

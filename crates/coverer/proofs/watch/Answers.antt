@@ -1,6 +1,5 @@
 -- `coverer::watch` meets its contract: the run's first steps, and what is told of the state that they come to.
 use Rattle.coverer.proofs.Watching.{watch_few, watch_refused, watch_told}
-use borrow.Author.Rules.{rules}
 use native.Mathlib.Omega.{arith}
 use Rattle.coverer.proofs.watch.Goals as goal
 
