@@ -9,7 +9,7 @@ pub returns-then-n-lt1 : goal.returns-then-n-lt1
 returns-then-n-lt1 c = sym (edition_bad _ (inl c.if-n-lt1.true))
 
 pub returns-then-n-gt2 : goal.returns-then-n-gt2
-returns-then-n-gt2 c = sym (edition_bad _ (inr c.if-n-gt2.true))
+returns-then-n-gt2 c = sym (edition_bad _ (inr (omega arith)))
 
 pub returns : goal.returns
 returns c = sym (edition_open _ (omega (arith, c.if-n-lt1.false), c.if-n-gt2.false))

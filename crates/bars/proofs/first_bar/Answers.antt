@@ -1,6 +1,5 @@
 -- `bars::first_bar` meets its contract, by the cases of the first. Assumes nothing.
 use Rattle.bars.specs.Bars.{first_bar}
-use borrow.Author.Rules.{rules}
 use Rattle.bars.proofs.first_bar.Goals as goal
 
 pub returns-in-Open : goal.returns-in-Open

@@ -1,6 +1,5 @@
 -- `bars::first_refusal` meets its contract. Assumes nothing.
 use Rattle.bars.specs.Bars.{bar_of}
-use borrow.Author.Rules.{rules}
 use Rattle.bars.proofs.first_refusal.Goals as goal
 
 pub returns : goal.returns

@@ -1,7 +1,6 @@
 -- `bars::region_bar` meets its contract. Assumes nothing.
 use mathlib.Core.Path.{sym, ◌∙◌}
 use Rattle.bars.proofs.Early.{region_open, region_bad}
-use borrow.Author.Rules.{rules}
 use Rattle.bars.proofs.region_bar.Goals as goal
 
 pub returns-then-in_domain : goal.returns-then-in_domain

@@ -51,7 +51,7 @@ part_is t c =
     let n = c.args.left - 1 in
     let b = bit_test hits within false c.args.id k c.look_children-l.result c.loop-k-test.true c.look_children-l.ensures in
     elim c.if-passing-k-eq1.branch [
-      then-passing-k-eq1 w ↦ w.f-is ∙ rw w.child.ensures at w.expand_children-f.ensures ∙ sym (part_more T n (child_of c.args.id k) some (bit_yes (hits (child_of c.args.id k)) (sym b ∙ w.if-passing-k-eq1.true)))
+      | then-passing-k-eq1 w ↦ w.f-is ∙ rw w.child.ensures at w.expand_children-f.ensures ∙ sym (part_more T n (child_of c.args.id k) some (bit_yes (hits (child_of c.args.id k)) (sym b ∙ w.if-passing-k-eq1.true)))
       | else-passing-k-eq1 w ↦ w.f-is ∙ sym (part_none T n (child_of c.args.id k) some (bit_no (hits (child_of c.args.id k)) (λ e. w.if-passing-k-eq1.false (b ∙ e))))
     ]
 

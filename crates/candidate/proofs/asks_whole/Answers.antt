@@ -1,7 +1,6 @@
 -- `asks_whole` meets its contract: what a crossing cell is to the run tells whether it asks for more.
 use mathlib.Core.Path.{sym, ◌∙◌}
 use Rattle.candidate.proofs.Siblings.{asks_by_lem}
-use borrow.Author.Rules.{rules}
 use Rattle.candidate.proofs.asks_whole.Goals as goal
 
 pub returns-in-Kept : goal.returns-in-Kept

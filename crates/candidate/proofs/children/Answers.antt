@@ -3,7 +3,6 @@ use mathlib.Core.Path.{sym, ◌∙◌}
 use Rattle.region.specs.Region.{area_of}
 use Rattle.candidate.specs.Candidate.{task_of}
 use Rattle.candidate.proofs.Siblings.{four_seen}
-use borrow.Author.Rules.{rules}
 use Rattle.candidate.proofs.children.Goals as goal
 
 pub returns-in-Kept : goal.returns-in-Kept

@@ -1,7 +1,6 @@
 -- `crossing` meets its contract.
 use borrow.Author.Tests.{lt-ltb, le-ltb}
 use Rattle.candidate.specs.Candidate.{crossing_as, candidate_of}
-use borrow.Author.Rules.{rules}
 use Rattle.candidate.proofs.crossing.Goals as goal
 
 pub returns-then-level-q : goal.returns-then-level-q

@@ -6,7 +6,6 @@ use native.Mathlib.Omega.{arith}
 use Rattle.cellid.specs.CellId.{level_of}
 use Rattle.run.specs.Run.{depth}
 use Rattle.run.proofs.Looks.{depth_low, depth_high}
-use borrow.Author.Rules.{rules}
 use Rattle.candidate.proofs.expand.Goals.{Else-level-q, Then-level-q}
 use Rattle.candidate.proofs.expand.Goals as goal
 

@@ -4,7 +4,6 @@ use Rattle.cellid.proofs.Laws.{level_le}
 use Rattle.region.specs.Region.{area_of}
 use Rattle.candidate.specs.Candidate.{task_of, candidate_of}
 use Rattle.candidate.proofs.Siblings.{seen_as}
-use borrow.Author.Rules.{rules}
 use Rattle.candidate.proofs.new_candidate.Goals as goal
 
 pub crossing-c-requires : goal.crossing-c-requires

@@ -1,7 +1,6 @@
 -- `region::cap_in_domain` meets its contract.
 use Rattle.region.specs.Region.{cap_in_domain}
 use mathlib.Core.Path.{sym, ◌∙◌}
-use borrow.Author.Rules.{rules}
 use Rattle.region.proofs.cap_in_domain.Goals as goal
 
 pub returns-then-not-is_finite : goal.returns-then-not-is_finite

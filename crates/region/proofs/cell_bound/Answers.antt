@@ -1,7 +1,6 @@
 -- `region::cell_bound` meets its contract.
 use Rattle.cellid.proofs.Laws.{valid_is}
 use Rattle.cap.proofs.Laws.{face_of_lem}
-use borrow.Author.Rules.{rules}
 use Rattle.region.proofs.cell_bound.Goals as goal
 
 pub from_id-requires : goal.from_id-requires

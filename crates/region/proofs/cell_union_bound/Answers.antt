@@ -3,7 +3,6 @@ use native.Mathlib.Omega.{arith}
 use Rattle.picklist.proofs.Laws.{pick_is}
 use Rattle.region.proofs.Laws.{six_asks, six_laid}
 use Rattle.region.specs.Region.{area_of, in_domain, bound_of}
-use borrow.Author.Rules.{rules}
 use Rattle.region.proofs.cell_union_bound.Goals as goal
 
 pub copy_six-requires : goal.copy_six-requires

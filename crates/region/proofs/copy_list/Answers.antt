@@ -1,7 +1,6 @@
 -- `region::copy_list`: all words of the list.
 use mathlib.Core.Path.{refl}
 use lib.Seq.{take-length}
-use borrow.Author.Rules.{rules}
 use Rattle.region.proofs.copy_list.Goals as goal
 
 pub returns : goal.returns

@@ -1,5 +1,4 @@
 -- `region::copy_six`: as many words as there are cells.
-use borrow.Author.Rules.{rules}
 use Rattle.region.proofs.copy_six.Goals as goal
 
 pub copy-requires : goal.copy-requires

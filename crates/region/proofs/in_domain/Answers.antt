@@ -1,6 +1,5 @@
 -- `region::in_domain` meets its contract.
 use Rattle.region.specs.Region.{area_of, in_domain}
-use borrow.Author.Rules.{rules}
 use Rattle.region.proofs.in_domain.Goals as goal
 
 pub returns-in-Cap : goal.returns-in-Cap

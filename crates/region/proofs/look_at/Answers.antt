@@ -4,7 +4,6 @@ use Rattle.cellid.proofs.Laws.{cell_pos, valid_is, valid_fits}
 use Rattle.sight.specs.Sight.{sight_of}
 use Rattle.region.specs.Region.{area_of, in_domain, intersects_cell, contains_cell}
 use Rattle.region.proofs.Laws.{cell_sight}
-use borrow.Author.Rules.{rules}
 use Rattle.region.proofs.look_at.Goals as goal
 
 pub look_at-requires-in-Cell : goal.look_at-requires-in-Cell

@@ -4,7 +4,6 @@ use Rattle.cellid.proofs.Laws.{valid_is, valid_fits}
 use Rattle.sight.specs.Sight.{sights_of, sight_of}
 use Rattle.region.specs.Region.{area_of, in_domain, intersects_cell, contains_cell}
 use Rattle.region.proofs.Laws.{cell_sights}
-use borrow.Author.Rules.{rules}
 use Rattle.region.proofs.look_children.Goals as goal
 
 pub look_children-requires-in-Cell : goal.look_children-requires-in-Cell
