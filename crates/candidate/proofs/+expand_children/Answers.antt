@@ -35,7 +35,7 @@ expand_children-f-requires t c =
         z.asks,
         (
           (omega (arith, c.if-left-eq1.false, z.left_nonzero.0), omega (arith, z.left_nonzero.1)),
-          rw c.child.ensures (child_of_lem c.args.id c.loop-k.k c.args.left z.cell.0 c.loop-k-test.true z.left_nonzero.0 z.cell.1),
+          rw c.child.ensures (child_of_lem c.args.id c.loop-k.k c.args.left z.cell.0 (omega arith) z.left_nonzero.0 z.cell.1),
         ),
       ),
     )
@@ -49,7 +49,7 @@ part_is t c =
     let some : 0 < c.args.left - 1 = omega (arith, c.requires.left_nonzero.0, c.if-left-eq1.false) in
     let k = c.loop-k.k in
     let n = c.args.left - 1 in
-    let b = bit_test hits within false c.args.id k c.look_children-l.result c.loop-k-test.true c.look_children-l.ensures in
+    let b = bit_test hits within false c.args.id k c.look_children-l.result (omega arith) c.look_children-l.ensures in
     elim c.if-passing-k-eq1.branch [
       | then-passing-k-eq1 w ↦ w.f-is ∙ rw w.child.ensures at w.expand_children-f.ensures ∙ sym (part_more T n (child_of c.args.id k) some (bit_yes (hits (child_of c.args.id k)) (sym b ∙ w.if-passing-k-eq1.true)))
       | else-passing-k-eq1 w ↦ w.f-is ∙ sym (part_none T n (child_of c.args.id k) some (bit_no (hits (child_of c.args.id k)) (λ e. w.if-passing-k-eq1.false (b ∙ e))))
@@ -60,7 +60,7 @@ placed-acc-requires t c =
     let n = c.args.left - 1 in
     let l : n ≤ 2 = omega (arith, c.requires.left_nonzero.1) in
     rw (part_is t c, c.loop-k.invariant.so_far, width_is n l)
-    (roomy (task_of c.args.q (area_of c.args.g c.args.list.now)) n c.args.id c.loop-k.k l c.loop-k-test.true)
+    (roomy (task_of c.args.q (area_of c.args.g c.args.list.now)) n c.args.id c.loop-k.k l (omega arith))
 
 pub loop-k-preserved : goal.loop-k-preserved
 unfolding up_to
