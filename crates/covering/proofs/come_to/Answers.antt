@@ -1,6 +1,5 @@
 -- `covering::come_to` meets its contract, by the kind of answer. Assumes nothing.
 use Rattle.covering.specs.Covering.{comes_to}
-use borrow.Author.Rules.{rules}
 use Rattle.covering.proofs.come_to.Goals as goal
 
 pub returns-in-Outer : goal.returns-in-Outer

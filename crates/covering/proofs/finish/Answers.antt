@@ -1,6 +1,5 @@
 -- `covering::finish` meets its contract: the list is laid from the part of the memory that holds the raw list, then its words are cleared. Assumes nothing.
 use Rattle.covering.proofs.Answers.{lay_asks, finish_gives}
-use borrow.Author.Rules.{rules}
 use Rattle.covering.proofs.finish.Goals as goal
 
 pub lay_list-laid-requires : goal.lay_list-laid-requires

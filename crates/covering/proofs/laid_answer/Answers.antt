@@ -1,6 +1,5 @@
 -- `covering::laid_answer` meets its contract, by the cases of what was laid. Assumes nothing.
 use Rattle.covering.specs.Covering.{answer_laid}
-use borrow.Author.Rules.{rules}
 use Rattle.covering.proofs.laid_answer.Goals as goal
 
 pub returns-in-Done : goal.returns-in-Done

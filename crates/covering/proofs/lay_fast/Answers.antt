@@ -10,7 +10,6 @@ use Rattle.coverer.proofs.Memory.{cleared_front}
 use Rattle.covering.specs.Covering.{answer_laid}
 use Rattle.covering.proofs.Starts.{valid_domain, bound_past}
 use Rattle.covering.proofs.Answers.{answered_as, answered_laid}
-use borrow.Author.Rules.{rules}
 use Rattle.covering.proofs.lay_fast.Goals as goal
 
 pub fast_covering-laid-requires : goal.fast_covering-laid-requires

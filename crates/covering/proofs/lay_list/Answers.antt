@@ -1,6 +1,5 @@
 -- `covering::lay_list` meets its contract, by the cases of the list that is asked for. Assumes nothing.
 use Rattle.covering.proofs.Answers.{front_asks, LayDone, lay_raw, lay_union, lay_covering}
-use borrow.Author.Rules.{rules}
 use Rattle.covering.proofs.lay_list.Goals as goal
 
 pub lay-requires-in-CellUnion : goal.lay-requires-in-CellUnion

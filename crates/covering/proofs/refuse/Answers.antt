@@ -1,5 +1,4 @@
 -- `covering::refuse` meets its contract. Assumes nothing.
-use borrow.Author.Rules.{rules}
 use Rattle.covering.proofs.refuse.Goals as goal
 
 pub returns : goal.returns

@@ -2,7 +2,6 @@
 use mathlib.Core.Path.{sym, ◌∙◌}
 use Rattle.covering.specs.Covering.{result_of}
 use Rattle.covering.proofs.Answers.{answered_barred, answered_open}
-use borrow.Author.Rules.{rules}
 use Rattle.covering.proofs.respond.Goals as goal
 
 pub come_to-requires : goal.come_to-requires

@@ -1,7 +1,6 @@
 -- `covering::run_and_finish` meets its contract: the refusals of the run, then what its end gives. Assumes nothing.
 use mathlib.Core.Path.{sym, ◌∙◌}
 use Rattle.covering.proofs.Answers.{ran_done, respond_late, finish_asks, finish_holds, respond_done}
-use borrow.Author.Rules.{rules}
 use Rattle.covering.proofs.run_and_finish.Goals as goal
 
 pub finish-requires : goal.finish-requires

@@ -2,7 +2,6 @@
 use mathlib.Core.Path.{refl}
 use Rattle.bars.proofs.Early.{early_none}
 use Rattle.covering.proofs.Starts.{valid_domain, run_asks, run_gives}
-use borrow.Author.Rules.{rules}
 use Rattle.covering.proofs.run_from_starts.Goals as goal
 
 pub starts-starts-requires : goal.starts-starts-requires

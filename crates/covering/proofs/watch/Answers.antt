@@ -1,7 +1,6 @@
 -- `covering::watch` meets its contract: a request that is barred, or its run as it stands. Assumes nothing.
 use mathlib.Core.Path.{sym, ◌∙◌}
 use Rattle.covering.proofs.Watching.{watched_barred}
-use borrow.Author.Rules.{rules}
 use Rattle.covering.proofs.watch.Goals as goal
 
 pub watch_from_starts-requires : goal.watch_from_starts-requires

@@ -2,7 +2,6 @@
 use Rattle.bars.proofs.Early.{early_none}
 use Rattle.covering.proofs.Starts.{valid_domain, run_asks}
 use Rattle.covering.proofs.Watching.{watched_open}
-use borrow.Author.Rules.{rules}
 use Rattle.covering.proofs.watch_from_starts.Goals as goal
 
 pub starts-starts-requires : goal.starts-starts-requires
