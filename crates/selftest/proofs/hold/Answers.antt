@@ -5,7 +5,6 @@ use native.Mathlib.Nat.{sub-zero}
 use native.Mathlib.Omega.{arith}
 use Rattle.cellunion.specs.Memory.{zeros, laid}
 use Rattle.selftest.proofs.Laws.{held_laid}
-use borrow.Author.Rules.{rules}
 use Rattle.selftest.proofs.hold.Goals as goal
 
 pub returns : goal.returns

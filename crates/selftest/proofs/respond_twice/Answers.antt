@@ -2,7 +2,6 @@
 use mathlib.Core.Path.{◌∙◌}
 use native.Mathlib.Omega.{arith}
 use Rattle.selftest.proofs.Laws.{count_within, answered_twice, agrees, never, within_second}
-use borrow.Author.Rules.{rules}
 use Rattle.selftest.proofs.respond_twice.Goals as goal
 
 pub hold-n-requires : goal.hold-n-requires

@@ -2,7 +2,6 @@
 use mathlib.Core.Path.{sym}
 use borrow.Author.Tests.{eq-eqb, ne_eqb}
 use Rattle.selftest.specs.Selftest.{same_answer}
-use borrow.Author.Rules.{rules}
 use Rattle.selftest.proofs.same_answer.Goals as goal
 
 pub returns-then-a-b : goal.returns-then-a-b

@@ -1,7 +1,6 @@
 use mathlib.Core.Path.{refl}
-use Prim.Native.Nat.{◌-◌}
 use native.Mathlib.Omega.{arith}
-use Rattle.selftest.proofs.Laws.{Comparing, compare_differ, compare_turn, compare_done}
+use Rattle.selftest.proofs.Laws.{compare_differ, compare_turn, compare_done}
 use Rattle.selftest.proofs.same_words.Goals as goal
 
 pub loop-i-init : goal.loop-i-init

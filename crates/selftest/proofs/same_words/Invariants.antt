@@ -1,8 +1,6 @@
 -- `selftest::same_words` meets its contract. The invariant: what is left to compare decides.
-use mathlib.Core.Path.{refl}
 use Prim.Native.Nat.{◌-◌}
-use native.Mathlib.Omega.{arith}
-use Rattle.selftest.proofs.Laws.{Comparing, compare_differ, compare_turn, compare_done}
+use Rattle.selftest.proofs.Laws.{Comparing}
 use Rattle.selftest.proofs.same_words.Given as goal
 
 abbrev pub invariant-loop-i : goal.invariant-loop-i
