@@ -2,7 +2,6 @@
 use mathlib.Core.Path.{sym, ◌∙◌}
 use lib.Seq.{length-take-le}
 use Rattle.requests.proofs.Laws.{replied_nothing, replied_asked, replied_bad, ids_fit, asked_fits}
-use borrow.Author.Rules.{rules}
 use Rattle.requests.proofs.answer.Goals as goal
 
 pub returns-then-is_silent : goal.returns-then-is_silent

@@ -3,7 +3,6 @@ use mathlib.Core.Path.{sym}
 use native.Mathlib.Omega.{arith}
 use lib.Seq.{length-take-le}
 use Rattle.requests.proofs.Laws.{answered_in}
-use borrow.Author.Rules.{rules}
 use Rattle.requests.proofs.answer_in.Goals as goal
 
 pub slice_bounds-answer_run-end-2 : goal.slice_bounds-answer_run-end-2

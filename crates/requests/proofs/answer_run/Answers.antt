@@ -1,6 +1,5 @@
 -- `requests::answer_run`: what the line asks, asked of the engines.
 use Rattle.requests.proofs.Laws.{answered_for}
-use borrow.Author.Rules.{rules}
 use Rattle.requests.proofs.answer_run.Goals as goal
 
 pub returns : goal.returns
