@@ -23,7 +23,7 @@ pub loop-i-preserved : goal.loop-i-preserved
 loop-i-preserved c =
     let t = c.loop-i.invariant in
     subst (λ (l : List Order). Turn c.args.orders.now c.args.mem.now c.args.out.now (c.loop-i.i + 1) (c.loop-i.used + c.serve-a.result.count) l c.serve-a.new.mem c.serve-a.new.out)
-        (sym (four_written c.serve-a.result _ c.loop-i.i c.loop-i.orders (omega (arith, t.long, c.loop-i-test.true)))) (next t c.loop-i-test.true _ _ _ _ c.serve-a.ensures (omega (arith, c.serve-a.auto.out)))
+    (sym (four_written c.serve-a.result _ c.loop-i.i c.loop-i.orders (omega (arith, t.long, c.loop-i-test.true)))) (next t c.loop-i-test.true _ _ _ _ c.serve-a.ensures (omega (arith, c.serve-a.auto.out)))
 
 pub returns : goal.returns
 returns c = ending c.loop-i.invariant c.if-n-gt-NIGHT_MOST.false c.loop-i-test.false

@@ -1,5 +1,4 @@
 -- `orders::serve` meets its contract: the part of the output from `used` on was lent whole, and is laid back. Assumes nothing.
-use borrow.Author.Rules.{rules}
 use Rattle.orders.proofs.Laws.{served_is}
 use Rattle.orders.proofs.serve.Goals as goal
 
