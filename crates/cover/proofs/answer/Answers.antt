@@ -1,6 +1,5 @@
 -- `cover::answer`: case by case.
 use Rattle.cover.proofs.Laws.{told_line, told_long, told_failed, told_end}
-use borrow.Author.Rules.{rules}
 use Rattle.cover.proofs.answer.Goals as goal
 
 pub returns-in-Line : goal.returns-in-Line

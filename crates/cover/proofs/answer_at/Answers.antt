@@ -2,7 +2,6 @@
 use native.Mathlib.Omega.{arith}
 use Rattle.replies.proofs.Lengths.{within}
 use Rattle.cover.proofs.Laws.{told_at}
-use borrow.Author.Rules.{rules}
 use Rattle.cover.proofs.answer_at.Goals as goal
 
 pub overflow_add-result : goal.overflow_add-result
