@@ -1,7 +1,6 @@
 -- `lines::answer`: a question about a list, or any other line.
 use mathlib.Core.Path.{sym, ◌∙◌}
 use Rattle.lines.proofs.Laws.{replied_list, replied_other}
-use borrow.Author.Rules.{rules}
 use Rattle.lines.proofs.answer.Goals as goal
 
 pub returns-then-asks_list : goal.returns-then-asks_list
