@@ -1,5 +1,4 @@
 -- `capi::call_by` meets its contract: the answer is told, and that the engines agree. Assumes nothing.
-use borrow.Author.Rules.{rules}
 use Rattle.capi.proofs.Laws.{tested_called}
 use Rattle.capi.proofs.call_by.Goals as goal
 

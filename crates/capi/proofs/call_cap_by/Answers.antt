@@ -1,5 +1,4 @@
 -- `capi::call_cap_by` meets its contract: the region that is asked for is the cap. Assumes nothing.
-use borrow.Author.Rules.{rules}
 use Rattle.region.specs.Region.{area_of}
 use Rattle.capi.proofs.call_cap_by.Goals as goal
 

@@ -1,5 +1,4 @@
 -- `capi::call_list` meets its contract: the answer is told. Assumes nothing.
-use borrow.Author.Rules.{rules}
 use Rattle.region.specs.Region.{area_of}
 use Rattle.capi.proofs.Laws.{answered_called}
 use Rattle.capi.proofs.call_list.Goals as goal

@@ -1,5 +1,4 @@
 -- `capi::call_list_by` meets its contract: the region that is asked for is the list. Assumes nothing.
-use borrow.Author.Rules.{rules}
 use Rattle.region.specs.Region.{area_of}
 use Rattle.capi.proofs.call_list_by.Goals as goal
 

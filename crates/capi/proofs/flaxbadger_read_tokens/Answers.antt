@@ -1,5 +1,4 @@
 -- `capi::flaxbadger_read_tokens` meets its contract: the answer is told. Assumes nothing.
-use borrow.Author.Rules.{rules}
 use Rattle.capi.proofs.Laws.{names_called}
 use Rattle.capi.proofs.flaxbadger_read_tokens.Goals as goal
 

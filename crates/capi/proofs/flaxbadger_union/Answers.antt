@@ -1,5 +1,4 @@
 -- `capi::flaxbadger_union` meets its contract: the answer is told. Assumes nothing.
-use borrow.Author.Rules.{rules}
 use Rattle.capi.proofs.Laws.{words_called}
 use Rattle.capi.proofs.flaxbadger_union.Goals as goal
 

@@ -1,7 +1,6 @@
 -- `capi::tell_names` meets its contract, by the cases of the answer. Assumes nothing.
 use mathlib.Core.Path.{refl}
 use Rattle.tokens.specs.Tokens.{number_of, written_of, first_of}
-use borrow.Author.Rules.{rules}
 use Rattle.capi.proofs.tell_names.Goals as goal
 
 pub returns-in-Done : goal.returns-in-Done

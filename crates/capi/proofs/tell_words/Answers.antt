@@ -1,7 +1,6 @@
 -- `capi::tell_words` meets its contract, by the cases of the answer. Assumes nothing.
 use mathlib.Core.Path.{refl}
 use Rattle.ranges.specs.Ranges.{number_of, words_of}
-use borrow.Author.Rules.{rules}
 use Rattle.capi.proofs.tell_words.Goals as goal
 
 pub returns-in-Done : goal.returns-in-Done
