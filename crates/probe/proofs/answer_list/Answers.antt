@@ -2,7 +2,6 @@
 use mathlib.Core.Path.{sym, ◌∙◌}
 use Rattle.bars.proofs.Early.{early_none}
 use Rattle.covering.proofs.Starts.{valid_domain}
-use borrow.Author.Rules.{rules}
 use Rattle.probe.proofs.answer_list.Goals as goal
 
 pub put_answer-requires : goal.put_answer-requires

@@ -2,7 +2,6 @@
 use mathlib.Core.Path.{sym, ◌∙◌}
 use Rattle.bars.proofs.Early.{early_none}
 use Rattle.covering.proofs.Starts.{valid_domain}
-use borrow.Author.Rules.{rules}
 use Rattle.probe.proofs.answer_region.Goals as goal
 
 pub put_region-requires : goal.put_region-requires

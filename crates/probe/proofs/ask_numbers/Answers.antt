@@ -1,7 +1,6 @@
 -- `probe::ask_numbers`: there is a place for each field.
 use mathlib.Core.Path.{sym}
 use lib.Seq.{length-take-le}
-use borrow.Author.Rules.{rules}
 use Rattle.probe.proofs.ask_numbers.Goals as goal
 
 pub slice_bounds-read_numbers-end : goal.slice_bounds-read_numbers-end

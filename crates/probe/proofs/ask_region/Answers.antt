@@ -3,7 +3,6 @@ use mathlib.Core.Path.{sym, ap}
 use lib.Seq.{length-take-le}
 use Rattle.requests.specs.declared.line.RegionRead.{RegionRead}
 use Rattle.text.proofs.Fields.{words_fit}
-use borrow.Author.Rules.{rules}
 use Rattle.probe.proofs.ask_region.Goals as goal
 
 pub slice_bounds-list-end : goal.slice_bounds-list-end

@@ -1,6 +1,5 @@
 -- `probe::cell_id`: a valid id is a cell's, and so is that of a face.
 use Rattle.probe.proofs.Laws.{tested_cell, is_face}
-use borrow.Author.Rules.{rules}
 use Rattle.probe.proofs.cell_id.Goals as goal
 
 pub returns-then-is_valid : goal.returns-then-is_valid

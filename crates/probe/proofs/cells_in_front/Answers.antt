@@ -1,7 +1,4 @@
-use Prim.Native.Nat.{◌-◌}
-use Rattle.fast.specs.Memory.{Cells}
 use Rattle.probe.proofs.Laws.{cells_none, cells_more}
-use borrow.Author.Rules.{rules}
 use Rattle.probe.proofs.cells_in_front.Goals as goal
 
 pub loop-i-init : goal.loop-i-init

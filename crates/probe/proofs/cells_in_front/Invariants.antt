@@ -1,8 +1,6 @@
 -- `probe::cells_in_front`: the words before i are cells.
 use Prim.Native.Nat.{◌-◌}
 use Rattle.fast.specs.Memory.{Cells}
-use Rattle.probe.proofs.Laws.{cells_none, cells_more}
-use borrow.Author.Rules.{rules}
 use Rattle.probe.proofs.cells_in_front.Given as goal
 
 abbrev pub invariant-loop-i : goal.invariant-loop-i

@@ -1,7 +1,6 @@
 -- `probe::put_list`: the first so many ids are so many.
 use mathlib.Core.Path.{sym}
 use lib.Seq.{length-take-le}
-use borrow.Author.Rules.{rules}
 use Rattle.probe.proofs.put_list.Goals as goal
 
 pub slice_bounds-put_ids-end-then-count-ids : goal.slice_bounds-put_ids-end-then-count-ids

@@ -1,6 +1,5 @@
 -- `probe::put_neighbors`: a level above that of the cell is below 30.
 use Rattle.probe.proofs.Laws.{above}
-use borrow.Author.Rules.{rules}
 use Rattle.probe.proofs.put_neighbors.Goals as goal
 
 pub vertex_neighbors-v-requires : goal.vertex_neighbors-v-requires

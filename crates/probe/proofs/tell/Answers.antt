@@ -1,7 +1,6 @@
 -- `probe::tell`: the first n bytes are n.
 use mathlib.Core.Path.{sym}
 use lib.Seq.{length-take-le}
-use borrow.Author.Rules.{rules}
 use Rattle.probe.proofs.tell.Goals as goal
 
 pub slice_bounds-tell-end : goal.slice_bounds-tell-end

@@ -2,7 +2,6 @@
 use mathlib.Core.Path.{sym}
 use native.Mathlib.Omega.{arith}
 use lib.Seq.{length-take-le}
-use borrow.Author.Rules.{rules}
 use Rattle.steps.proofs.answer_asked.Goals as goal
 
 pub slice_bounds-answer_kind-end-2 : goal.slice_bounds-answer_kind-end-2

@@ -2,7 +2,6 @@
 use mathlib.Core.Path.{sym}
 use lib.Seq.{length-take-le}
 use Rattle.requests.proofs.Laws.{ids_fit}
-use borrow.Author.Rules.{rules}
 use Rattle.steps.proofs.answer_line.Goals as goal
 
 pub slice_bounds-answer_asked-end : goal.slice_bounds-answer_asked-end

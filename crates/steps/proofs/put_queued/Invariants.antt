@@ -1,7 +1,6 @@
 -- `steps::put_queued`: the place lies in the list.
 use Prim.Native.Nat.{◌-◌, ◌≤◌}
 use lib.ListN.{length}
-use borrow.Author.Rules.{rules}
 use Rattle.steps.proofs.put_queued.Given as goal
 
 abbrev pub invariant-loop-i : goal.invariant-loop-i

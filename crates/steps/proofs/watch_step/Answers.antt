@@ -2,10 +2,9 @@
 use mathlib.Core.Path.{sym, ◌∙◌}
 use native.Mathlib.Omega.{arith}
 use Rattle.covering.proofs.Watching.{watched_room}
-use borrow.Author.Rules.{rules}
 use Rattle.steps.proofs.watch_step.Goals as goal
 
 pub show-requires : goal.show-requires
 show-requires c =
     let w = c.watch-s in
-    omega (arith, w.auto.1.1.1.1.1.1.1.0, watched_room _ _ _ _ _ _ _ _ (sym c.in-Standing.is ∙ w.ensures.answer))
+    omega (arith, w.auto.out, watched_room _ _ _ _ _ _ _ _ (sym c.in-Standing.is ∙ w.ensures.answer))
