@@ -59,6 +59,11 @@ def ascending(given):
     return List(given.name, [cell for cell, _ in both], [line for _, line in both])
 
 
+def counted(cells):
+    """A list as it stands on a line of cover's."""
+    return " ".join([str(len(cells)), *(f"{cell:016x}" for cell in cells)])
+
+
 def tokens_of(who, given):
     """The tokens of a list."""
     return turned(who, "write_tokens", given.name, [(number, b"%016x\n" % cell) for cell, (number, _) in zip(given.cells, given.lines)])
