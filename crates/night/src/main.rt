@@ -282,5 +282,11 @@ fn main(rt: HostRuntime) {
     let mut mem = memory();
     let mut out = places();
     let mut page = blank_page();
-    run(input::standard_streams(rt), &mut buf, &mut mem, &mut out, &mut page);
+    run(
+        input::standard_streams(rt),
+        &mut buf,
+        &mut mem,
+        &mut out,
+        &mut page,
+    );
 }

@@ -1,5 +1,4 @@
 -- `night::comes_first`: where it may come first, by its word.
-use borrow.Author.Rules.{rules}
 use Rattle.night.proofs.comes_first.Goals as goal
 
 pub returns-then-first : goal.returns-then-first

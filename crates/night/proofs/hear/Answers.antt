@@ -1,6 +1,5 @@
 -- `night::hear`: by cases of what was found.
 use Rattle.night.specs.Night.{heard_as}
-use borrow.Author.Rules.{rules}
 use Rattle.night.proofs.hear.Goals as goal
 
 pub returns-in-Line : goal.returns-in-Line

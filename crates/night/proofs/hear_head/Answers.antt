@@ -1,6 +1,5 @@
 -- `night::hear_head`: what was read, or what is wrong with it.
 use Rattle.night.proofs.Laws.{head_right, head_wrong}
-use borrow.Author.Rules.{rules}
 use Rattle.night.proofs.hear_head.Goals as goal
 
 pub returns-in-At : goal.returns-in-At

@@ -1,6 +1,5 @@
 -- `night::hear_order`: what was read, or what is wrong with it.
 use Rattle.night.proofs.Laws.{order_right, order_wrong}
-use borrow.Author.Rules.{rules}
 use Rattle.night.proofs.hear_order.Goals as goal
 
 pub returns-in-At : goal.returns-in-At

@@ -1,6 +1,5 @@
 -- `night::is_end`: by cases.
 use Rattle.night.specs.Night.{is_end}
-use borrow.Author.Rules.{rules}
 use Rattle.night.proofs.is_end.Goals as goal
 
 pub returns-in-Line : goal.returns-in-Line

@@ -1,9 +1,7 @@
 -- `night::run`: the unread bytes lie in the buffer, no more orders are taken than a night may have, and the slices keep their lengths.
 use mathlib.Core.Path.{◌≡◌}
 use Prim.Native.Nat.{◌-◌, ◌≤◌}
-use native.Mathlib.Omega.{arith}
 use lib.ListN.{length}
-use borrow.Author.Rules.{rules}
 use Rattle.night.proofs.run.Given as goal
 
 abbrev pub invariant-loop-number : goal.invariant-loop-number

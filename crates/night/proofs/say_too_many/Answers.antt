@@ -2,11 +2,10 @@
 use mathlib.Core.Path.{sym}
 use lib.Seq.{length-take-le}
 use Rattle.replies.proofs.Lengths.{within}
-use borrow.Author.Rules.{rules}
 use Rattle.night.proofs.say_too_many.Goals as goal
 
-pub slice_bounds-write_all-end : goal.slice_bounds-write_all-end
-slice_bounds-write_all-end c = within _ _ _ _ c.put_too_many-length.ensures
+pub slice_bounds-say-end : goal.slice_bounds-say-end
+slice_bounds-say-end c = within _ _ _ _ c.put_too_many-length.ensures
 
-pub slice_bounds-write_all-end-2 : goal.slice_bounds-write_all-end-2
-slice_bounds-write_all-end-2 c = sym (length-take-le _ _ (within _ _ _ _ c.put_too_many-length.ensures))
+pub slice_bounds-say-end-2 : goal.slice_bounds-say-end-2
+slice_bounds-say-end-2 c = sym (length-take-le _ _ (within _ _ _ _ c.put_too_many-length.ensures))

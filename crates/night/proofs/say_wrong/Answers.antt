@@ -2,8 +2,7 @@
 use mathlib.Core.Path.{sym}
 use native.Mathlib.Omega.{arith}
 use lib.Seq.{length-take-le}
-use borrow.Author.Rules.{rules}
 use Rattle.night.proofs.say_wrong.Goals as goal
 
-pub slice_bounds-write_all-end-2 : goal.slice_bounds-write_all-end-2
-slice_bounds-write_all-end-2 c = sym (length-take-le _ _ (omega arith))
+pub slice_bounds-say-end-2 : goal.slice_bounds-say-end-2
+slice_bounds-say-end-2 c = sym (length-take-le _ _ (omega arith))

@@ -1,12 +1,8 @@
 -- `night::tell_night`: the line of an order is written from where its list begins, and the places before it are the counts of the orders before it.
 use mathlib.Core.Path.{◌≡◌}
 use Prim.Native.Nat.{◌-◌, ◌≤◌}
-use native.Mathlib.Nat.{lt_of_le_of_lt}
-use native.Mathlib.Omega.{arith}
 use lib.ListN.{length, take}
-use borrow.Author.Rules.{rules}
 use Rattle.orders.specs.Nights.{places_of}
-use Rattle.night.proofs.Laws.{places_more, begins_next, ends_within}
 use Rattle.night.proofs.tell_night.Given as goal
 
 abbrev pub invariant-loop-k : goal.invariant-loop-k

@@ -1,6 +1,5 @@
 -- `night::tell_order`: the line lies in the page.
 use Rattle.replies.proofs.Lengths.{within}
-use borrow.Author.Rules.{rules}
 use Rattle.night.proofs.tell_order.Goals as goal
 
 pub tell_waiting-requires : goal.tell_waiting-requires

@@ -6,8 +6,5 @@ use Rattle.probe.proofs.answer_list.Goals as goal
 
 pub put_answer-requires : goal.put_answer-requires
 put_answer-requires c =
-    let e = c in
-    let f = e in
-    let i = f in
-    let v = early_none _ _ _ (sym f.first_refusal-first.ensures ∙ e.in-Open.is) in
-    (valid_domain _ _ _ v, i.cells_in_front-m.ensures)
+    let v = early_none _ _ _ (sym c.first_refusal-first.ensures ∙ c.in-Open.is) in
+    (valid_domain _ _ _ v, c.cells_in_front-m.ensures)

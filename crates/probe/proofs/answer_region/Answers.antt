@@ -6,8 +6,5 @@ use Rattle.probe.proofs.answer_region.Goals as goal
 
 pub put_region-requires : goal.put_region-requires
 put_region-requires c =
-    let e = c in
-    let f = e in
-    let i = f in
-    let v = early_none _ _ _ (sym f.first_refusal-first.ensures ∙ e.in-Open.is) in
-    (valid_domain _ _ _ v, v.region, i.cell_id-id.ensures)
+    let v = early_none _ _ _ (sym c.first_refusal-first.ensures ∙ c.in-Open.is) in
+    (valid_domain _ _ _ v, v.region, c.cell_id-id.ensures)

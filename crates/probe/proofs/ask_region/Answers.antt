@@ -10,5 +10,4 @@ slice_bounds-list-end c = words_fit _ _ _ _ (ap (λ (n : RegionRead). n.count) c
 
 pub slice_bounds-answer_region-end : goal.slice_bounds-answer_region-end
 slice_bounds-answer_region-end c =
-    let r = c in
-    sym (length-take-le _ _ (words_fit _ _ _ _ (ap (λ (n : RegionRead). n.count) r.read_region-g.ensures.read) r.read_region-g.ensures.ids))
+    sym (length-take-le _ _ (words_fit _ _ _ _ (ap (λ (n : RegionRead). n.count) c.read_region-g.ensures.read) c.read_region-g.ensures.ids))

@@ -7,4 +7,5 @@ pub number_of-requires : goal.number_of-requires
 number_of-requires c = (c.requires, rw c.from_id-c.ensures (cell_face _ c.requires), lit< tt)
 
 pub number_of-requires-in-loop-i : goal.number_of-requires-in-loop-i
-number_of-requires-in-loop-i c = (c.requires, rw c.from_id-c.ensures (cell_face _ c.requires), omega (arith, c.loop-i-test.true, c.count_of-count.ensures))
+number_of-requires-in-loop-i c =
+    (c.requires, rw c.from_id-c.ensures (cell_face _ c.requires), omega (arith, c.loop-i-test.true, c.count_of-count.ensures))

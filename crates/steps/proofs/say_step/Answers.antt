@@ -6,5 +6,4 @@ use Rattle.steps.proofs.say_step.Goals as goal
 
 pub slice_bounds-put_ids-end-2 : goal.slice_bounds-put_ids-end-2
 slice_bounds-put_ids-end-2 c =
-    let z = c in
-    sym (length-take-le z.args.kept z.args.out.now (omega (arith, z.requires)))
+    sym (length-take-le c.args.kept c.args.out.now (omega (arith, c.requires)))
