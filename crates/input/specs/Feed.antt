@@ -1,4 +1,4 @@
--- Lines of an input, out of one buffer. The C library says nothing of the bytes that it reads, nor of when it can't, so that is open here;
+-- Lines of an input, out of one buffer. A stream's contract says nothing of the bytes that come, nor of when it can't be read, so that is open here;
 -- said is where a line ends in the buffer, and that it begins with the bytes that were unread.
 use Rattle.std.specs.Prelude.{◌≡◌, Bool, true, false, cond, ◌&&◌, List, ℕ, ◌+◌, ◌-◌, ◌≤◌, ◌<◌, eqb, leb, ltb, length, take, drop}
 use Rattle.text.specs.Text.{until}

@@ -5,6 +5,4 @@ use Rattle.bars.proofs.first_refusal.Goals as goal
 pub returns : goal.returns
 unfolding bar_of
 returns c =
-    let early = c in
-    let late = early in
-    rw (← late.memory_bar.ensures, ← late.region_bar.ensures, ← late.first_bar-late.ensures, ← early.numbers_bar.ensures, ← early.edition_bar.ensures, ← c.first_bar.ensures) c.first_bar-2.ensures
+    rw (← c.memory_bar.ensures, ← c.region_bar.ensures, ← c.first_bar-late.ensures, ← c.numbers_bar.ensures, ← c.edition_bar.ensures, ← c.first_bar.ensures) c.first_bar-2.ensures

@@ -18,13 +18,7 @@ pub returns-then-c-gt3 : goal.returns-then-c-gt3
 returns-then-c-gt3 c = sym (numbers_steps _ c.if-c-gt30.false c.if-c.false (inr c.if-c-gt3.true))
 
 pub returns-then-c-gt1000 : goal.returns-then-c-gt1000
-returns-then-c-gt1000 c =
-    let m = c in
-    let o = m in
-    sym (numbers_cells _ o.if-c-gt30.false o.if-c.false (omega (arith, m.if-c-lt1.false), m.if-c-gt3.false) c.if-c-gt1000.true)
+returns-then-c-gt1000 c = sym (numbers_cells _ c.if-c-gt30.false c.if-c.false (omega (arith, c.if-c-lt1.false), c.if-c-gt3.false) c.if-c-gt1000.true)
 
 pub returns : goal.returns
-returns c =
-    let m = c in
-    let o = m in
-    sym (numbers_open _ o.if-c-gt30.false o.if-c.false (omega (arith, m.if-c-lt1.false), m.if-c-gt3.false) c.if-c-gt1000.false)
+returns c = sym (numbers_open _ c.if-c-gt30.false c.if-c.false (omega (arith, c.if-c-lt1.false), c.if-c-gt3.false) c.if-c-gt1000.false)

@@ -7,8 +7,4 @@ use Rattle.batch.proofs.put_done.Goals as goal
 pub returns : goal.returns
 unfolding done_text ascii
 returns c =
-    let put = c in
-    let aside = put in
-    let steps = aside in
-    let begin = steps in
-    wrote_then begin.put_number-a.ensures (wrote_then steps.put_number-b.ensures (wrote_then aside.put_totals-c.ensures (wrote_then put.put-d.ensures c.put_counted.ensures)))
+    wrote_then c.put_number-a.ensures (wrote_then c.put_number-b.ensures (wrote_then c.put_totals-c.ensures (wrote_then c.put-d.ensures c.put_counted.ensures)))

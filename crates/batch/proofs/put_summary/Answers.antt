@@ -8,10 +8,5 @@ use Rattle.batch.proofs.put_summary.Goals as goal
 pub returns : goal.returns
 unfolding summary_text ascii
 returns c =
-    let left = c in
-    let cells = left in
-    let refused = cells in
-    let orders = refused in
-    let start = orders in
-    summary_whole _ _ _ start.requires _ _ _ _
-    (wrote_then orders.put_number-a.ensures (wrote_then refused.put_number-b.ensures (wrote_then cells.put_number-c.ensures (wrote_then left.put_number-d.ensures c.put.ensures))))
+    summary_whole _ _ _ c.requires _ _ _ _
+    (wrote_then c.put_number-a.ensures (wrote_then c.put_number-b.ensures (wrote_then c.put_number-c.ensures (wrote_then c.put_number-d.ensures c.put.ensures))))

@@ -17,19 +17,17 @@ deeper c = let a = c.args in depth_high (a.q) a.id (omega (arith, c.level.ensure
 
 pub children-requires-then-q-eq1 : goal.children-requires-then-q-eq1
 children-requires-then-q-eq1 c =
-    let z = c in
     record {
-      asks = z.requires.asks;
-      cell = (z.requires.cell.0, omega (arith, z.requires.cell.1, deeper (goal.at.children-requires-then-q-eq1 c).Else-level-q, c.if-q-eq1.true));
+      asks = c.requires.asks;
+      cell = (c.requires.cell.0, omega (arith, c.requires.cell.1, deeper (goal.at.children-requires-then-q-eq1 c).Else-level-q, c.if-q-eq1.true));
     }
 
 pub expand_children-requires : goal.expand_children-requires
 expand_children-requires c =
-    let z = c in
     record {
-      asks = z.requires.asks;
-      left_nonzero = (z.requires.asks.some, z.requires.asks.few);
-      cell = (z.requires.cell.0, subst (λ (n : ℕ). level_of z.args.id + n ≤ 30) (deeper (goal.at.expand_children-requires c).Else-level-q) z.requires.cell.1);
+      asks = c.requires.asks;
+      left_nonzero = (c.requires.asks.some, c.requires.asks.few);
+      cell = (c.requires.cell.0, subst (λ (n : ℕ). level_of c.args.id + n ≤ 30) (deeper (goal.at.expand_children-requires c).Else-level-q) c.requires.cell.1);
     }
 
 pub returns-then-level-q : goal.returns-then-level-q

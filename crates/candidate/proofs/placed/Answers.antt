@@ -20,9 +20,8 @@ overflow_shl-result-2 c = shift_lt _ _ c.requires.wide c.requires.four
 pub returns : goal.returns
 unfolding place_in
 returns c =
-    let z = c in
-    let p = z.requires in
+    let p = c.requires in
     rw (
-      mask_or z.args.acc.present z.args.f.present z.args.width z.args.k p.wide p.four p.present p.presents,
-      mask_or z.args.acc.terminal z.args.f.terminal z.args.width z.args.k p.wide p.four p.terminal p.terminals,
+      mask_or c.args.acc.present c.args.f.present c.args.width c.args.k p.wide p.four p.present p.presents,
+      mask_or c.args.acc.terminal c.args.f.terminal c.args.width c.args.k p.wide p.four p.terminal p.terminals,
     )

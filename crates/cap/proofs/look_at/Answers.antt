@@ -10,15 +10,11 @@ vertex-a-requires c = (face_of_lem _ _ c.requires c.from_id-c.ensures, omega ari
 
 pub returns-then-is_enough : goal.returns-then-is_enough
 returns-then-is_enough c =
-    let f = c in
-    first_enough _ _ _ _ _ _ f.from_id-c.ensures c.vertex-a.ensures c.contains_point-all.ensures (sym c.is_enough.ensures ∙ c.if-is_enough.true)
+    first_enough _ _ _ _ _ _ c.from_id-c.ensures c.vertex-a.ensures c.contains_point-all.ensures (sym c.is_enough.ensures ∙ c.if-is_enough.true)
 
 pub look_corners-requires : goal.look_corners-requires
-look_corners-requires c =
-    let f = c in
-    (face_of_lem _ _ f.requires f.from_id-c.ensures, c.vertex-a.ensures, c.contains_point-all.ensures)
+look_corners-requires c = (face_of_lem _ _ c.requires c.from_id-c.ensures, c.vertex-a.ensures, c.contains_point-all.ensures)
 
 pub returns : goal.returns
 returns c =
-    let f = c in
-    c.look_corners.ensures ∙ first_not _ _ _ _ _ _ f.from_id-c.ensures c.vertex-a.ensures c.contains_point-all.ensures (sym c.is_enough.ensures ∙ c.if-is_enough.false)
+    c.look_corners.ensures ∙ first_not _ _ _ _ _ _ c.from_id-c.ensures c.vertex-a.ensures c.contains_point-all.ensures (sym c.is_enough.ensures ∙ c.if-is_enough.false)

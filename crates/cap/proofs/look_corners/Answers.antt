@@ -32,11 +32,8 @@ look_edges-requires c =
 pub returns : goal.returns
 returns c =
     let z = c.requires in
-    let b = c in
-    let d = c in
-    let e = c in
     c.look_edges.ensures
     ∙ sym (edges_decide _ _ _ (at_corner_lem _ _ 0 _ _ z.1 z.2)
-    (at_corner_lem _ _ 1 _ _ b.vertex-b.ensures b.contains_point.ensures ∙ same_bool _ _ (not-false _ b.if-contains_point-all.false))
-    (at_corner_lem _ _ 2 _ _ d.vertex-d.ensures d.contains_point-2.ensures ∙ same_bool _ _ (not-false _ d.if-contains_point-all-2.false))
-    (at_corner_lem _ _ 3 _ _ e.vertex-e.ensures e.contains_point-3.ensures ∙ same_bool _ _ (not-false _ e.if-contains_point-all-3.false)))
+    (at_corner_lem _ _ 1 _ _ c.vertex-b.ensures c.contains_point.ensures ∙ same_bool _ _ (not-false _ c.if-contains_point-all.false))
+    (at_corner_lem _ _ 2 _ _ c.vertex-d.ensures c.contains_point-2.ensures ∙ same_bool _ _ (not-false _ c.if-contains_point-all-2.false))
+    (at_corner_lem _ _ 3 _ _ c.vertex-e.ensures c.contains_point-3.ensures ∙ same_bool _ _ (not-false _ c.if-contains_point-all-3.false)))

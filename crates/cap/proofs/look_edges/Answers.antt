@@ -6,7 +6,7 @@ use Rattle.cap.proofs.Looks.{touches_not}
 use Rattle.cap.proofs.look_edges.Goals as goal
 
 pub touches_by-requires : goal.touches_by-requires
-touches_by-requires c = let z = c in (sym c.can_reach.ensures ∙ c.if-can_reach.true, z.requires.0, z.requires.1, λ t. absurd (true≢false (sym t)))
+touches_by-requires c = (sym c.can_reach.ensures ∙ c.if-can_reach.true, c.requires.0, c.requires.1, λ t. absurd (true≢false (sym t)))
 
 pub returns-then-can_reach : goal.returns-then-can_reach
 returns-then-can_reach c = rw (← c.other_side-other.ensures) (c.sight_past.ensures ∙ ap (sight_past c.args.all) c.touches_by.ensures)

@@ -21,11 +21,10 @@ held_square-requires-4 c = (omega arith, λ k. nine_le _ _ _ k c.held_nine-h.ens
 
 pub look_parts-requires : goal.look_parts-requires
 look_parts-requires c =
-    let h = c in
-    let p = h.corners-p.ensures in
-    let e = h.held_nine-h.ensures in
+    let p = c.corners-p.ensures in
+    let e = c.held_nine-h.ensures in
     record {
-      face_bound = (h.requires, p);
+      face_bound = (c.requires, p);
       a_value = (
         held_read _ _ _ _ 0 _ (omega arith) p e c.held_square.ensures,
         held_read _ _ _ _ 1 _ (omega arith) p e c.held_square-2.ensures,
@@ -35,4 +34,4 @@ look_parts-requires c =
     }
 
 pub returns : goal.returns
-returns c = let m = c in c.look_parts.ensures ∙ shared_not _ _ _ (sym m.shared_is_enough.ensures ∙ m.if-shared_is_enough.false)
+returns c = c.look_parts.ensures ∙ shared_not _ _ _ (sym c.shared_is_enough.ensures ∙ c.if-shared_is_enough.false)

@@ -15,14 +15,12 @@ unfolding touches
 returns-then-contains_point c = rw (not-true (le right c.args.cap.radius) c.requires.0, sym c.is_empty.ensures ∙ c.if-is_empty.false, sym c.contains_point.ensures ∙ c.if-contains_point.true)
 
 pub edges_say-requires : goal.edges_say-requires
-edges_say-requires c = let z = c in
-    record {
-      face_bound = (z.requires.1, c.scales_of.ensures);
-      vertices_value = z.requires.2;
-    }
+edges_say-requires c = record {
+  face_bound = (c.requires.1, c.scales_of.ensures);
+  vertices_value = c.requires.2;
+}
 
 pub returns : goal.returns
 unfolding touches
 returns c =
-    let e = c in
-    rw (not-true (le right e.args.cap.radius) e.requires.0, sym e.is_empty.ensures ∙ e.if-is_empty.false, sym c.contains_point.ensures ∙ c.if-contains_point.false, ← c.sin2.ensures) c.edges_say.ensures
+    rw (not-true (le right c.args.cap.radius) c.requires.0, sym c.is_empty.ensures ∙ c.if-is_empty.false, sym c.contains_point.ensures ∙ c.if-contains_point.false, ← c.sin2.ensures) c.edges_say.ensures

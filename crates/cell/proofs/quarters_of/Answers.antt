@@ -5,15 +5,13 @@ use Rattle.cell.proofs.quarters_of.Goals as goal
 
 pub lines_at-x-requires : goal.lines_at-x-requires
 lines_at-x-requires c =
-    let z = c in
-    let f = face_ij_in z.args.id z.requires.0 in
-    (rw c.face_ij_orientation-f.ensures f.i, rw c.level-level.ensures z.requires.1)
+    let f = face_ij_in c.args.id c.requires.0 in
+    (rw c.face_ij_orientation-f.ensures f.i, rw c.level-level.ensures c.requires.1)
 
 pub lines_at-y-requires : goal.lines_at-y-requires
 lines_at-y-requires c =
-    let z = c in
-    let f = face_ij_in z.args.id z.requires.0 in
-    (rw c.face_ij_orientation-f.ensures f.j, rw c.level-level.ensures z.requires.1)
+    let f = face_ij_in c.args.id c.requires.0 in
+    (rw c.face_ij_orientation-f.ensures f.j, rw c.level-level.ensures c.requires.1)
 
 pub returns : goal.returns
 unfolding quarters_of

@@ -6,8 +6,8 @@ use Rattle.cellid.proofs.common_ancestor_level.Goals.{After-larger-bits}
 use Rattle.cellid.proofs.common_ancestor_level.Goals as goal
 
 -- the number that the zeros are counted of
-spread-is : (c : After-larger-bits) → c.larger-bits.result ≡ spread c.args.a c.args.b
-spread-is c = c.larger-bits.ensures ∙ ap₂ max (c.larger.ensures ∙ ap₂ max refl c.lsb.ensures) c.lsb-2.ensures
+spread_is : (c : After-larger-bits) → c.larger-bits.result ≡ spread c.args.a c.args.b
+spread_is c = c.larger-bits.ensures ∙ ap₂ max (c.larger.ensures ∙ ap₂ max refl c.lsb.ensures) c.lsb-2.ensures
 
 pub lsb-requires : goal.lsb-requires
 lsb-requires c = cell_pos _ _ _ c.requires.cell.2
@@ -20,10 +20,8 @@ overflow_cast-result c = omega (arith, leading_le 64 c.larger-bits.result)
 
 pub returns-then-above-lt3 : goal.returns-then-above-lt3
 returns-then-above-lt3 c =
-    let s = c in
-    sym (common_none _ _ s.requires.cell s.requires.cell_2 (rw (← spread-is (goal.at.returns-then-above-lt3 c).After-larger-bits) c.if-above-lt3.true))
+    sym (common_none _ _ c.requires.cell c.requires.cell_2 (rw (← spread_is (goal.at.returns-then-above-lt3 c).After-larger-bits) c.if-above-lt3.true))
 
 pub returns-else-above-lt3 : goal.returns-else-above-lt3
 returns-else-above-lt3 c =
-    let s = c in
-    rw (spread-is (goal.at.returns-else-above-lt3 c).After-larger-bits) (sym (common_some _ _ s.requires.cell s.requires.cell_2 (rw (← spread-is (goal.at.returns-else-above-lt3 c).After-larger-bits) c.if-above-lt3.false)))
+    rw (spread_is (goal.at.returns-else-above-lt3 c).After-larger-bits) (sym (common_some _ _ c.requires.cell c.requires.cell_2 (rw (← spread_is (goal.at.returns-else-above-lt3 c).After-larger-bits) c.if-above-lt3.false)))

@@ -15,6 +15,5 @@ returns-then-z-mask c = no_like2 _ _ _ _ _ c.requires.0 c.sibling_mask-mask.ensu
 
 pub returns : goal.returns
 returns c =
-    let S = c in
-    level_test _ _ _ _ _ _ S.requires.0 c.sibling_mask-mask.ensures c.level.ensures S.requires.1 S.requires.2 S.requires.3
+    level_test _ _ _ _ _ _ c.requires.0 c.sibling_mask-mask.ensures c.level.ensures c.requires.1 c.requires.2 c.requires.3
     c.if-x-mask.false c.if-y-mask.false c.if-z-mask.false

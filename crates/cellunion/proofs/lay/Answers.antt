@@ -6,7 +6,4 @@ pub returns-then-out-n : goal.returns-then-out-n
 returns-then-out-n c = lay_none _ _ _ c.requires c.if-out-n.true
 
 pub returns : goal.returns
-returns c =
-    let k = c in
-    let t = k in
-    lay_done _ _ _ _ t.requires t.if-out-n.false k.copy.ensures
+returns c = lay_done _ _ _ _ c.requires c.if-out-n.false c.copy.ensures

@@ -8,53 +8,46 @@ use Rattle.coverer.proofs.add_child.Goals as goal
 
 pub overflow_mul-j-else-is_full : goal.overflow_mul-j-else-is_full
 overflow_mul-j-else-is_full c =
-    let at = c in
     let e = sym c.is_in.ensures ∙ c.if-is_in.true in
-    omega (arith, child_id _ _ _ e at.requires.all)
+    omega (arith, child_id _ _ _ e c.requires.all)
 
 pub overflow_add-b : goal.overflow_add-b
 overflow_add-b c =
-    let at = c in
     let e = sym c.is_in.ensures ∙ c.if-is_in.true in
-    omega (arith, child_id _ _ _ e at.requires.all)
+    omega (arith, child_id _ _ _ e c.requires.all)
 
 pub add_candidate-requires : goal.add_candidate-requires
 add_candidate-requires c =
-    let at = c in
     let e = sym c.is_in.ensures ∙ c.if-is_in.true in
     record {
-      memory_words_in_bounds = at.requires.memory_words_in_bounds;
-      asks = at.requires.asks;
-      from_lt_places_most = at.requires.j_bound.1;
-      child_ok = child_ok _ _ _ _ e c.is_in-ends.ensures at.requires.all;
-      aside_fits = omega (arith, leaves_there at.args.b at.args.j e, at.requires.aside_fits);
+      memory_words_in_bounds = c.requires.memory_words_in_bounds;
+      asks = c.requires.asks;
+      from_lt_places_most = c.requires.j_bound.1;
+      child_ok = child_ok _ _ _ _ e c.is_in-ends.ensures c.requires.all;
+      aside_fits = omega (arith, leaves_there c.args.b c.args.j e, c.requires.aside_fits);
     }
 
 pub returns-then-is_full : goal.returns-then-is_full
 unfolding AsideUpTo
 returns-then-is_full c =
-    let at = c in
     let e = sym c.is_in.ensures ∙ c.if-is_in.true in
     record {
-      does = child_full _ _ (domain _ _ at.requires.asks) _ _ _ _ _ _ at.requires.memory_words_in_bounds e c.is_full.ensures c.if-is_full.true;
+      does = child_full _ _ (domain _ _ c.requires.asks) _ _ _ _ _ _ c.requires.memory_words_in_bounds e c.is_full.ensures c.if-is_full.true;
       aside_up_to = omega arith;
     }
 
 pub returns-else-is_full : goal.returns-else-is_full
 returns-else-is_full c =
-    let at = c in
-    let go = c in
-    let e = sym go.is_in.ensures ∙ go.if-is_in.true in
+    let e = sym c.is_in.ensures ∙ c.if-is_in.true in
     record {
-      does = child_added _ _ (domain _ _ at.requires.asks) _ _ _ _ _ _ _ _ _ at.requires.memory_words_in_bounds e go.is_full.ensures go.if-is_full.false go.is_in-ends.ensures c.add_candidate.ensures.does;
-      aside_up_to = up_to _ _ _ (omega (arith, leaves_there at.args.b at.args.j e)) c.add_candidate.ensures.aside_up_to;
+      does = child_added _ _ (domain _ _ c.requires.asks) _ _ _ _ _ _ _ _ _ c.requires.memory_words_in_bounds e c.is_full.ensures c.if-is_full.false c.is_in-ends.ensures c.add_candidate.ensures.does;
+      aside_up_to = up_to _ _ _ (omega (arith, leaves_there c.args.b c.args.j e)) c.add_candidate.ensures.aside_up_to;
     }
 
 pub returns-else-is_in : goal.returns-else-is_in
 unfolding AsideUpTo
 returns-else-is_in c =
-    let at = c in
     record {
-      does = child_none _ _ (domain _ _ at.requires.asks) _ _ _ _ _ (sym c.is_in.ensures ∙ c.if-is_in.false);
+      does = child_none _ _ (domain _ _ c.requires.asks) _ _ _ _ _ (sym c.is_in.ensures ∙ c.if-is_in.false);
       aside_up_to = omega arith;
     }

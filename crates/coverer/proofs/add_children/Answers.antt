@@ -41,18 +41,16 @@ stop e q a b places m₀ t₀ m t j m' r n A h er d I =
 
 pub loop-j-init : goal.loop-j-init
 loop-j-init c =
-    let z = c in
-    record { all = refl; within = omega arith; long = refl; waits = record { all = z.requires.all; room = z.requires.aside_fits }; goes = goes_start _ _ _ _ _ _ }
+    record { all = refl; within = omega arith; long = refl; waits = record { all = c.requires.all; room = c.requires.aside_fits }; goes = goes_start _ _ _ _ _ _ }
 
 pub add_child-r-requires : goal.add_child-r-requires
 add_child-r-requires c =
-    let z = c in
     let I = c.loop-j.invariant in
     let W = waiting_one (ChildOk _) _ _ _ (omega (arith, I.all, c.loop-j-test.true)) I.waits in
     record {
-      memory_words_in_bounds = omega (arith, z.requires.memory_words_in_bounds, I.long);
-      asks = z.requires.asks;
-      j_bound = (omega (arith, z.requires.places_bound.0, I.all), z.requires.places_bound.1);
+      memory_words_in_bounds = omega (arith, c.requires.memory_words_in_bounds, I.long);
+      asks = c.requires.asks;
+      j_bound = (omega (arith, c.requires.places_bound.0, I.all), c.requires.places_bound.1);
       all = W.all;
       aside_fits = W.room;
     }
@@ -61,20 +59,16 @@ pub shape_of-m-in-Refused : goal.shape_of-m-in-Refused
 shape_of-m-in-Refused c = c.add_child-r.auto.m ∙ c.loop-j.invariant.long
 
 pub returns-in-Refused : goal.returns-in-Refused
-returns-in-Refused c =
-    let z = c in
-    stop _ _ _ _ _ _ _ _ _ _ _ _ _ z.requires.asks c.loop-j-test.true c.in-Refused.is c.add_child-r.ensures.does c.loop-j.invariant
+returns-in-Refused c = stop _ _ _ _ _ _ _ _ _ _ _ _ _ c.requires.asks c.loop-j-test.true c.in-Refused.is c.add_child-r.ensures.does c.loop-j.invariant
 
 pub loop-j-preserved : goal.loop-j-preserved
 loop-j-preserved c =
-    let z = c in
-    turn _ _ _ _ _ _ _ _ _ _ _ _ _ z.requires.asks c.loop-j-test.true c.in-Going.is c.add_child-r.ensures.does c.add_child-r.ensures.aside_up_to c.add_child-r.auto.m c.loop-j.invariant
+    turn _ _ _ _ _ _ _ _ _ _ _ _ _ c.requires.asks c.loop-j-test.true c.in-Going.is c.add_child-r.ensures.does c.add_child-r.ensures.aside_up_to c.add_child-r.auto.m c.loop-j.invariant
 
 pub shape_of-m : goal.shape_of-m
 shape_of-m c = c.loop-j.invariant.long
 
 pub returns : goal.returns
 returns c =
-    let z = c in
     let I = c.loop-j.invariant in
-    goes_end _ _ _ _ _ _ _ _ _ (children_over _ (domain _ _ z.requires.asks) _ _ (omega (arith, I.all, c.loop-j-test.false)) _) I.goes
+    goes_end _ _ _ _ _ _ _ _ _ (children_over _ (domain _ _ c.requires.asks) _ _ (omega (arith, I.all, c.loop-j-test.false)) _) I.goes

@@ -11,6 +11,5 @@ overflow_sub-result c = omega (arith, c.lsb-low.ensures, low_le c.args.r.id c.re
 pub returns : goal.returns
 unfolding brood_of
 returns c =
-    let at = c in
-    let few : at.args.n ≤ 3 = at.requires.n_bound in
-    rw (c.lsb-low.ensures, c.from.ensures, one_shl (2 * at.args.n) (omega arith))
+    let few : c.args.n ≤ 3 = c.requires.n_bound in
+    rw (c.lsb-low.ensures, c.from.ensures, one_shl (2 * c.args.n) (omega arith))

@@ -7,14 +7,13 @@ use Rattle.coverer.proofs.covering_internal.Goals as goal
 
 pub proceed-requires : goal.proceed-requires
 proceed-requires c =
-    let z = c in
     let d = c.initial_candidates-r in
     let e = c.in-Going.is in
-    let six : length (take z.args.count z.args.ids) ≤ 6 = omega (arith, length-take z.args.count z.args.ids, z.requires.count_bound) in
+    let six : length (take c.args.count c.args.ids) ≤ 6 = omega (arith, length-take c.args.count c.args.ids, c.requires.count_bound) in
     record {
-      memory_words_in_bounds = omega (arith, d.auto.m, z.requires.memory_words_in_bounds);
-      asks = z.requires.asks;
-      live = runs_live _ _ _ _ _ _ z.args.allowance d.ensures _ e z.requires.all six;
+      memory_words_in_bounds = omega (arith, d.auto.m, c.requires.memory_words_in_bounds);
+      asks = c.requires.asks;
+      live = runs_live _ _ _ _ _ _ c.args.allowance d.ensures _ e c.requires.all six;
       steps_le_allowance = runs_room _ _ _ _ _ _ _ d.ensures _ e;
     }
 

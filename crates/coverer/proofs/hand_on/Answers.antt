@@ -22,47 +22,41 @@ made q a A r n k b Q en ek eb = record { taken = Q; levels = en; count = ek; is 
 
 pub cells_under-b-requires : goal.cells_under-b-requires
 cells_under-b-requires c =
-    let z = c in
-    let A = z.requires.asks in
-    let few : depth (z.args.q) z.args.r.id ≤ 3 = depth_le (z.args.q) z.args.r.id A.some A.few in
+    let A = c.requires.asks in
+    let few : depth (c.args.q) c.args.r.id ≤ 3 = depth_le (c.args.q) c.args.r.id A.some A.few in
     record {
-      id_nonzero = cell_pos _ _ _ z.requires.taken.cell.fit.cell;
+      id_nonzero = cell_pos _ _ _ c.requires.taken.cell.fit.cell;
       n_bound = omega (arith, c.levels_under.ensures);
     }
 
 pub overflow_sub-failed : goal.overflow_sub-failed
 overflow_sub-failed c =
-    let z = c in
-    let h : z.args.children ≤ c.cells_under-b.result.places = brood_room _ _ _ _ _ _ (made _ _ z.requires.asks _ _ _ _ z.requires.taken c.levels_under.ensures z.requires.children_value c.cells_under-b.ensures) in
+    let h : c.args.children ≤ c.cells_under-b.result.places = brood_room _ _ _ _ _ _ (made _ _ c.requires.asks _ _ _ _ c.requires.taken c.levels_under.ensures c.requires.children_value c.cells_under-b.ensures) in
     omega arith
 
 pub overflow_mul-failed : goal.overflow_mul-failed
 overflow_mul-failed c =
-    let z = c in
-    let h : (c.cells_under-b.result.places - z.args.children) * c.cells_under-b.result.unit ≤ leaves_of z.args.r.id = brood_failed_le _ _ _ _ _ _ (made _ _ z.requires.asks _ _ _ _ z.requires.taken c.levels_under.ensures z.requires.children_value c.cells_under-b.ensures) in
-    omega (arith, z.requires.aside_fits)
+    let h : (c.cells_under-b.result.places - c.args.children) * c.cells_under-b.result.unit ≤ leaves_of c.args.r.id = brood_failed_le _ _ _ _ _ _ (made _ _ c.requires.asks _ _ _ _ c.requires.taken c.levels_under.ensures c.requires.children_value c.cells_under-b.ensures) in
+    omega (arith, c.requires.aside_fits)
 
 pub set_aside-requires : goal.set_aside-requires
 set_aside-requires c =
-    let z = c in
-    let h : (c.cells_under-b.result.places - z.args.children) * c.cells_under-b.result.unit ≤ leaves_of z.args.r.id = brood_failed_le _ _ _ _ _ _ (made _ _ z.requires.asks _ _ _ _ z.requires.taken c.levels_under.ensures z.requires.children_value c.cells_under-b.ensures) in
-    omega (arith, z.requires.aside_fits)
+    let h : (c.cells_under-b.result.places - c.args.children) * c.cells_under-b.result.unit ≤ leaves_of c.args.r.id = brood_failed_le _ _ _ _ _ _ (made _ _ c.requires.asks _ _ _ _ c.requires.taken c.levels_under.ensures c.requires.children_value c.cells_under-b.ensures) in
+    omega (arith, c.requires.aside_fits)
 
 pub add_children-requires : goal.add_children-requires
 add_children-requires c =
-    let z = c in
-    let A = z.requires.asks in
-    let B = made _ _ z.requires.asks _ _ _ _ z.requires.taken c.levels_under.ensures z.requires.children_value c.cells_under-b.ensures in
-    let h : c.set_aside.result.aside + leaves_in (children_from c.cells_under-b.result 0) ≤ z.args.t.aside + leaves_of z.args.r.id = brood_leaves _ _ _ _ _ _ B _ _ c.set_aside.ensures in
+    let A = c.requires.asks in
+    let B = made _ _ c.requires.asks _ _ _ _ c.requires.taken c.levels_under.ensures c.requires.children_value c.cells_under-b.ensures in
+    let h : c.set_aside.result.aside + leaves_in (children_from c.cells_under-b.result 0) ≤ c.args.t.aside + leaves_of c.args.r.id = brood_leaves _ _ _ _ _ _ B _ _ c.set_aside.ensures in
     record {
-      memory_words_in_bounds = z.requires.memory_words_in_bounds;
-      asks = z.requires.asks;
-      places_bound = (brood_places _ _ _ _ _ _ B A.some A.few, omega (arith, brood_from _ _ _ _ _ _ B, z.requires.taken.place));
+      memory_words_in_bounds = c.requires.memory_words_in_bounds;
+      asks = c.requires.asks;
+      places_bound = (brood_places _ _ _ _ _ _ B A.some A.few, omega (arith, brood_from _ _ _ _ _ _ B, c.requires.taken.place));
       all = brood_ok _ _ _ _ _ _ B;
-      aside_fits = omega (arith, z.requires.aside_fits);
+      aside_fits = omega (arith, c.requires.aside_fits);
     }
 
 pub returns : goal.returns
 returns c =
-    let z = c in
-    hands _ _ _ _ _ _ (made _ _ z.requires.asks _ _ _ _ z.requires.taken c.levels_under.ensures z.requires.children_value c.cells_under-b.ensures) _ _ _ _ _ _ c.set_aside.ensures c.add_children.ensures
+    hands _ _ _ _ _ _ (made _ _ c.requires.asks _ _ _ _ c.requires.taken c.levels_under.ensures c.requires.children_value c.cells_under-b.ensures) _ _ _ _ _ _ c.set_aside.ensures c.add_children.ensures

@@ -24,8 +24,7 @@ shape_of-m c = c.loop-i.invariant.long
 
 pub loop-i-init : goal.loop-i-init
 loop-i-init c =
-    let z = c in
-    record { within = omega arith; six = z.requires.count_bound; wide = omega arith; long = refl; starting = rw c.none-aside.ensures (starting _ _ _ _) }
+    record { within = omega arith; six = c.requires.count_bound; wide = omega arith; long = refl; starting = rw c.none-aside.ensures (starting _ _ _ _) }
 
 pub bounds-ids-i : goal.bounds-ids-i
 bounds-ids-i c = let I = c.loop-i.invariant in
@@ -33,48 +32,38 @@ bounds-ids-i c = let I = c.loop-i.invariant in
 
 pub start-turn-requires : goal.start-turn-requires
 start-turn-requires c =
-    let test = c in
-    let I = test.loop-i.invariant in
-    let z = test in
-    let F = cell _ _ _ _ test.loop-i-test.true I.six I.wide z.requires.all in
+    let I = c.loop-i.invariant in
+    let F = cell _ _ _ _ c.loop-i-test.true I.six I.wide c.requires.all in
     record {
-      memory_words_in_bounds = omega (arith, z.requires.memory_words_in_bounds, I.long);
-      asks = z.requires.asks;
-      from_lt_places_most = omega (arith, I.six, test.loop-i-test.true);
+      memory_words_in_bounds = omega (arith, c.requires.memory_words_in_bounds, I.long);
+      asks = c.requires.asks;
+      from_lt_places_most = omega (arith, I.six, c.loop-i-test.true);
       fit = F;
-      aside_fits = omega (arith, leaves_le (get_or z.args.ids test.loop-i.i 0));
+      aside_fits = omega (arith, leaves_le (get_or c.args.ids c.loop-i.i 0));
     }
 
 pub end_turn-r-requires : goal.end_turn-r-requires
-end_turn-r-requires c =
-    let test = c in
-    omega (arith, test.loop-i.invariant.six, test.loop-i-test.true)
+end_turn-r-requires c = omega (arith, c.loop-i.invariant.six, c.loop-i-test.true)
 
 pub shape_of-m-in-Refused : goal.shape_of-m-in-Refused
 shape_of-m-in-Refused c = c.start-turn.auto.m ∙ c.loop-i.invariant.long
 
 pub returns-in-Refused : goal.returns-in-Refused
 returns-in-Refused c =
-    let ended = c in
-    let begun = ended in
-    let test = begun in
-    let I = test.loop-i.invariant in
-    let h = test.loop-i-test.true in
-    starting_stop _ _ _ _ _ _ _ _ _ _ _ (inside _ _ _ h I.six I.wide) (omega (arith, I.six, h)) (sym (get_or-take _ _ _ 0 h)) begun.start-turn.ensures ended.end_turn-r.ensures I.starting _ c.in-Refused.is
+    let I = c.loop-i.invariant in
+    let h = c.loop-i-test.true in
+    starting_stop _ _ _ _ _ _ _ _ _ _ _ (inside _ _ _ h I.six I.wide) (omega (arith, I.six, h)) (sym (get_or-take _ _ _ 0 h)) c.start-turn.ensures c.end_turn-r.ensures I.starting _ c.in-Refused.is
 
 pub loop-i-preserved : goal.loop-i-preserved
 loop-i-preserved c =
-    let ended = c in
-    let begun = ended in
-    let test = begun in
-    let I = test.loop-i.invariant in
-    let h = test.loop-i-test.true in
+    let I = c.loop-i.invariant in
+    let h = c.loop-i-test.true in
     record {
       within = omega arith;
       six = I.six;
       wide = I.wide;
-      long = begun.start-turn.auto.m ∙ I.long;
-      starting = starting_turn _ _ _ _ _ _ _ _ _ _ _ (inside _ _ _ h I.six I.wide) (omega (arith, I.six, h)) (sym (get_or-take _ _ _ 0 h)) begun.start-turn.ensures ended.end_turn-r.ensures I.starting _ c.in-Going.is;
+      long = c.start-turn.auto.m ∙ I.long;
+      starting = starting_turn _ _ _ _ _ _ _ _ _ _ _ (inside _ _ _ h I.six I.wide) (omega (arith, I.six, h)) (sym (get_or-take _ _ _ 0 h)) c.start-turn.ensures c.end_turn-r.ensures I.starting _ c.in-Going.is;
     }
 
 pub returns : goal.returns

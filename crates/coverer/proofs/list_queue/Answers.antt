@@ -20,28 +20,24 @@ take-r-requires c =
 
 pub bounds-out-i : goal.bounds-out-i
 bounds-out-i c =
-    let test = c in
-    let P = test.requires in
-    omega (arith, list_room _ _ _ _ _ _ _ _ _ P.0 P.1 P.2 test.loop-left.invariant test.loop-left-test.true)
+    let P = c.requires in
+    omega (arith, list_room _ _ _ _ _ _ _ _ _ P.0 P.1 P.2 c.loop-left.invariant c.loop-left-test.true)
 
 pub bounds-out-i-in-loop-left : goal.bounds-out-i-in-loop-left
 bounds-out-i-in-loop-left c =
-    let test = c in
-    let P = test.requires in
-    simp length-set (omega (arith, list_room _ _ _ _ _ _ _ _ _ P.0 P.1 P.2 test.loop-left.invariant test.loop-left-test.true))
+    let P = c.requires in
+    simp length-set (omega (arith, list_room _ _ _ _ _ _ _ _ _ P.0 P.1 P.2 c.loop-left.invariant c.loop-left-test.true))
 
 pub bounds-out-i-in-loop-left-2 : goal.bounds-out-i-in-loop-left-2
 bounds-out-i-in-loop-left-2 c =
-    let test = c in
-    let P = test.requires in
-    simp length-set (list_room _ _ _ _ _ _ _ _ _ P.0 P.1 P.2 test.loop-left.invariant test.loop-left-test.true)
+    let P = c.requires in
+    simp length-set (list_room _ _ _ _ _ _ _ _ _ P.0 P.1 P.2 c.loop-left.invariant c.loop-left-test.true)
 
 pub loop-left-preserved : goal.loop-left-preserved
 loop-left-preserved c =
-    let test = c in
-    let P = test.requires in
+    let P = c.requires in
     let p = c.take-r in
-    rw (c.cost.ensures, c.from.ensures) (list_turn _ _ _ _ _ _ _ _ _ P.0 P.1 P.2 test.loop-left.invariant _ _ test.loop-left-test.true p.ensures.value p.ensures.m_after p.auto.m)
+    rw (c.cost.ensures, c.from.ensures) (list_turn _ _ _ _ _ _ _ _ _ P.0 P.1 P.2 c.loop-left.invariant _ _ c.loop-left-test.true p.ensures.value p.ensures.m_after p.auto.m)
 
 pub returns : goal.returns
 returns c =

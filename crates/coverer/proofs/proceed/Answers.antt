@@ -4,9 +4,7 @@ use native.Mathlib.Omega.{arith}
 use Rattle.coverer.proofs.proceed.Goals as goal
 
 pub loop-t-init : goal.loop-t-init
-loop-t-init c =
-    let z = c in
-    record { long = refl; going = record { live = z.requires.live; left = z.requires.steps_le_allowance; goes = λ l R. R; frame = refl } }
+loop-t-init c = record { long = refl; going = record { live = c.requires.live; left = c.requires.steps_le_allowance; goes = λ l R. R; frame = refl } }
 
 pub shape_of-m-then-t-allowance : goal.shape_of-m-then-t-allowance
 shape_of-m-then-t-allowance c = c.loop-t.invariant.long
@@ -16,11 +14,10 @@ returns-then-t-allowance c = going_spent _ _ _ _ _ _ _ c.loop-t.invariant.going 
 
 pub step-r-requires : goal.step-r-requires
 step-r-requires c =
-    let z = c in
     let I = c.loop-t.invariant in
     record {
-      memory_words_in_bounds = omega (arith, z.requires.memory_words_in_bounds, I.long);
-      asks = z.requires.asks;
+      memory_words_in_bounds = omega (arith, c.requires.memory_words_in_bounds, I.long);
+      asks = c.requires.asks;
       live = I.going.live;
       queued_nonzero = (c.loop-t-test.true, omega (arith, I.going.left, c.if-t-allowance.false));
     }

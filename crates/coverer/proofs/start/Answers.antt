@@ -7,33 +7,29 @@ use Rattle.coverer.proofs.start.Goals as goal
 
 pub add_candidate-requires : goal.add_candidate-requires
 add_candidate-requires c =
-    let z = c in
     record {
-      memory_words_in_bounds = z.requires.memory_words_in_bounds;
-      asks = z.requires.asks;
-      from_lt_places_most = z.requires.from_lt_places_most;
-      child_ok = start_kept_ok _ _ _ c.new_candidate-c.ensures z.requires.fit c.in-Kept.is;
-      aside_fits = z.requires.aside_fits;
+      memory_words_in_bounds = c.requires.memory_words_in_bounds;
+      asks = c.requires.asks;
+      from_lt_places_most = c.requires.from_lt_places_most;
+      child_ok = start_kept_ok _ _ _ c.new_candidate-c.ensures c.requires.fit c.in-Kept.is;
+      aside_fits = c.requires.aside_fits;
     }
 
 pub add_candidate-requires-in-Queued : goal.add_candidate-requires-in-Queued
 add_candidate-requires-in-Queued c =
-    let z = c in
     record {
-      memory_words_in_bounds = z.requires.memory_words_in_bounds;
-      asks = z.requires.asks;
-      from_lt_places_most = z.requires.from_lt_places_most;
-      child_ok = start_queued_ok _ _ _ c.new_candidate-c.ensures z.requires.fit c.in-Queued.is;
-      aside_fits = z.requires.aside_fits;
+      memory_words_in_bounds = c.requires.memory_words_in_bounds;
+      asks = c.requires.asks;
+      from_lt_places_most = c.requires.from_lt_places_most;
+      child_ok = start_queued_ok _ _ _ c.new_candidate-c.ensures c.requires.fit c.in-Queued.is;
+      aside_fits = c.requires.aside_fits;
     }
 
 pub lsb-requires : goal.lsb-requires
 lsb-requires c = cell_pos _ _ _ c.requires.fit.cell
 
 pub set_aside-requires : goal.set_aside-requires
-set_aside-requires c =
-    let z = c in
-    omega (arith, c.lsb.ensures, low_leaves z.args.id z.requires.fit.cell, z.requires.aside_fits)
+set_aside-requires c = omega (arith, c.lsb.ensures, low_leaves c.args.id c.requires.fit.cell, c.requires.aside_fits)
 
 pub returns-in-Kept : goal.returns-in-Kept
 returns-in-Kept c =
@@ -46,6 +42,4 @@ returns-in-Queued c =
     start_queued _ _ _ _ _ _ _ c.new_candidate-c.ensures _ _ c.in-Queued.is d.ensures.does
 
 pub returns-in-None : goal.returns-in-None
-returns-in-None c =
-    let z = c in
-    start_none _ _ _ _ _ _ _ _ _ z.requires.fit c.new_candidate-c.ensures c.in-None.is c.lsb.ensures c.set_aside.ensures
+returns-in-None c = start_none _ _ _ _ _ _ _ _ _ c.requires.fit c.new_candidate-c.ensures c.in-None.is c.lsb.ensures c.set_aside.ensures

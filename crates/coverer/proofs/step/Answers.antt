@@ -10,29 +10,21 @@ use Rattle.coverer.proofs.step.Goals as goal
 
 pub take-r-requires : goal.take-r-requires
 take-r-requires c =
-    let z = c in
-    let few : z.args.t.queued ≤ queue_most = (z.requires.live.3.holds.at 0).few in
-    omega (arith, z.requires.memory_words_in_bounds, z.requires.queued_nonzero.0)
+    let few : c.args.t.queued ≤ queue_most = (c.requires.live.3.holds.at 0).few in
+    omega (arith, c.requires.memory_words_in_bounds, c.requires.queued_nonzero.0)
 
 pub get-requires : goal.get-requires
 get-requires c =
-    let from = c in
-    let took = from in
-    let z = took in
-    let T = takes _ _ (domain _ _ z.requires.asks) _ _ _ z.requires.memory_words_in_bounds z.requires.queued_nonzero.0 took.take-r.ensures.value z.requires.live in
-    omega (arith, from.from-from.ensures, T.taken.place)
+    let T = takes _ _ (domain _ _ c.requires.asks) _ _ _ c.requires.memory_words_in_bounds c.requires.queued_nonzero.0 c.take-r.ensures.value c.requires.live in
+    omega (arith, c.from-from.ensures, T.taken.place)
 
 pub use_taken-turn-requires : goal.use_taken-turn-requires
 use_taken-turn-requires c =
-    let got = c in
-    let from = got in
-    let took = from in
-    let z = took in
-    let T = takes _ _ (domain _ _ z.requires.asks) _ _ _ z.requires.memory_words_in_bounds z.requires.queued_nonzero.0 took.take-r.ensures.value z.requires.live in
-    let total = got.get.ensures ∙ ap (total_at z.args.t.aside) from.from-from.ensures in
+    let T = takes _ _ (domain _ _ c.requires.asks) _ _ _ c.requires.memory_words_in_bounds c.requires.queued_nonzero.0 c.take-r.ensures.value c.requires.live in
+    let total = c.get.ensures ∙ ap (total_at c.args.t.aside) c.from-from.ensures in
     record {
-      memory_words_in_bounds = omega (arith, took.take-r.auto.m, z.requires.memory_words_in_bounds);
-      asks = z.requires.asks;
+      memory_words_in_bounds = omega (arith, c.take-r.auto.m, c.requires.memory_words_in_bounds);
+      asks = c.requires.asks;
       kept_le_raw_most = (T.kept, omega (arith, T.queued));
       taken = T.taken;
       aside_fits = omega (arith, total, T.room);
@@ -40,18 +32,10 @@ use_taken-turn-requires c =
 
 pub end_turn-requires : goal.end_turn-requires
 end_turn-requires c =
-    let from = c in
-    let took = from in
-    let z = took in
-    let T = takes _ _ (domain _ _ z.requires.asks) _ _ _ z.requires.memory_words_in_bounds z.requires.queued_nonzero.0 took.take-r.ensures.value z.requires.live in
-    omega (arith, from.from-from.ensures, T.taken.place)
+    let T = takes _ _ (domain _ _ c.requires.asks) _ _ _ c.requires.memory_words_in_bounds c.requires.queued_nonzero.0 c.take-r.ensures.value c.requires.live in
+    omega (arith, c.from-from.ensures, T.taken.place)
 
 pub returns : goal.returns
 returns c =
-    let used = c in
-    let got = used in
-    let from = got in
-    let took = from in
-    let z = took in
-    let T = takes _ _ (domain _ _ z.requires.asks) _ _ _ z.requires.memory_words_in_bounds z.requires.queued_nonzero.0 took.take-r.ensures.value z.requires.live in
-    steps _ _ _ _ _ _ _ _ _ z.requires.memory_words_in_bounds z.requires.queued_nonzero.0 (z.requires.live.3.holds.at 0).few T.taken.place took.take-r.ensures.value took.take-r.ensures.m_after _ _ from.from-from.ensures got.get.ensures used.use_taken-turn.ensures c.end_turn.ensures
+    let T = takes _ _ (domain _ _ c.requires.asks) _ _ _ c.requires.memory_words_in_bounds c.requires.queued_nonzero.0 c.take-r.ensures.value c.requires.live in
+    steps _ _ _ _ _ _ _ _ _ c.requires.memory_words_in_bounds c.requires.queued_nonzero.0 (c.requires.live.3.holds.at 0).few T.taken.place c.take-r.ensures.value c.take-r.ensures.m_after _ _ c.from-from.ensures c.get.ensures c.use_taken-turn.ensures c.end_turn.ensures

@@ -5,11 +5,9 @@ use Rattle.coverer.proofs.watch.Goals as goal
 
 pub tell-seen-requires : goal.tell-seen-requires
 tell-seen-requires c =
-    let told = c in
-    let d = told in
-    let P = d.requires in
-    let few = watch_few _ _ _ _ _ _ _ d.covering_internal-r.ensures _ told.in-Going.is in
-    (omega (arith, d.covering_internal-r.auto.m, P.memory_words_in_bounds), few.0, few.1)
+    let P = c.requires in
+    let few = watch_few _ _ _ _ _ _ _ c.covering_internal-r.ensures _ c.in-Going.is in
+    (omega (arith, c.covering_internal-r.auto.m, P.memory_words_in_bounds), few.0, few.1)
 
 pub returns-in-Refused : goal.returns-in-Refused
 returns-in-Refused c =
@@ -22,9 +20,8 @@ returns-in-Refused c =
 
 pub returns-in-Going : goal.returns-in-Going
 returns-in-Going c =
-    let told = c in
-    let t = told.tell-seen in
-    let a = watch_told _ _ _ _ _ _ _ told.covering_internal-r.ensures _ told.in-Going.is _ _ _ _ _ t.ensures.value t.ensures.m_unchanged c.clear-in-Going.ensures in
+    let t = c.tell-seen in
+    let a = watch_told _ _ _ _ _ _ _ c.covering_internal-r.ensures _ c.in-Going.is _ _ _ _ _ t.ensures.value t.ensures.m_unchanged c.clear-in-Going.ensures in
     record {
       value = a.0;
       out_after = a.1;

@@ -3,12 +3,9 @@ use Rattle.covering.proofs.Answers.{lay_asks, finish_gives}
 use Rattle.covering.proofs.finish.Goals as goal
 
 pub lay_list-laid-requires : goal.lay_list-laid-requires
-lay_list-laid-requires c =
-    let s = c in
-    lay_asks s.args.e s.args.c _ _ s.requires.memory_words_in_bounds
+lay_list-laid-requires c = lay_asks c.args.e c.args.c _ _ c.requires.memory_words_in_bounds
 
 pub returns : goal.returns
 returns c =
-    let l = c in
-    let z = l.requires in
-    finish_gives _ _ _ _ z.memory_words_in_bounds z.mem_value _ _ _ _ _ _ _ _ l.lay_list-laid.ensures c.laid_answer.ensures c.clear.ensures
+    let z = c.requires in
+    finish_gives _ _ _ _ z.memory_words_in_bounds z.mem_value _ _ _ _ _ _ _ _ c.lay_list-laid.ensures c.laid_answer.ensures c.clear.ensures

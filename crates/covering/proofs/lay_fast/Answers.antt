@@ -18,13 +18,10 @@ fast_covering-laid-requires c =
     (valid_domain _ _ _ v, v.region, v.long)
 
 pub clear_front-requires : goal.clear_front-requires
-clear_front-requires c =
-    let f = c in
-    omega (arith, (early_none _ _ _ f.requires).long, f.fast_covering-laid.auto.mem)
+clear_front-requires c = omega (arith, (early_none _ _ _ c.requires).long, c.fast_covering-laid.auto.mem)
 
 pub returns : goal.returns
 returns c =
-    let f = c in
-    let v = early_none _ _ _ f.requires in
-    answered_as refl (answered_laid _ _ _ 0 no_totals) (c.laid_answer.ensures ∙ ap₂ (λ (w : Laid) (t : Totals). answer_laid w 0 t) f.fast_covering-laid.ensures.value.0 c.none.ensures)
-    (c.clear_front.ensures ∙ cleared_front memory_words _ _ (bound_past _ _ _ _ v.region v.long f.fast_covering-laid.auto.mem f.fast_covering-laid.ensures.mem_after)) f.fast_covering-laid.ensures.value.1
+    let v = early_none _ _ _ c.requires in
+    answered_as refl (answered_laid _ _ _ 0 no_totals) (c.laid_answer.ensures ∙ ap₂ (λ (w : Laid) (t : Totals). answer_laid w 0 t) c.fast_covering-laid.ensures.value.0 c.none.ensures)
+    (c.clear_front.ensures ∙ cleared_front memory_words _ _ (bound_past _ _ _ _ v.region v.long c.fast_covering-laid.auto.mem c.fast_covering-laid.ensures.mem_after)) c.fast_covering-laid.ensures.value.1

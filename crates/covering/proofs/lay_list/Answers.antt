@@ -3,29 +3,21 @@ use Rattle.covering.proofs.Answers.{front_asks, LayDone, lay_raw, lay_union, lay
 use Rattle.covering.proofs.lay_list.Goals as goal
 
 pub lay-requires-in-CellUnion : goal.lay-requires-in-CellUnion
-lay-requires-in-CellUnion c =
-    let k = c in
-    let s = k in
-    (front_asks _ _ _ _ k.normalize-k.ensures s.requires.0 s.requires.1 k.normalize-k.auto.mem).0
+lay-requires-in-CellUnion c = (front_asks _ _ _ _ c.normalize-k.ensures c.requires.0 c.requires.1 c.normalize-k.auto.mem).0
 
 pub denormalize-requires : goal.denormalize-requires
 denormalize-requires c =
-    let k = c in
-    let s = k in
-    let a = front_asks _ _ _ _ k.normalize-k-in-Covering.ensures s.requires.0 s.requires.1 k.normalize-k-in-Covering.auto.mem in
-    (a.0, a.1, s.requires.2, s.requires.3)
+    let a = front_asks _ _ _ _ c.normalize-k-in-Covering.ensures c.requires.0 c.requires.1 c.normalize-k-in-Covering.auto.mem in
+    (a.0, a.1, c.requires.2, c.requires.3)
 
 pub returns-in-Raw : goal.returns-in-Raw
 unfolding LayDone
-returns-in-Raw c =
-    lay_raw _ _ _ _ _ _ _ c.in-Raw.is c.lay.ensures
+returns-in-Raw c = lay_raw _ _ _ _ _ _ _ c.in-Raw.is c.lay.ensures
 
 pub returns-in-CellUnion : goal.returns-in-CellUnion
 unfolding LayDone
-returns-in-CellUnion c =
-    lay_union _ _ _ _ _ _ _ _ _ c.normalize-k.ensures c.in-CellUnion.is c.lay-in-CellUnion.ensures
+returns-in-CellUnion c = lay_union _ _ _ _ _ _ _ _ _ c.normalize-k.ensures c.in-CellUnion.is c.lay-in-CellUnion.ensures
 
 pub returns-in-Covering : goal.returns-in-Covering
 unfolding LayDone
-returns-in-Covering c =
-    lay_covering _ _ _ _ _ _ _ _ _ c.normalize-k-in-Covering.ensures c.in-Covering.is c.denormalize.ensures
+returns-in-Covering c = lay_covering _ _ _ _ _ _ _ _ _ c.normalize-k-in-Covering.ensures c.in-Covering.is c.denormalize.ensures

@@ -11,9 +11,7 @@ starts-starts-requires c =
 
 pub run-requires : goal.run-requires
 run-requires c =
-    let b = c in
-    let z = b in
-    let a = run_asks _ _ _ (early_none _ _ _ z.requires) z.args.inner _ _ _ b.starts-starts.ensures.count_value.0 b.starts-starts.ensures.count_value.1 _ b.starts-starts.auto.mem in
+    let a = run_asks _ _ _ (early_none _ _ _ c.requires) c.args.inner _ _ _ c.starts-starts.ensures.count_value.0 c.starts-starts.ensures.count_value.1 _ c.starts-starts.auto.mem in
     record {
       memory_words_in_bounds = a.0;
       asks = a.1;
@@ -23,7 +21,4 @@ run-requires c =
 
 pub returns : goal.returns
 returns c =
-    let r = c in
-    let b = r in
-    let z = b in
-    run_gives _ _ _ (early_none _ _ _ z.requires) z.args.inner _ _ _ b.starts-starts.ensures.count_value.0 b.starts-starts.ensures.count_value.1 _ _ _ _ _ refl b.starts-starts.auto.mem b.starts-starts.ensures.mem_after (r.run.ensures.value, r.run.ensures.mem_after)
+    run_gives _ _ _ (early_none _ _ _ c.requires) c.args.inner _ _ _ c.starts-starts.ensures.count_value.0 c.starts-starts.ensures.count_value.1 _ _ _ _ _ refl c.starts-starts.auto.mem c.starts-starts.ensures.mem_after (c.run.ensures.value, c.run.ensures.mem_after)

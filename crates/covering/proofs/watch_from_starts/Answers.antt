@@ -11,9 +11,7 @@ starts-starts-requires c =
 
 pub watch-requires : goal.watch-requires
 watch-requires c =
-    let b = c in
-    let z = b in
-    let a = run_asks _ _ _ (early_none _ _ _ z.requires) z.args.inner _ _ _ b.starts-starts.ensures.count_value.0 b.starts-starts.ensures.count_value.1 _ b.starts-starts.auto.mem in
+    let a = run_asks _ _ _ (early_none _ _ _ c.requires) c.args.inner _ _ _ c.starts-starts.ensures.count_value.0 c.starts-starts.ensures.count_value.1 _ c.starts-starts.auto.mem in
     record {
       memory_words_in_bounds = a.0;
       asks = a.1;
@@ -24,5 +22,4 @@ watch-requires c =
 pub returns : goal.returns
 returns c =
     let r = c.watch.ensures in
-    let b = c in
-    watched_open _ _ _ _ _ _ _ _ _ _ _ _ _ b.requires b.starts-starts.ensures.count_value.0 b.starts-starts.ensures.count_value.1 b.starts-starts.auto.mem b.starts-starts.ensures.mem_after (r.value, r.out_after, r.mem_after)
+    watched_open _ _ _ _ _ _ _ _ _ _ _ _ _ c.requires c.starts-starts.ensures.count_value.0 c.starts-starts.ensures.count_value.1 c.starts-starts.auto.mem c.starts-starts.ensures.mem_after (r.value, r.out_after, r.mem_after)

@@ -9,43 +9,36 @@ use Rattle.fast.proofs.StartLaws.{raised}
 use Rattle.fast.proofs.StartTurns.{adjusting_start, adjusting_asks, adjusting_turn, adjusting_done}
 use Rattle.fast.proofs.adjust_cell_levels.Goals as goal
 
-to-small : (low step id level to : ℕ) → level ≡ level_of id → to ≡ adjusted low step level → to ≤ 30
-to-small low step id level to e f = omega (arith, f, adjusted_le low step level, e, level_le id)
+to_small : (low step id level to : ℕ) → level ≡ level_of id → to ≡ adjusted low step level → to ≤ 30
+to_small low step id level to e f = omega (arith, f, adjusted_le low step level, e, level_le id)
 
 up_is : (low step id level to up : ℕ) → level ≡ level_of id → to ≡ adjusted low step level → up ≡ parent_at id to → up ≡ raised low step id
 up_is low step id level to up e f g = g ∙ ap (parent_at id) (f ∙ ap (adjusted low step) e)
 
 pub loop-i-init : goal.loop-i-init
-loop-i-init c = let s = c in adjusting_start _ _ _ _ s.requires.1.0 s.requires.1.1
+loop-i-init c = adjusting_start _ _ _ _ c.requires.1.0 c.requires.1.1
 
 pub adjust_level-requires : goal.adjust_level-requires
 adjust_level-requires c = c.requires.0
 
 pub parent-up-requires : goal.parent-up-requires
-parent-up-requires c = to-small _ _ _ _ _ c.level.ensures c.adjust_level.ensures
+parent-up-requires c = to_small _ _ _ _ _ c.level.ensures c.adjust_level.ensures
 
 pub keep_start-kept-requires : goal.keep_start-kept-requires
 keep_start-kept-requires c =
-    let p = c in
-    let l = p in
-    adjusting_asks _ _ _ _ _ _ _ _ l.loop-i.invariant p.loop-i-test.true
-    (up_is _ _ _ _ _ _ p.level.ensures p.adjust_level.ensures p.parent-up.ensures)
+    adjusting_asks _ _ _ _ _ _ _ _ c.loop-i.invariant c.loop-i-test.true
+    (up_is _ _ _ _ _ _ c.level.ensures c.adjust_level.ensures c.parent-up.ensures)
 
 pub loop-i-preserved : goal.loop-i-preserved
 loop-i-preserved c =
-    let p = c in
-    let l = p in
-    adjusting_turn _ _ _ _ _ _ _ _ l.loop-i.invariant p.loop-i-test.true
-    (up_is _ _ _ _ _ _ p.level.ensures p.adjust_level.ensures p.parent-up.ensures) _ _ c.keep_start-kept.auto.mem c.keep_start-kept.ensures
+    adjusting_turn _ _ _ _ _ _ _ _ c.loop-i.invariant c.loop-i-test.true
+    (up_is _ _ _ _ _ _ c.level.ensures c.adjust_level.ensures c.parent-up.ensures) _ _ c.keep_start-kept.auto.mem c.keep_start-kept.ensures
 
 pub clear-requires : goal.clear-requires
 clear-requires c = let A = c.loop-i.invariant in omega (arith, A.few, A.within, A.room, A.len)
 
 pub shape_of-mem : goal.shape_of-mem
-shape_of-mem c =
-    c.clear.auto.mem ∙ c.loop-i.invariant.len
+shape_of-mem c = c.clear.auto.mem ∙ c.loop-i.invariant.len
 
 pub returns : goal.returns
-returns c =
-    let t = c in
-    adjusting_done _ _ _ _ _ _ _ _ t.loop-i.invariant t.loop-i-test.false c.clear.ensures
+returns c = adjusting_done _ _ _ _ _ _ _ _ c.loop-i.invariant c.loop-i-test.false c.clear.ensures

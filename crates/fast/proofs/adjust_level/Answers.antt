@@ -8,9 +8,8 @@ use Rattle.fast.proofs.adjust_level.Goals as goal
 
 pub overflow_sub-result-then-c-level : goal.overflow_sub-result-then-c-level
 overflow_sub-result-then-c-level c =
-    let t = c in
-    let s = t.args in
-    omega (arith, mod-le (s.level - s.c.min_level) s.c.level_mod, t.if-c-level.true)
+    let s = c.args in
+    omega (arith, mod-le (s.level - s.c.min_level) s.c.level_mod, c.if-c-level.true)
 
 pub returns-then-c-level : goal.returns-then-c-level
 returns-then-c-level c = sym (adjusted_high _ _ _ c.if-c-level.true)

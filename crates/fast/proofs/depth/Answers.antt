@@ -7,9 +7,9 @@ use Rattle.fast.proofs.Levels.{pair_small, depth_some, depth_none}
 use Rattle.fast.proofs.depth.Goals.{After-adjust_level}
 use Rattle.fast.proofs.depth.Goals as goal
 
-is-depth : (c : After-adjust_level) →
+is_depth : (c : After-adjust_level) →
     let s = c.args in c.adjust_level.result + 1 ≡ pair_depth s.c.min_level s.c.level_mod s.a s.b
-is-depth c = depth_some _ _ _ _ _ _ (sym c.common_ancestor_level-common.ensures ∙ c.in-Level.is) c.adjust_level.ensures
+is_depth c = depth_some _ _ _ _ _ _ (sym c.common_ancestor_level-common.ensures ∙ c.in-Level.is) c.adjust_level.ensures
 
 pub common_ancestor_level-common-requires : goal.common_ancestor_level-common-requires
 common_ancestor_level-common-requires c = record {
@@ -20,10 +20,10 @@ common_ancestor_level-common-requires c = record {
 pub overflow_add-result : goal.overflow_add-result
 overflow_add-result c =
     let s = c.args in
-    omega (arith, is-depth (goal.at.overflow_add-result c).After-adjust_level, pair_small s.c.min_level s.c.level_mod s.a s.b)
+    omega (arith, is_depth (goal.at.overflow_add-result c).After-adjust_level, pair_small s.c.min_level s.c.level_mod s.a s.b)
 
 pub returns-in-Level : goal.returns-in-Level
-returns-in-Level c = is-depth (goal.at.returns-in-Level c).After-adjust_level
+returns-in-Level c = is_depth (goal.at.returns-in-Level c).After-adjust_level
 
 pub returns-in-Nothing : goal.returns-in-Nothing
 returns-in-Nothing c = depth_none _ _ _ _ (sym c.common_ancestor_level-common.ensures ∙ c.in-Nothing.is)

@@ -18,9 +18,7 @@ contains-requires-then-k-gt0 c = cell_pos _ _ _ c.requires.2.2
 
 pub returns-then-contains-2 : goal.returns-then-contains-2
 returns-then-contains-2 c =
-    let e = c in
-    let t = e in
-    start_swap _ _ _ t.requires.0 t.if-k-gt0.true (sym e.contains.ensures ∙ e.if-contains.false) (sym c.contains-then-k-gt0.ensures ∙ c.if-contains-2.true)
+    start_swap _ _ _ c.requires.0 c.if-k-gt0.true (sym c.contains.ensures ∙ c.if-contains.false) (sym c.contains-then-k-gt0.ensures ∙ c.if-contains-2.true)
 
 pub returns : goal.returns
 returns c =

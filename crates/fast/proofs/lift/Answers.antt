@@ -14,9 +14,8 @@ up_is low top step id level least up r e f g h = h ∙ ap (parent_at id) (g ∙ 
 
 pub returns-then-takes_all_levels : goal.returns-then-takes_all_levels
 returns-then-takes_all_levels c =
-    let z = c in
-    let k = z.args.c in
-    lift_none (lifted k.min_level k.max_level k.level_mod) z.args.n z.args.mem.now (lifted_all k.min_level k.max_level k.level_mod _ _ z.requires.0.some z.requires.1.1 c.takes_all_levels.ensures c.if-takes_all_levels.true)
+    let k = c.args.c in
+    lift_none (lifted k.min_level k.max_level k.level_mod) c.args.n c.args.mem.now (lifted_all k.min_level k.max_level k.level_mod _ _ c.requires.0.some c.requires.1.1 c.takes_all_levels.ensures c.if-takes_all_levels.true)
 
 pub loop-i-init : goal.loop-i-init
 loop-i-init c = record { within = omega arith; room = c.requires.1.0; len = refl; same = refl }
@@ -26,8 +25,7 @@ adjust_level-up-requires c = c.requires.0
 
 pub parent-requires : goal.parent-requires
 parent-requires c =
-    let s = c in
-    omega (arith, s.requires.0.deep, c.adjust_level-up.ensures, adjusted_le s.args.c.min_level s.args.c.level_mod c.lesser.result, c.lesser.ensures)
+    omega (arith, c.requires.0.deep, c.adjust_level-up.ensures, adjusted_le c.args.c.min_level c.args.c.level_mod c.lesser.result, c.lesser.ensures)
 
 pub loop-i-preserved : goal.loop-i-preserved
 loop-i-preserved c =

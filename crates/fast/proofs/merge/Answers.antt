@@ -20,7 +20,7 @@ room : (h : In-merge) → h.merge.k ≤ length h.merge.mem
 room h = let G = h.merge.invariant in omega (arith, G.within, G.len, G.room)
 
 pub merge-init : goal.merge-init
-merge-init c = let s = c in going_start _ _ _ _ _ s.requires.1 s.requires.2
+merge-init c = going_start _ _ _ _ _ c.requires.1 c.requires.2
 
 pub scan-init : goal.scan-init
 scan-init c = scan_start _ _ _ _
@@ -45,13 +45,9 @@ bounds-mem-i-in-scan c = omega (arith, room (goal.at.bounds-mem-i-in-scan c).In-
 
 pub depth-d-requires : goal.depth-d-requires
 depth-d-requires c =
-    let t = c in
-    let s = t in
-    let at = s in
-    let z = at in
-    let N = at.merge.invariant.normal in
-    let C = pair_cells z.args.c.min_level z.args.c.level_mod z.requires.0.some _ _ (room (goal.at.depth-d-requires c).In-merge) N.cells N.apart _ _ _ s.scan.invariant t.scan-test.true in
-    (z.requires.0, C.0, C.1)
+    let N = c.merge.invariant.normal in
+    let C = pair_cells c.args.c.min_level c.args.c.level_mod c.requires.0.some _ _ (room (goal.at.depth-d-requires c).In-merge) N.cells N.apart _ _ _ c.scan.invariant c.scan-test.true in
+    (c.requires.0, C.0, C.1)
 
 pub overflow_add-i-in-scan : goal.overflow_add-i-in-scan
 overflow_add-i-in-scan c = omega (arith, c.scan-test.true, room (goal.at.overflow_add-i-in-scan c).In-merge)
@@ -83,26 +79,16 @@ parent-wide-requires c = omega (arith, turn_level _ _ _ _ _ _ _ c.merge.invarian
 
 pub widen-k-requires : goal.widen-k-requires
 widen-k-requires c =
-    let e = c in
-    let at = e in
-    let w = turn_wide _ _ _ _ _ _ _ at.merge.invariant _ (best (goal.at.widen-k-requires c).After-scan) e.if-deepest-low.false _ c.parent-wide.ensures in
-    (room (goal.at.widen-k-requires c).In-merge, at.merge.invariant.normal, omega (arith, turn_place _ _ _ _ _ _ _ at.merge.invariant _ (best (goal.at.widen-k-requires c).After-scan) e.if-deepest-low.false), w.0, w.1)
+    let w = turn_wide _ _ _ _ _ _ _ c.merge.invariant _ (best (goal.at.widen-k-requires c).After-scan) c.if-deepest-low.false _ c.parent-wide.ensures in
+    (room (goal.at.widen-k-requires c).In-merge, c.merge.invariant.normal, omega (arith, turn_place _ _ _ _ _ _ _ c.merge.invariant _ (best (goal.at.widen-k-requires c).After-scan) c.if-deepest-low.false), w.0, w.1)
 
 pub merge-smaller : goal.merge-smaller
 merge-smaller c =
-    let w = c in
-    let p = w in
-    let e = p in
-    let at = e in
-    (going_turn _ _ _ _ _ _ _ at.merge.invariant _ (best (goal.at.merge-smaller c).After-scan) e.if-deepest-low.false _ p.parent-wide.ensures _ _ e.merge-test.true w.widen-k.ensures.0 w.widen-k.ensures.1).0
+    (going_turn _ _ _ _ _ _ _ c.merge.invariant _ (best (goal.at.merge-smaller c).After-scan) c.if-deepest-low.false _ c.parent-wide.ensures _ _ c.merge-test.true c.widen-k.ensures.0 c.widen-k.ensures.1).0
 
 pub merge-preserved : goal.merge-preserved
 merge-preserved c =
-    let w = c in
-    let p = w in
-    let e = p in
-    let at = e in
-    (going_turn _ _ _ _ _ _ _ at.merge.invariant _ (best (goal.at.merge-preserved c).After-scan) e.if-deepest-low.false _ p.parent-wide.ensures _ _ e.merge-test.true w.widen-k.ensures.0 w.widen-k.ensures.1).1
+    (going_turn _ _ _ _ _ _ _ c.merge.invariant _ (best (goal.at.merge-preserved c).After-scan) c.if-deepest-low.false _ c.parent-wide.ensures _ _ c.merge-test.true c.widen-k.ensures.0 c.widen-k.ensures.1).1
 
 pub shape_of-mem-after-merge : goal.shape_of-mem-after-merge
 shape_of-mem-after-merge c = c.merge.invariant.len

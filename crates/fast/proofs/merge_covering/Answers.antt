@@ -6,23 +6,13 @@ pub lift-requires : goal.lift-requires
 lift-requires c = (c.requires.0, c.requires.1)
 
 pub normalize-k-requires : goal.normalize-k-requires
-normalize-k-requires c =
-    let l = c in
-    let s = l in
-    lifted_asks _ _ _ 0 _ _ s.requires.1.0 s.requires.1.1 _ l.lift.ensures l.lift.auto.mem
+normalize-k-requires c = lifted_asks _ _ _ 0 _ _ c.requires.1.0 c.requires.1.1 _ c.lift.ensures c.lift.auto.mem
 
 pub merge-requires : goal.merge-requires
 merge-requires c =
-    let k = c in
-    let l = k in
-    let s = l in
-    let a = merge_asks _ _ _ 0 _ _ s.requires.1.0 s.requires.1.1 _ l.lift.ensures _ _ k.normalize-k.ensures.0 k.normalize-k.ensures.1 in
-    (s.requires.0, a.0, a.1)
+    let a = merge_asks _ _ _ 0 _ _ c.requires.1.0 c.requires.1.1 _ c.lift.ensures _ _ c.normalize-k.ensures.0 c.normalize-k.ensures.1 in
+    (c.requires.0, a.0, a.1)
 
 pub returns : goal.returns
 returns c =
-    let m = c in
-    let k = m in
-    let l = k in
-    let s = l in
-    merge_done _ _ _ _ _ _ s.requires.1.0 s.requires.1.1 _ l.lift.ensures _ _ k.normalize-k.ensures.0 k.normalize-k.ensures.1 _ _ m.merge.ensures.0 m.merge.ensures.1
+    merge_done _ _ _ _ _ _ c.requires.1.0 c.requires.1.1 _ c.lift.ensures _ _ c.normalize-k.ensures.0 c.normalize-k.ensures.1 _ _ c.merge.ensures.0 c.merge.ensures.1

@@ -12,20 +12,15 @@ merge_covering-k-requires c = c.requires
 
 pub denormalize-requires : goal.denormalize-requires
 denormalize-requires c =
-    let m = c in
-    let s = m in
-    let d = s.requires.0 in
-    let a = covering_asks _ _ _ _ _ _ s.requires.1.0 s.requires.1.1 d.ordered _ _ m.merge_covering-k.ensures.0 m.merge_covering-k.ensures.1 in
+    let d = c.requires.0 in
+    let a = covering_asks _ _ _ _ _ _ c.requires.1.0 c.requires.1.1 d.ordered _ _ c.merge_covering-k.ensures.0 c.merge_covering-k.ensures.1 in
     (a.0, a.1, le_trans d.ordered d.deep, d.some)
 
 pub returns : goal.returns
 returns c =
-    let r = c in
-    let m = r in
-    let s = m in
-    let out = s.args.out.now in
-    let e = covering_fast _ _ _ _ _ _ s.requires.1.0 s.requires.1.1 s.requires.0.ordered _ _ m.merge_covering-k.ensures.0 m.merge_covering-k.ensures.1 in (
-      r.denormalize.ensures.0 ∙ ap (λ (l : List ℕ). room_for l out) e,
-      r.denormalize.ensures.1 ∙ ap (λ (l : List ℕ). laid_over l out) e,
-      m.merge_covering-k.ensures.1,
+    let out = c.args.out.now in
+    let e = covering_fast _ _ _ _ _ _ c.requires.1.0 c.requires.1.1 c.requires.0.ordered _ _ c.merge_covering-k.ensures.0 c.merge_covering-k.ensures.1 in (
+      c.denormalize.ensures.0 ∙ ap (λ (l : List ℕ). room_for l out) e,
+      c.denormalize.ensures.1 ∙ ap (λ (l : List ℕ). laid_over l out) e,
+      c.merge_covering-k.ensures.1,
     )

@@ -5,22 +5,14 @@ use Rattle.fast.proofs.starts.Goals as goal
 
 pub start_cells-count-requires : goal.start_cells-count-requires
 start_cells-count-requires c =
-    let b = c in
-    let z = b in
-    (z.requires.0, bounded_cells z.args.c _ _ _ _ (bounded _ _ _ _ z.requires.1 z.requires.2 b.cell_union_bound-n.ensures) (bound_cells _ z.requires.1))
+    (c.requires.0, bounded_cells c.args.c _ _ _ _ (bounded _ _ _ _ c.requires.1 c.requires.2 c.cell_union_bound-n.ensures) (bound_cells _ c.requires.1))
 
 pub copy-requires : goal.copy-requires
 copy-requires c =
-    let s = c in
-    let b = s in
-    let z = b in
-    let B = bounded _ _ _ _ z.requires.1 z.requires.2 b.cell_union_bound-n.ensures in
-    six_asks _ _ z.requires.0 z.requires.1 _ _ _ _ _ B s.start_cells-count.ensures _ c.six_words-ids.ensures
+    let B = bounded _ _ _ _ c.requires.1 c.requires.2 c.cell_union_bound-n.ensures in
+    six_asks _ _ c.requires.0 c.requires.1 _ _ _ _ _ B c.start_cells-count.ensures _ c.six_words-ids.ensures
 
 pub returns : goal.returns
 returns c =
-    let s = c in
-    let b = s in
-    let z = b in
-    let B = bounded _ _ _ _ z.requires.1 z.requires.2 b.cell_union_bound-n.ensures in
-    let r = starts_give _ _ z.requires.0 z.requires.1 _ _ _ _ _ B s.start_cells-count.ensures _ c.six_words-ids.ensures _ c.copy.ensures in record { count_value = r.0; mem_after = r.1 }
+    let B = bounded _ _ _ _ c.requires.1 c.requires.2 c.cell_union_bound-n.ensures in
+    let r = starts_give _ _ c.requires.0 c.requires.1 _ _ _ _ _ B c.start_cells-count.ensures _ c.six_words-ids.ensures _ c.copy.ensures in record { count_value = r.0; mem_after = r.1 }

@@ -12,20 +12,18 @@ use Rattle.hilbert.proofs.Fours.{digit_fours, digit_fours_in, leaf_by_fours, fou
 use Rattle.hilbert.proofs.from_face_ij.Goals.{After-four_at, After-loop-k}
 use Rattle.hilbert.proofs.from_face_ij.Goals as goal
 
-next : (c : After-four_at) → let s = c in let a = s.args in
-    PackedDigits (digit_fours a.face a.i a.j (8 - (s.loop-k.k - 1)))
-    (256 * s.loop-k.n + bit_and (c.four_at.result / 2 ^ s.loop-k.row) 255)
-    (bit_and (c.four_at.result / 2 ^ s.loop-k.row / 2 ^ 32) 24)
+next : (c : After-four_at) → let a = c.args in
+    PackedDigits (digit_fours a.face a.i a.j (8 - (c.loop-k.k - 1)))
+    (256 * c.loop-k.n + bit_and (c.four_at.result / 2 ^ c.loop-k.row) 255)
+    (bit_and (c.four_at.result / 2 ^ c.loop-k.row / 2 ^ 32) 24)
 next c =
     four_back _ _ _ _ _ _ _ (omega arith) (omega arith) c.loop-k.invariant.1
     (c.four_at.ensures ∙ ap (λ (x : ℕ). steps_word (x / 16) (x % 16)) c.four_bits.ensures)
 
-next_fits : (c : After-four_at) → let s = c in
-    256 * s.loop-k.n + bit_and (c.four_at.result / 2 ^ s.loop-k.row) 255 < 2 ^ 64
+next_fits : (c : After-four_at) → 256 * c.loop-k.n + bit_and (c.four_at.result / 2 ^ c.loop-k.row) 255 < 2 ^ 64
 next_fits c =
-    let s = c in
-    let a = s.args in
-    let m = 8 - (s.loop-k.k - 1) in
+    let a = c.args in
+    let m = 8 - (c.loop-k.k - 1) in
     let g : 2 ^ (8 * m) ≤ 2 ^ 64 = pow_mono {i = 8 * m} {j = 64} (omega arith) in
     omega (arith, (next c).places, (digit_fours_in a.face a.i a.j m).n)
 
@@ -36,8 +34,8 @@ last_is c =
     let e : c.loop-k.n ≡ (digit_fours a.face a.i a.j 8).n = c.loop-k.invariant.1.places ∙ ap (λ (k : ℕ). (digit_fours a.face a.i a.j (8 - k)).n) z in
     leaf_by_fours a.face a.i a.j c.requires.i_bound c.requires.j_bound ∙ omega (arith, e)
 
-last-small : (c : After-loop-k) → let a = c.args in leaf_of a.face a.i a.j < 12 * 2 ^ 60
-last-small c = cell_lt _ _ _ (leaf_cell _ _ _ c.requires.face_bound)
+last_small : (c : After-loop-k) → let a = c.args in leaf_of a.face a.i a.j < 12 * 2 ^ 60
+last_small c = cell_lt _ _ _ (leaf_cell _ _ _ c.requires.face_bound)
 
 pub loop-k-init : goal.loop-k-init
 unfolding digit_fours
@@ -48,9 +46,8 @@ four_at-requires c = omega (arith, c.four_bits.ensures)
 
 pub overflow_shr-four : goal.overflow_shr-four
 overflow_shr-four c =
-    let s = c in
-    let a = s.args in
-    omega (arith, s.loop-k.invariant.1.rows, (digit_fours_in a.face a.i a.j (8 - s.loop-k.k)).row)
+    let a = c.args in
+    omega (arith, c.loop-k.invariant.1.rows, (digit_fours_in a.face a.i a.j (8 - c.loop-k.k)).row)
 
 pub overflow_mul-n : goal.overflow_mul-n
 overflow_mul-n c = omega (arith, next_fits (goal.at.overflow_mul-n c).After-four_at)
@@ -62,13 +59,13 @@ pub loop-k-preserved : goal.loop-k-preserved
 loop-k-preserved c = (omega arith, next (goal.at.loop-k-preserved c).After-four_at)
 
 pub overflow_mul-result : goal.overflow_mul-result
-overflow_mul-result c = omega (arith, last_is (goal.at.overflow_mul-result c).After-loop-k, last-small (goal.at.overflow_mul-result c).After-loop-k, c.requires)
+overflow_mul-result c = omega (arith, last_is (goal.at.overflow_mul-result c).After-loop-k, last_small (goal.at.overflow_mul-result c).After-loop-k, c.requires)
 
 pub overflow_add-result : goal.overflow_add-result
-overflow_add-result c = omega (arith, last_is (goal.at.overflow_add-result c).After-loop-k, last-small (goal.at.overflow_add-result c).After-loop-k, c.requires)
+overflow_add-result c = omega (arith, last_is (goal.at.overflow_add-result c).After-loop-k, last_small (goal.at.overflow_add-result c).After-loop-k, c.requires)
 
 pub overflow_add-result-2 : goal.overflow_add-result-2
-overflow_add-result-2 c = omega (arith, last_is (goal.at.overflow_add-result-2 c).After-loop-k, last-small (goal.at.overflow_add-result-2 c).After-loop-k, c.requires)
+overflow_add-result-2 c = omega (arith, last_is (goal.at.overflow_add-result-2 c).After-loop-k, last_small (goal.at.overflow_add-result-2 c).After-loop-k, c.requires)
 
 pub returns : goal.returns
 returns c = rw (last_is (goal.at.returns c).After-loop-k) (omega (arith, c.requires))

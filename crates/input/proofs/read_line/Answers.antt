@@ -6,27 +6,21 @@ use Rattle.input.proofs.read_line.Goals as goal
 
 pub returns-then-p : goal.returns-then-p
 returns-then-p c =
-    let m = c in
-    let e = m in
-    let z = e.requires in
+    let z = c.requires in
     record {
       ready = (rw c.failure-feed.ensures (omega arith), λ y. absurd (true≢false y));
-      waiting_value = (rw (← e.line_end-end.ensures.0) m.make_room-p.ensures, left_room _ _ _ _ _ _ m.make_room-p.ensures z.2 z.3);
+      waiting_value = (rw (← c.line_end-end.ensures.0) c.make_room-p.ensures, left_room _ _ _ _ _ _ c.make_room-p.ensures z.2 z.3);
     }
 
 pub line_from-feed-requires : goal.line_from-feed-requires
 line_from-feed-requires c =
-    let m = c in
-    let e = m in
-    let z = e.requires in
-    (z.0, z.1, e.line_end-end.ensures.0, e.line_end-end.ensures.2, left_none _ _ _ _ _ _ m.make_room-p.ensures)
+    let z = c.requires in
+    (z.0, z.1, c.line_end-end.ensures.0, c.line_end-end.ensures.2, left_none _ _ _ _ _ _ c.make_room-p.ensures)
 
 pub returns : goal.returns
 returns c =
-    let m = c in
-    let e = m in
-    let z = e.requires in
+    let z = c.requires in
     record {
       ready = (c.line_from-feed.ensures.0, λ y. c.line_from-feed.ensures.1);
-      waiting_value = (rw (← e.line_end-end.ensures.0) m.make_room-p.ensures, left_room _ _ _ _ _ _ m.make_room-p.ensures z.2 z.3);
+      waiting_value = (rw (← c.line_end-end.ensures.0) c.make_room-p.ensures, left_room _ _ _ _ _ _ c.make_room-p.ensures z.2 z.3);
     }

@@ -6,9 +6,7 @@ pub returns-then-kind-eq0 : goal.returns-then-kind-eq0
 returns-then-kind-eq0 c = answered_pairs _ _ _ _ _ _ c.if-kind-eq0.true c.pairs.ensures
 
 pub returns-then-kind-eq1 : goal.returns-then-kind-eq1
-returns-then-kind-eq1 c = let g = c in
-    answered_cells _ _ _ _ _ _ g.if-kind-eq0.false g.if-kind-eq1.true c.cells.ensures
+returns-then-kind-eq1 c = answered_cells _ _ _ _ _ _ c.if-kind-eq0.false c.if-kind-eq1.true c.cells.ensures
 
 pub returns : goal.returns
-returns c = let g = c in
-    answered_set _ _ _ _ _ _ g.if-kind-eq0.false g.if-kind-eq1.false _ g.op_of.ensures c.combine.ensures
+returns c = answered_set _ _ _ _ _ _ c.if-kind-eq0.false c.if-kind-eq1.false _ c.op_of.ensures c.combine.ensures

@@ -17,9 +17,7 @@ pub put_answer-requires : goal.put_answer-requires
 put_answer-requires c = answer_fits _ _ _ _ _ _ _ c.answer_in-a.ensures
 
 pub returns-in-At : goal.returns-in-At
-returns-in-At c = let q = c in
-    list_asked _ _ q.read_question-q.result _ _ _ _ _ _ q.requires q.read_question-q.ensures _ c.answer_in-a.result _ c.in-At.is c.answer_in-a.ensures c.put_answer.ensures
+returns-in-At c = list_asked _ _ c.read_question-q.result _ _ _ _ _ _ c.requires c.read_question-q.ensures _ c.answer_in-a.result _ c.in-At.is c.answer_in-a.ensures c.put_answer.ensures
 
 pub returns-in-Bad : goal.returns-in-Bad
-returns-in-Bad c = let q = c in
-    list_bad _ _ q.read_question-q.result _ _ _ _ _ _ q.requires q.read_question-q.ensures _ c.in-Bad.is c.put_error.ensures
+returns-in-Bad c = list_bad _ _ c.read_question-q.result _ _ _ _ _ _ c.requires c.read_question-q.ensures _ c.in-Bad.is c.put_error.ensures

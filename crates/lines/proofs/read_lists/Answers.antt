@@ -16,6 +16,4 @@ pub overflow_add-result : goal.overflow_add-result
 overflow_add-result c = omega (arith, read_fits _ _ _ _ c.read_list-a.ensures, read_fits _ _ _ _ c.read_second-b.ensures)
 
 pub returns : goal.returns
-returns c = let first = c in
-    let second = c in
-    lists_read _ _ _ first.read_list-a.result second.read_second-b.result first.args.words.now first.read_list-a.new.ids second.read_second-b.new.words first.read_list-a.ensures second.read_second-b.ensures
+returns c = lists_read _ _ _ c.read_list-a.result c.read_second-b.result c.args.words.now c.read_list-a.new.ids c.read_second-b.new.words c.read_list-a.ensures c.read_second-b.ensures

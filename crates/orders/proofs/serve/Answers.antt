@@ -3,8 +3,4 @@ use Rattle.orders.proofs.Laws.{served_is}
 use Rattle.orders.proofs.serve.Goals as goal
 
 pub returns : goal.returns
-returns c =
-    let called = c in
-    let placed = called in
-    let s = placed in
-    served_is s.args.o s.args.used _ _ s.args.out.now _ _ _ _ placed.kind_of-kind.ensures placed.region_of-region.ensures called.respond.ensures
+returns c = served_is c.args.o c.args.used _ _ c.args.out.now _ _ _ _ c.kind_of-kind.ensures c.region_of-region.ensures c.respond.ensures

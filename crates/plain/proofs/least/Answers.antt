@@ -16,11 +16,11 @@ test : (m : List ℕ) (k i best : ℕ) (x y : Rec) (b t : Bool) → i ≡ suc k 
 test m k i best x y b t ei ex ey eb et is = rw (← is, ← ei, ← ex, ← ey, ← eb) et
 
 -- the record at the place i goes before the best so far, or it doesn't
-turn-new : (m : List ℕ) (i : ℕ) → 0 < i → before (get_r m (suc (i - 1))) (get_r m (least_r m (i - 1))) ≡ true → i ≡ least_r m ((i + 1) - 1)
-turn-new m i h t = let z : i ≡ suc (i - 1) = omega arith in let y : (i + 1) - 1 ≡ suc (i - 1) = omega arith in z ∙ sym (ap (least_r m) y ∙ least_new get_r before m (i - 1) t)
+turn_new : (m : List ℕ) (i : ℕ) → 0 < i → before (get_r m (suc (i - 1))) (get_r m (least_r m (i - 1))) ≡ true → i ≡ least_r m ((i + 1) - 1)
+turn_new m i h t = let z : i ≡ suc (i - 1) = omega arith in let y : (i + 1) - 1 ≡ suc (i - 1) = omega arith in z ∙ sym (ap (least_r m) y ∙ least_new get_r before m (i - 1) t)
 
-turn-old : (m : List ℕ) (best i : ℕ) → 0 < i → before (get_r m (suc (i - 1))) (get_r m (least_r m (i - 1))) ≡ false → best ≡ least_r m (i - 1) → best ≡ least_r m ((i + 1) - 1)
-turn-old m best i h t e = let y : (i + 1) - 1 ≡ suc (i - 1) = omega arith in e ∙ sym (ap (least_r m) y ∙ least_old get_r before m (i - 1) t)
+turn_old : (m : List ℕ) (best i : ℕ) → 0 < i → before (get_r m (suc (i - 1))) (get_r m (least_r m (i - 1))) ≡ false → best ≡ least_r m (i - 1) → best ≡ least_r m ((i + 1) - 1)
+turn_old m best i h t e = let y : (i + 1) - 1 ≡ suc (i - 1) = omega arith in e ∙ sym (ap (least_r m) y ∙ least_old get_r before m (i - 1) t)
 
 pub loop-i-init : goal.loop-i-init
 unfolding least_at
@@ -30,13 +30,13 @@ pub loop-i-preserved-then-goes_first : goal.loop-i-preserved-then-goes_first
 loop-i-preserved-then-goes_first c =
     let I = c.loop-i.invariant in
     let t = test _ (c.loop-i.i - 1) _ _ _ _ _ _ (omega (arith, I.some)) c.get.ensures c.get-in-loop-i.ensures c.goes_first.ensures c.if-goes_first.true I.is in
-    record { room = I.room; some = omega arith; within = omega arith; found = omega arith; is = turn-new _ _ I.some t }
+    record { room = I.room; some = omega arith; within = omega arith; found = omega arith; is = turn_new _ _ I.some t }
 
 pub loop-i-preserved : goal.loop-i-preserved
 loop-i-preserved c =
     let I = c.loop-i.invariant in
     let t = test _ (c.loop-i.i - 1) _ _ _ _ _ _ (omega (arith, I.some)) c.get.ensures c.get-in-loop-i.ensures c.goes_first.ensures c.if-goes_first.false I.is in
-    record { room = I.room; some = omega arith; within = omega arith; found = omega (arith, I.found); is = turn-old _ _ _ I.some t I.is }
+    record { room = I.room; some = omega arith; within = omega arith; found = omega (arith, I.found); is = turn_old _ _ _ I.some t I.is }
 
 pub returns : goal.returns
 returns c =

@@ -13,8 +13,7 @@ fill-requires c = (looked_done _ _ _ (sym c.in-Done.is ∙ c.look_pairs-found.en
 
 pub returns-else-out-count : goal.returns-else-out-count
 unfolding cells_result
-returns-else-out-count c = let g = c in
-    answer_done _ _ _ _ _ _ (sym g.in-Done.is ∙ g.look_pairs-found.ensures) g.if-out-count.false c.fill.ensures
+returns-else-out-count c = answer_done _ _ _ _ _ _ (sym c.in-Done.is ∙ c.look_pairs-found.ensures) c.if-out-count.false c.fill.ensures
 
 pub returns-in-Refused : goal.returns-in-Refused
 unfolding cells_result

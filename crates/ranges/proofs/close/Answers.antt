@@ -6,4 +6,4 @@ pub returns-then-joins : goal.returns-then-joins
 returns-then-joins c = close_yes _ _ _ _ _ _ c.joins.ensures c.if-joins.true
 
 pub returns : goal.returns
-returns c = let g = c in close_no _ _ _ _ _ _ _ _ g.joins.ensures g.if-joins.false c.hold.ensures
+returns c = close_no _ _ _ _ _ _ _ _ c.joins.ensures c.if-joins.false c.hold.ensures

@@ -6,4 +6,4 @@ pub returns-then-last-eq0 : goal.returns-then-last-eq0
 returns-then-last-eq0 c = hold_none _ _ _ _ c.if-last-eq0.true
 
 pub returns : goal.returns
-returns c = let g = c in hold_two _ _ _ _ _ _ g.if-last-eq0.false g.put.ensures c.put-2.ensures
+returns c = hold_two _ _ _ _ _ _ c.if-last-eq0.false c.put.ensures c.put-2.ensures

@@ -21,8 +21,7 @@ pub range_max-last-requires : goal.range_max-last-requires
 range_max-last-requires c = join_pos _ _ _ _ _ _ _ c.loop-i.invariant c.loop-i-test.true
 
 pub loop-i-preserved : goal.loop-i-preserved
-loop-i-preserved c = let g = c in
-    join_turn _ _ _ _ _ _ _ _ _ _ _ _ g.loop-i.invariant g.loop-i-test.true g.range_min-next.ensures g.close-at.ensures.0 g.close-at.ensures.1 c.open-first.ensures c.range_max-last.ensures
+loop-i-preserved c = join_turn _ _ _ _ _ _ _ _ _ _ _ _ c.loop-i.invariant c.loop-i-test.true c.range_min-next.ensures c.close-at.ensures.0 c.close-at.ensures.1 c.open-first.ensures c.range_max-last.ensures
 
 pub hold-requires : goal.hold-requires
 hold-requires c = let G = c.loop-i.invariant in omega (arith, G.low, G.within)

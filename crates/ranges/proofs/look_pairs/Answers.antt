@@ -22,15 +22,13 @@ pub count-cells-requires : goal.count-cells-requires
 count-cells-requires c = let S = pair_fine _ _ _ _ c.follows.ensures c.if-not-follows.false in (S.up, S.world)
 
 pub overflow_add-cells : goal.overflow_add-cells
-overflow_add-cells c = let g = c in
-    omega (arith, pair_room _ _ _ _ _ _ g.loop-i.invariant g.follows.ensures g.if-not-follows.false c.count-cells.ensures, (pair_fine _ _ _ _ g.follows.ensures g.if-not-follows.false).to)
+overflow_add-cells c = omega (arith, pair_room _ _ _ _ _ _ c.loop-i.invariant c.follows.ensures c.if-not-follows.false c.count-cells.ensures, (pair_fine _ _ _ _ c.follows.ensures c.if-not-follows.false).to)
 
 pub overflow_add-from : goal.overflow_add-from
 overflow_add-from c = omega (arith, (pair_fine _ _ _ _ c.follows.ensures c.if-not-follows.false).to)
 
 pub loop-i-preserved : goal.loop-i-preserved
-loop-i-preserved c = let g = c in
-    pair_on _ _ _ _ _ _ g.loop-i.invariant g.loop-i-test.true g.follows.ensures g.if-not-follows.false c.count-cells.ensures
+loop-i-preserved c = pair_on _ _ _ _ _ _ c.loop-i.invariant c.loop-i-test.true c.follows.ensures c.if-not-follows.false c.count-cells.ensures
 
 pub returns-then-i-ps : goal.returns-then-i-ps
 returns-then-i-ps c = pairs_whole _ _ _ _ c.loop-i.invariant c.if-i-ps.true

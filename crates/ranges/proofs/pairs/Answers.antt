@@ -8,18 +8,15 @@ pub has_room-requires : goal.has_room-requires
 has_room-requires c = sym c.is_valid.ensures ∙ c.if-is_valid.true
 
 pub join-requires : goal.join-requires
-join-requires c = let g = c in sym g.is_valid.ensures ∙ g.if-is_valid.true
+join-requires c = sym c.is_valid.ensures ∙ c.if-is_valid.true
 
 pub returns-then-has_room : goal.returns-then-has_room
 unfolding pairs_result
-returns-then-has_room c = let k = c in
-    let g = k in
-    tested_done _ _ _ _ g.is_valid.ensures g.if-is_valid.true _ k.has_room.ensures _ _ k.if-has_room.true c.join.ensures
+returns-then-has_room c = tested_done _ _ _ _ c.is_valid.ensures c.if-is_valid.true _ c.has_room.ensures _ _ c.if-has_room.true c.join.ensures
 
 pub returns-then-is_valid : goal.returns-then-is_valid
 unfolding pairs_result
-returns-then-is_valid c = let g = c in
-    tested_full _ _ _ _ g.is_valid.ensures g.if-is_valid.true _ c.has_room.ensures c.if-has_room.false
+returns-then-is_valid c = tested_full _ _ _ _ c.is_valid.ensures c.if-is_valid.true _ c.has_room.ensures c.if-has_room.false
 
 pub returns : goal.returns
 unfolding pairs_result

@@ -2,4 +2,4 @@
 use Rattle.region.proofs.copy_six.Goals as goal
 
 pub copy-requires : goal.copy-requires
-copy-requires c = let z = c in (z.requires.0, z.requires.1)
+copy-requires c = (c.requires.0, c.requires.1)

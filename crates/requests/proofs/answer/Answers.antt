@@ -18,21 +18,8 @@ put_tested-requires c = asked_fits _ _ _ _ _ _ c.answer_in-t.ensures.0
 
 pub returns-in-At : goal.returns-in-At
 returns-in-At c =
-    let p = c in
-    let a = p in
-    let e = a in
-    let r = e in
-    let i = r in
-    let s = i in
-    let z = s in
-    replied_asked _ _ _ _ _ _ _ _ _ _ (sym s.is_silent.ensures ∙ i.if-is_silent.false) r.read_asked-q.ensures z.requires _ a.answer_in-t.result _ _ e.in-At.is a.answer_in-t.ensures p.put_tested.ensures
+    replied_asked _ _ _ _ _ _ _ _ _ _ (sym c.is_silent.ensures ∙ c.if-is_silent.false) c.read_asked-q.ensures c.requires _ c.answer_in-t.result _ _ c.in-At.is c.answer_in-t.ensures c.put_tested.ensures
 
 pub returns-in-Bad : goal.returns-in-Bad
 returns-in-Bad c =
-    let p = c in
-    let a = p in
-    let r = a in
-    let i = r in
-    let s = i in
-    let e = s in
-    replied_bad _ _ _ _ _ _ _ _ _ _ (sym s.is_silent.ensures ∙ i.if-is_silent.false) r.read_asked-q.ensures e.requires _ a.in-Bad.is p.put_error.ensures
+    replied_bad _ _ _ _ _ _ _ _ _ _ (sym c.is_silent.ensures ∙ c.if-is_silent.false) c.read_asked-q.ensures c.requires _ c.in-Bad.is c.put_error.ensures

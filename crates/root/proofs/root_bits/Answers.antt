@@ -18,26 +18,26 @@ at_zero : 0 ≡ Answer 0
 unfolding root to_bits of_bits
 at_zero = refl
 
-at-minus-zero : 0x8000_0000_0000_0000 ≡ Answer 0x8000_0000_0000_0000
+at_minus_zero : 0x8000_0000_0000_0000 ≡ Answer 0x8000_0000_0000_0000
 unfolding root to_bits of_bits
-at-minus-zero = refl
+at_minus_zero = refl
 
-at-infinity : 0x7ff0_0000_0000_0000 ≡ Answer 0x7ff0_0000_0000_0000
+at_infinity : 0x7ff0_0000_0000_0000 ≡ Answer 0x7ff0_0000_0000_0000
 unfolding root to_bits of_bits
-at-infinity = refl
+at_infinity = refl
 
 itself : (a b : ℕ) → a ≡ Answer a → b ≡ a → b ≡ Answer b
 itself a b h e = subst (λ (x : ℕ). x ≡ Answer x) (sym e) h
 
-root-nan : root binary64 nan ≡ nan
+root_nan : root binary64 nan ≡ nan
 unfolding root
-root-nan = refl
+root_nan = refl
 
-no-root : (b : ℕ) → b < 2 ^ 64 → 0x7ff0_0000_0000_0000 < b → (b ≡ 0x8000_0000_0000_0000 → ⊥) → root binary64 (of_bits binary64 b) ≡ nan
-no-root b f h n = go (dec_lt b 0x8000_0000_0000_0000)
+no_root : (b : ℕ) → b < 2 ^ 64 → 0x7ff0_0000_0000_0000 < b → (b ≡ 0x8000_0000_0000_0000 → ⊥) → root binary64 (of_bits binary64 b) ≡ nan
+no_root b f h n = go (dec_lt b 0x8000_0000_0000_0000)
   where
     go : Dec (b < 0x8000_0000_0000_0000) → root binary64 (of_bits binary64 b) ≡ nan
-    go (yes k) = ap (root binary64) (nan_pattern b (omega arith)) ∙ root-nan
+    go (yes k) = ap (root binary64) (nan_pattern b (omega arith)) ∙ root_nan
     go (no k) = below_zero b (omega arith) f
 
 -- a subnormal value's digits, shifted up
@@ -48,8 +48,8 @@ up c = shifted c.args.b (omega arith) c.if-b-lt4503599627370496.true
 digits : (b : ℕ) → bit_and b 0xf_ffff_ffff_ffff ≡ b % 2 ^ 52
 digits b = and_mask b 52
 
-same-normal : (b : ℕ) → 2 ^ 52 ≤ b → (2 ^ 52 + bit_and b 0xf_ffff_ffff_ffff) * 2 ^ (b / 2 ^ 52 + 1073) ≡ (2 ^ 52 + b % 2 ^ 52) * 2 ^ (b / 2 ^ 52 - 1) * 2 ^ 1074
-same-normal b h =
+same_normal : (b : ℕ) → 2 ^ 52 ≤ b → (2 ^ 52 + bit_and b 0xf_ffff_ffff_ffff) * 2 ^ (b / 2 ^ 52 + 1073) ≡ (2 ^ 52 + b % 2 ^ 52) * 2 ^ (b / 2 ^ 52 - 1) * 2 ^ 1074
+same_normal b h =
     ap (λ (x : ℕ). (2 ^ 52 + x) * 2 ^ (b / 2 ^ 52 + 1073)) (digits b)
     ∙ ap (λ (x : ℕ). (2 ^ 52 + b % 2 ^ 52) * x) (ap (λ (x : ℕ). 2 ^ x) (shift b h) ∙ pow-add 2 (b / 2 ^ 52 - 1) 1074)
     ∙ sym (mul_assoc (2 ^ 52 + b % 2 ^ 52) (2 ^ (b / 2 ^ 52 - 1)) (2 ^ 1074))
@@ -61,15 +61,15 @@ pub returns-then-b-eq0 : goal.returns-then-b-eq0
 returns-then-b-eq0 c = itself 0 c.args.b at_zero c.if-b-eq0.true
 
 pub returns-then-b-eq9223372036854775808 : goal.returns-then-b-eq9223372036854775808
-returns-then-b-eq9223372036854775808 c = itself _ _ at-minus-zero c.if-b-eq9223372036854775808.true
+returns-then-b-eq9223372036854775808 c = itself _ _ at_minus_zero c.if-b-eq9223372036854775808.true
 
 pub returns-then-b-eq9218868437227405312 : goal.returns-then-b-eq9218868437227405312
-returns-then-b-eq9218868437227405312 c = itself _ _ at-infinity c.if-b-eq9218868437227405312.true
+returns-then-b-eq9218868437227405312 c = itself _ _ at_infinity c.if-b-eq9218868437227405312.true
 
 pub returns-then-b-gt9218868437227405312 : goal.returns-then-b-gt9218868437227405312
 returns-then-b-gt9218868437227405312 c =
     let b = c.args.b in
-    written_nan (root binary64 (of_bits binary64 b)) (no-root b c.ranges.b.fits c.if-b-gt9218868437227405312.true c.if-b-eq9223372036854775808.false)
+    written_nan (root binary64 (of_bits binary64 b)) (no_root b c.ranges.b.fits c.if-b-gt9218868437227405312.true c.if-b-eq9223372036854775808.false)
 
 pub overflow_sub-z : goal.overflow_sub-z
 overflow_sub-z c = let k = up (goal.at.overflow_sub-z c).Then-b-lt4503599627370496 in omega arith
@@ -114,5 +114,5 @@ returns c =
     let h : 2 ^ 52 ≤ b = c.if-b-lt4503599627370496.false in
     written_back c.root_parts-2.result (root binary64 (of_bits binary64 b)) (omega arith)
     (c.root_parts-2.ensures.value
-    ∙ ap (rooted binary64) (same-normal b h)
+    ∙ ap (rooted binary64) (same_normal b h)
     ∙ sym (ap (root binary64) (normal b h (omega arith)) ∙ root_odd binary64 (2 ^ 52 + b % 2 ^ 52) (b / 2 ^ 52 - 1) (omega arith)))

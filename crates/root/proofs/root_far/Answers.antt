@@ -12,9 +12,9 @@ use Rattle.root.proofs.root_far.Goals as goal
 held : (c : Start) → T (fits binary64 c.args.x)
 held c = passes _ c.well_formed.0.1
 
-root-nan : nan ≡ Root.root binary64 nan
+root_nan : nan ≡ Root.root binary64 nan
 unfolding Root.root
-root-nan = refl
+root_nan = refl
 
 -- past both tests x is a number that is not below zero
 number : (c : Else-x-2) → is_nan c.args.x ≡ false
@@ -24,7 +24,7 @@ read : (c : Start) (r : ℕ) → r ≡ to_bits binary64 (Root.root binary64 (of_
 read c r e = read_back c.args.x r (held c) e
 
 pub returns-then-x : goal.returns-then-x
-returns-then-x c = subst (λ (v : Float). v ≡ Root.root binary64 v) (sym (differs_from_itself c.args.x (passes _ c.if-x.true))) root-nan
+returns-then-x c = subst (λ (v : Float). v ≡ Root.root binary64 v) (sym (differs_from_itself c.args.x (passes _ c.if-x.true))) root_nan
 
 pub returns-then-x-2 : goal.returns-then-x-2
 unfolding of_bits div

@@ -7,16 +7,10 @@ pub loop-i-init : goal.loop-i-init
 loop-i-init c = record { within = omega arith; rest = refl }
 
 pub returns-then-a-i : goal.returns-then-a-i
-returns-then-a-i c =
-    let head = c in
-    compare_differ _ _ _ _ head.requires.0 head.requires.1 head.loop-i.invariant c.loop-i-test.true c.if-a-i.true
+returns-then-a-i c = compare_differ _ _ _ _ c.requires.0 c.requires.1 c.loop-i.invariant c.loop-i-test.true c.if-a-i.true
 
 pub loop-i-preserved : goal.loop-i-preserved
-loop-i-preserved c =
-    let head = c in
-    compare_turn _ _ _ _ head.requires.0 head.requires.1 head.loop-i.invariant c.loop-i-test.true c.if-a-i.false
+loop-i-preserved c = compare_turn _ _ _ _ c.requires.0 c.requires.1 c.loop-i.invariant c.loop-i-test.true c.if-a-i.false
 
 pub returns : goal.returns
-returns c =
-    let head = c in
-    compare_done _ _ _ _ head.requires.0 head.requires.1 head.loop-i.invariant c.loop-i-test.false
+returns c = compare_done _ _ _ _ c.requires.0 c.requires.1 c.loop-i.invariant c.loop-i-test.false

@@ -8,17 +8,13 @@ pub has_room-requires : goal.has_room-requires
 has_room-requires c = (sym c.is_pick_list.ensures ∙ c.if-is_pick_list.true, sym c.is_pick_list-then-is_pick_list.ensures ∙ c.if-is_pick_list-2.true)
 
 pub sweep-requires : goal.sweep-requires
-sweep-requires c = let g = c in
-    (pick_list _ (sym g.is_pick_list.ensures ∙ g.if-is_pick_list.true), pick_list _ (sym g.is_pick_list-then-is_pick_list.ensures ∙ g.if-is_pick_list-2.true))
+sweep-requires c = (pick_list _ (sym c.is_pick_list.ensures ∙ c.if-is_pick_list.true), pick_list _ (sym c.is_pick_list-then-is_pick_list.ensures ∙ c.if-is_pick_list-2.true))
 
 pub returns-then-has_room : goal.returns-then-has_room
-returns-then-has_room c = let k = c in
-    let g = k in
-    answer_done _ _ _ _ _ g.is_pick_list.ensures g.if-is_pick_list.true _ g.is_pick_list-then-is_pick_list.ensures g.if-is_pick_list-2.true _ k.has_room.ensures _ _ k.if-has_room.true c.sweep.ensures
+returns-then-has_room c = answer_done _ _ _ _ _ c.is_pick_list.ensures c.if-is_pick_list.true _ c.is_pick_list-then-is_pick_list.ensures c.if-is_pick_list-2.true _ c.has_room.ensures _ _ c.if-has_room.true c.sweep.ensures
 
 pub returns-then-is_pick_list-2 : goal.returns-then-is_pick_list-2
-returns-then-is_pick_list-2 c = let g = c in
-    answer_full _ _ _ _ _ g.is_pick_list.ensures g.if-is_pick_list.true _ g.is_pick_list-then-is_pick_list.ensures g.if-is_pick_list-2.true _ c.has_room.ensures c.if-has_room.false
+returns-then-is_pick_list-2 c = answer_full _ _ _ _ _ c.is_pick_list.ensures c.if-is_pick_list.true _ c.is_pick_list-then-is_pick_list.ensures c.if-is_pick_list-2.true _ c.has_room.ensures c.if-has_room.false
 
 pub returns-then-is_pick_list : goal.returns-then-is_pick_list
 returns-then-is_pick_list c = answer_second _ _ _ _ _ c.is_pick_list.ensures c.if-is_pick_list.true _ c.is_pick_list-then-is_pick_list.ensures c.if-is_pick_list-2.false

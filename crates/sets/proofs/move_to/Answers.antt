@@ -7,7 +7,7 @@ pub returns-then-q-c : goal.returns-then-q-c
 returns-then-q-c c = move_none _ _ _ c.if-q-c.true
 
 pub cursor_at-requires : goal.cursor_at-requires
-cursor_at-requires c = let g = c in cells_on g.args.l.now g.args.c.at g.requires.0
+cursor_at-requires c = cells_on c.args.l.now c.args.c.at c.requires.0
 
 pub returns-then-c : goal.returns-then-c
 returns-then-c c = c.cursor_at.ensures ∙ move_past _ c.args.c _ c.if-q-c.false c.if-c.true

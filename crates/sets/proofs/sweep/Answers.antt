@@ -34,14 +34,12 @@ pub move_to-second-requires : goal.move_to-second-requires
 move_to-second-requires c = let G = c.loop-p.invariant.second in (G.ahead.cells, G.within)
 
 pub loop-p-smaller : goal.loop-p-smaller
-loop-p-smaller c = let k = c in
-    let G = k.loop-p.invariant in
-    let o = sweep_on _ _ k.loop-p.first k.loop-p.second _ _ G.first G.second k.loop-p-test.true c.lesser-q.ensures in
+loop-p-smaller c = let G = c.loop-p.invariant in
+    let o = sweep_on _ _ c.loop-p.first c.loop-p.second _ _ G.first G.second c.loop-p-test.true c.lesser-q.ensures in
     omega (arith, o.0, o.1)
 
 pub loop-p-preserved : goal.loop-p-preserved
-loop-p-preserved c = let k = c in
-    sweep_turn _ _ _ _ _ k.loop-p.first k.loop-p.second _ _ _ _ _ _ _ _ _ _ k.loop-p.invariant k.loop-p-test.true c.wants-want.ensures c.lesser-q.ensures c.write_done-at.ensures c.open_from-s.ensures c.move_to-first.ensures c.move_to-second.ensures
+loop-p-preserved c = sweep_turn _ _ _ _ _ c.loop-p.first c.loop-p.second _ _ _ _ _ _ _ _ _ _ c.loop-p.invariant c.loop-p-test.true c.wants-want.ensures c.lesser-q.ensures c.write_done-at.ensures c.open_from-s.ensures c.move_to-first.ensures c.move_to-second.ensures
 
 pub tile-requires : goal.tile-requires
 tile-requires c = let G = c.loop-p.invariant in (G.up, G.world, omega (arith, G.up, G.world, G.low))

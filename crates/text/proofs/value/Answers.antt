@@ -22,11 +22,10 @@ loop-i-init c = (omega arith, omega arith, refl)
 
 pub returns-then-is_over : goal.returns-then-is_over
 returns-then-is_over c =
-    let h = c in
-    let s = h.args.s.now in
-    let limit = h.args.limit in
-    let o : limit < h.loop-i.number * h.args.base + c.digit-d.result = ltb-true _ _ (sym c.is_over.ensures ∙ c.if-is_over.true) in
-    c.bad.ensures ∙ sym (ap (limited limit _) h.loop-i.invariant.2 ∙ value_over limit _ _ _ s h.loop-i.i h.requires (omega arith) (omega (arith, c.digit-d.ensures)))
+    let s = c.args.s.now in
+    let limit = c.args.limit in
+    let o : limit < c.loop-i.number * c.args.base + c.digit-d.result = ltb-true _ _ (sym c.is_over.ensures ∙ c.if-is_over.true) in
+    c.bad.ensures ∙ sym (ap (limited limit _) c.loop-i.invariant.2 ∙ value_over limit _ _ _ s c.loop-i.i c.requires (omega arith) (omega (arith, c.digit-d.ensures)))
 
 pub overflow_mul-number : goal.overflow_mul-number
 overflow_mul-number c = let k = within (goal.at.overflow_mul-number c).Else-is_over in omega arith
@@ -36,10 +35,9 @@ overflow_add-number c = let k = within (goal.at.overflow_add-number c).Else-is_o
 
 pub loop-i-preserved : goal.loop-i-preserved
 loop-i-preserved c =
-    let h = c in
-    let s = h.args.s.now in
-    let base = h.args.base in
-    (omega arith, within (goal.at.loop-i-preserved c).Else-is_over, h.loop-i.invariant.2 ∙ value_go base _ s h.loop-i.i (omega arith) ∙ ap (λ (d : ℕ). value_from base (h.loop-i.number * base + d) (drop (h.loop-i.i + 1) s)) (sym c.digit-d.ensures))
+    let s = c.args.s.now in
+    let base = c.args.base in
+    (omega arith, within (goal.at.loop-i-preserved c).Else-is_over, c.loop-i.invariant.2 ∙ value_go base _ s c.loop-i.i (omega arith) ∙ ap (λ (d : ℕ). value_from base (c.loop-i.number * base + d) (drop (c.loop-i.i + 1) s)) (sym c.digit-d.ensures))
 
 pub returns : goal.returns
 returns c =

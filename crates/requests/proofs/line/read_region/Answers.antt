@@ -7,14 +7,7 @@ returns-then-which-eq0 c = region_cap _ _ _ c.read_shape-which.result c.read_sha
 
 pub returns-then-which-eq1 : goal.returns-then-which-eq1
 returns-then-which-eq1 c =
-    let i = c in
-    let r = i in
-    region_cell _ _ _ r.read_shape-which.result r.read_shape-which.ensures _ _ i.if-which-eq0.false c.if-which-eq1.true c.read_cell.ensures
+    region_cell _ _ _ c.read_shape-which.result c.read_shape-which.ensures _ _ c.if-which-eq0.false c.if-which-eq1.true c.read_cell.ensures
 
 pub returns : goal.returns
-returns c =
-    let r = c in
-    let i = r in
-    let f = i in
-    let s = f in
-    region_list _ _ _ s.read_shape-which.result s.read_shape-which.ensures _ _ _ f.if-which-eq0.false i.if-which-eq1.false r.read_ids.ensures
+returns c = region_list _ _ _ c.read_shape-which.result c.read_shape-which.ensures _ _ _ c.if-which-eq0.false c.if-which-eq1.false c.read_ids.ensures
