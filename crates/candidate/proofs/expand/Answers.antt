@@ -1,5 +1,4 @@
 -- `expand` meets its contract: one level below min, else level_mod.
--- the depth in the two arms
 use mathlib.Core.Path.{◌≡◌, ◌∙◌, subst}
 use Prim.Native.Nat.{ℕ, ◌+◌, ◌≤◌}
 use native.Mathlib.Omega.{arith}
@@ -9,6 +8,7 @@ use Rattle.run.proofs.Looks.{depth_low, depth_high}
 use Rattle.candidate.proofs.expand.Goals.{Else-level-q, Then-level-q}
 use Rattle.candidate.proofs.expand.Goals as goal
 
+-- the depth in the two arms
 below : (c : Then-level-q) → let a = c.args in depth (a.q) a.id ≡ 1
 below c = let a = c.args in depth_low (a.q) a.id (omega (arith, c.level.ensures))
 

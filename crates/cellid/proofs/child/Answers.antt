@@ -1,9 +1,9 @@
--- the child's offset is less than twice the lowest bit
 use Rattle.std.proofs.Common.{ℕ, ◌+◌, ◌-◌, ◌*◌, ◌/◌, ◌^◌, ◌<◌, ◌≤◌, ap, mul-le-mul_right, arith}
 use Rattle.cellid.specs.CellId.{child_of}
 use Rattle.cellid.proofs.Laws.{low_le, low_room}
 use Rattle.cellid.proofs.child.Goals as goal
 
+-- the child's offset is less than twice the lowest bit
 offset : (k low : ℕ) → k < 4 → (2 * k + 1) * (low / 4) ≤ 7 * (low / 4)
 offset k low h = mul-le-mul_right (low / 4) (omega arith)
 

@@ -1,5 +1,4 @@
 -- `records::goes_first` meets its contract.
--- the two differ; they are equal, and the rest decides; there is no rest
 use mathlib.Core.Path.{◌≡◌, refl, sym, ◌∙◌}
 use mathlib.Core.Bool.{Bool, false}
 use mathlib.Core.Logic.{by_cases}
@@ -15,6 +14,7 @@ use Rattle.records.specs.declared.Rec.{Rec}
 use Rattle.records.specs.Records.{cost_r, from_r, key, before}
 use Rattle.records.proofs.goes_first.Goals as goal
 
+-- the two differ; they are equal, and the rest decides; there is no rest
 decided : (a b : ℕ) (r : Bool) → (a ≡ b → ⊥) → ltb a b ≡ first a b r
 decided a b r n = by_cases (dec_lt a b) (λ h. lt-ltb a b h ∙ sym (first_lt a b r h)) (λ h. le-ltb a b (omega arith) ∙ sym (first_gt a b r (omega arith)))
 

@@ -1,5 +1,4 @@
 -- `replies::put_name`: where there is no room for sixteen digits, the name is put as far as it goes.
--- what was put at the beginning of the array is read there again
 use mathlib.Core.Path.{◌≡◌, sym, ap, ◌∙◌}
 use mathlib.Core.List.{List}
 use Prim.Native.Nat.{ℕ, ◌+◌}
@@ -13,6 +12,7 @@ use Rattle.tokens.proofs.Names.{name_short}
 use Rattle.replies.specs.Write.{Wrote}
 use Rattle.replies.proofs.put_name.Goals as goal
 
+-- what was put at the beginning of the array is read there again
 module _ (form : Form) (id : ℕ) (d : List ℕ) (k : ℕ) (e : k ≡ 0 + length (name_of form id)) (w : d ≡ sets (replicate 16 0) 0 (name_of form id)) where
   read_back : take k d ≡ name_of form id
   read_back = ap (take k) (w ∙ sets-eq (name_of form id) (replicate 16 0) 0 (omega (arith, name_short form id))) ∙ take_at (name_of form id) _ k (omega arith)

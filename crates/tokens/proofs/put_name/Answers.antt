@@ -1,5 +1,4 @@
 -- `tokens::put_name`: what is left of the id by a shift has the name's digits.
--- no digit, nothing written
 use mathlib.Core.Path.{◌≡◌, refl, ap, ◌∙◌}
 use mathlib.Core.List.{List, [], ◌∷◌}
 use Prim.Native.Nat.{ℕ, ◌+◌, ◌-◌, ◌*◌, ◌/◌, ◌^◌, ◌<◌}
@@ -12,6 +11,7 @@ use Rattle.tokens.specs.Tokens.{name_of}
 use Rattle.tokens.proofs.Names.{name_digits}
 use Rattle.tokens.proofs.put_name.Goals as goal
 
+-- no digit, nothing written
 none : (at n : ℕ) (s d : List ℕ) → n ≡ length s → n ≡ 0 → (at ≡ at + length s) × (d ≡ sets d at s)
 none at n [] d e z = (omega arith, refl)
 none at n (b ∷ s) d e z = absurd (omega arith)
