@@ -1,6 +1,6 @@
 -- Ancestors: the parent at a level is the one cell of that level that contains a cell; the common ancestor's level is the deepest at which both
 -- have the same ancestor, and the code's bits tell it.
-use Rattle.std.proofs.Common.{◌≡◌, ℕ, zero, suc, ◌+◌, ◌-◌, ◌*◌, ◌/◌, ◌^◌, ◌<◌, ◌≤◌, max, Bool, true, false, ◌&&◌, eqb, ltb, leb, ◌⊎◌, ◌↔◌, sym, refl, ap, ◌∙◌, subst, inl, inr, ⊎_elim, true≢false, le_trans, le_of_suc-le-suc, mul_assoc, mul_comm, div-lt_iff_lt-mul, eq-or-lt_of_le, arith, pow_pos, pow_mono, pow-add, ltb-true, le-ltb, lt-ltb, eq-eqb, eqb-true, le-leb, leb-true}
+use Rattle.std.proofs.Common.{◌≡◌, ℕ, Option, Some, None, zero, suc, ◌+◌, ◌-◌, ◌*◌, ◌/◌, ◌^◌, ◌<◌, ◌≤◌, max, Bool, true, false, ◌&&◌, eqb, ltb, leb, ◌⊎◌, ◌↔◌, sym, refl, ap, ◌∙◌, subst, inl, inr, ⊎_elim, true≢false, le_trans, le_of_suc-le-suc, mul_assoc, mul_comm, div-lt_iff_lt-mul, eq-or-lt_of_le, arith, pow_pos, pow_mono, pow-add, ltb-true, le-ltb, lt-ltb, eq-eqb, eqb-true, le-leb, leb-true}
 use mathlib.Core.Bool.{and-eq-true_iff}
 use native.Mathlib.Nat.{eq_of_mul-eq-mul_right}
 use lib.Bits.{bit_xor, xor_lt}
@@ -8,7 +8,6 @@ use lib.Count.{count_leading_zeros, leading_top, leading_le}
 use lib.Pow.{pow-lt}
 use borrow.Author.Tests.{lt-leb}
 use Rattle.cellid.specs.CellId.{Cell, IsCell, id_of, bit_at, place_at, face_of, low_bit, level_of, parent_at, holds, SameAt, same_at, deepest, common_level}
-use Rattle.cellid.specs.declared.Common.{Common}
 use Rattle.cellid.proofs.Leaves.{holds_deeper, Depth, deeper, higher, depth}
 use Rattle.cellid.proofs.Bits.{xor_below}
 use Rattle.cellid.proofs.Parts.{face_same}
@@ -73,14 +72,14 @@ parents← a b N e = rw (twice N, e)
 abbrev pub Found : ℕ → ℕ → ℕ → ℕ → Type 0
 Found a b n K = SameAt a b K × ((N : ℕ) → N ≤ n → SameAt a b N → N ≤ K)
 
-deepest_level : (a b n K : ℕ) (t : Bool) → deepest a b n ≡ Common.Level K → same_at a b n ≡ t → Found a b n K
+deepest_level : (a b n K : ℕ) (t : Bool) → deepest a b n ≡ Some K → same_at a b n ≡ t → Found a b n K
 unfolding deepest
 deepest_level a b zero K true e s =
-    let k : 0 ≡ K = let f : Common.Level 0 ≡ Common.Level K = rw (deepest, s) at e in cc in
+    let k : 0 ≡ K = let f : Some 0 ≡ Some K = rw (deepest, s) at e in cc in
     (subst (SameAt a b) k (same→ a b 0 s), λ N h g. omega arith)
-deepest_level a b zero K false e s = let f : Common.Nothing ≡ Common.Level K = rw (deepest, s) at e in let z : ◌≡◌ {A = ℕ} 0 1 = cc in absurd (omega arith)
+deepest_level a b zero K false e s = let f : None ≡ Some K = rw (deepest, s) at e in let z : ◌≡◌ {A = ℕ} 0 1 = cc in absurd (omega arith)
 deepest_level a b (suc n) K true e s =
-    let k : suc n ≡ K = let f : Common.Level (suc n) ≡ Common.Level K = rw (deepest, s) at e in cc in
+    let k : suc n ≡ K = let f : Some (suc n) ≡ Some K = rw (deepest, s) at e in cc in
     (subst (SameAt a b) k (same→ a b (suc n) s), λ N h g. omega arith)
 deepest_level a b (suc n) K false e s =
     let r = deepest_level a b n K (same_at a b n) (rw (deepest, s) at e) refl in (
@@ -92,27 +91,27 @@ deepest_level a b (suc n) K false e s =
     )
 
 -- a level found is one at which both have the same ancestor, and none deeper is
-pub common_level_lem : (a b K : ℕ) → common_level a b ≡ Common.Level K → SameAt a b K × ((N : ℕ) → SameAt a b N → N ≤ K)
+pub common_level_lem : (a b K : ℕ) → common_level a b ≡ Some K → SameAt a b K × ((N : ℕ) → SameAt a b N → N ≤ K)
 unfolding common_level
 common_level_lem a b K e = let r = deepest_level a b 30 K (same_at a b 30) e refl in (r.0, λ N g. r.1 N (le_trans g.0 (level_le a)) g)
 
-deepest_nothing : (a b n : ℕ) → deepest a b n ≡ Common.Nothing → same_at a b 0 ≡ false
+deepest_nothing : (a b n : ℕ) → deepest a b n ≡ None → same_at a b 0 ≡ false
 unfolding deepest
-deepest_nothing a b zero e = no_true _ (λ t. let f : Common.Level 0 ≡ Common.Nothing = rw (deepest, t) at e in let z : ◌≡◌ {A = ℕ} 0 1 = cc in omega arith)
+deepest_nothing a b zero e = no_true _ (λ t. let f : Some 0 ≡ None = rw (deepest, t) at e in let z : ◌≡◌ {A = ℕ} 0 1 = cc in omega arith)
 deepest_nothing a b (suc n) e =
-    let f = no_true (same_at a b (suc n)) (λ t. let g : Common.Level (suc n) ≡ Common.Nothing = rw (deepest, t) at e in let z : ◌≡◌ {A = ℕ} 0 1 = cc in omega arith) in
+    let f = no_true (same_at a b (suc n)) (λ t. let g : Some (suc n) ≡ None = rw (deepest, t) at e in let z : ◌≡◌ {A = ℕ} 0 1 = cc in omega arith) in
     deepest_nothing a b n (rw (deepest, f) at e)
 
-level_or_nothing : (c : Common) → ((K : ℕ) × (c ≡ Common.Level K)) ⊎ (c ≡ Common.Nothing)
-level_or_nothing (Common.Level K) = inl (K, refl)
-level_or_nothing Common.Nothing = inr refl
+level_or_nothing : (c : Option ℕ) → ((K : ℕ) × (c ≡ Some K)) ⊎ (c ≡ None)
+level_or_nothing (Some K) = inl (K, refl)
+level_or_nothing None = inr refl
 
 -- there is none exactly where the faces differ
-pub common_nothing : (a b : ℕ) → (common_level a b ≡ Common.Nothing) ↔ (face_of a ≡ face_of b → ⊥)
+pub common_nothing : (a b : ℕ) → (common_level a b ≡ None) ↔ (face_of a ≡ face_of b → ⊥)
 common_nothing a b = (
   λ e f. true≢false (sym (same← a b 0 (omega arith, omega arith, parents← a b 0 f)) ∙ deepest_nothing a b 30 (unfold common_level in e)),
   λ d. ⊎_elim
-      (λ (r : (K : ℕ) × (common_level a b ≡ Common.Level K)).
+      (λ (r : (K : ℕ) × (common_level a b ≡ Some K)).
       let s = (common_level_lem a b r.0 r.1).0 in absurd (d (face_same a b r.0 (le_trans s.0 (level_le a)) (parents→ a b r.0 s.2))))
       (λ e. e)
       (level_or_nothing (common_level a b)),
@@ -164,26 +163,26 @@ top_zeros s m z h =
 same_zeros : (a b N : ℕ) → Cell a → Cell b → N ≤ 30 → same_at a b N ≡ ltb (63 - count_leading_zeros 64 (spread a b)) (place_at N + 1)
 same_zeros a b N c d h = same_spread a b N c d h ∙ top_zeros (spread a b) (place_at N + 1) (omega (arith, low_pos a)) (spread_lt a b c d)
 
-deepest_none : (a b n : ℕ) → ((N : ℕ) → N ≤ n → same_at a b N ≡ false) → deepest a b n ≡ Common.Nothing
+deepest_none : (a b n : ℕ) → ((N : ℕ) → N ≤ n → same_at a b N ≡ false) → deepest a b n ≡ None
 unfolding deepest
 deepest_none a b zero f = rw (deepest, f 0 (omega arith))
 deepest_none a b (suc n) f = rw (deepest, f (suc n) (omega arith)) (deepest_none a b n (λ N h. f N (omega arith)))
 
-deepest_at : (a b K n : ℕ) → K ≤ n → ((N : ℕ) → N ≤ n → same_at a b N ≡ leb N K) → deepest a b n ≡ Common.Level K
+deepest_at : (a b K n : ℕ) → K ≤ n → ((N : ℕ) → N ≤ n → same_at a b N ≡ leb N K) → deepest a b n ≡ Some K
 unfolding deepest
-deepest_at a b K zero h f = let e : 0 ≡ K = omega arith in rw (deepest, f 0 (omega arith), le-leb 0 K (omega arith)) (ap Common.Level e)
+deepest_at a b K zero h f = let e : 0 ≡ K = omega arith in rw (deepest, f 0 (omega arith), le-leb 0 K (omega arith)) (ap Some e)
 deepest_at a b K (suc n) h f = ⊎_elim
-    (λ (e : K ≡ suc n). rw (deepest, f (suc n) (omega arith), le-leb (suc n) K (omega arith)) (ap Common.Level (sym e)))
+    (λ (e : K ≡ suc n). rw (deepest, f (suc n) (omega arith), le-leb (suc n) K (omega arith)) (ap Some (sym e)))
     (λ (l : K < suc n). rw (deepest, f (suc n) (omega arith), lt-leb (suc n) K l) (deepest_at a b K n (le_of_suc-le-suc l) (λ N g. f N (omega arith))))
     (eq-or-lt_of_le h)
 
 -- fewer than three zeros above: the bits of the face differ
-pub common_none : (a b : ℕ) → Cell a → Cell b → count_leading_zeros 64 (spread a b) < 3 → common_level a b ≡ Common.Nothing
+pub common_none : (a b : ℕ) → Cell a → Cell b → count_leading_zeros 64 (spread a b) < 3 → common_level a b ≡ None
 unfolding common_level
 common_none a b c d h = deepest_none a b 30 (λ N g. same_zeros a b N c d g ∙ le-ltb (63 - count_leading_zeros 64 (spread a b)) (place_at N + 1) (omega arith))
 
 -- else two for each level beneath the face's three
-pub common_some : (a b : ℕ) → Cell a → Cell b → 3 ≤ count_leading_zeros 64 (spread a b) → common_level a b ≡ Common.Level ((count_leading_zeros 64 (spread a b) - 3) / 2)
+pub common_some : (a b : ℕ) → Cell a → Cell b → 3 ≤ count_leading_zeros 64 (spread a b) → common_level a b ≡ Some ((count_leading_zeros 64 (spread a b) - 3) / 2)
 unfolding common_level
 common_some a b c d h =
     let z = count_leading_zeros 64 (spread a b) in

@@ -1,9 +1,7 @@
 -- Cell ids, by the published S2 rules (paper 01, "Cell ids"). A cell is a level L, 0 to 30, and a place p among the 6 * 4 ^ L cells of that level,
 -- in the order of the curve; its id is (2 * p + 1) * 4 ^ (30 - L). Powers of four are written as powers of two.
-use Rattle.std.specs.Prelude.{◌≡◌, ℕ, zero, suc, ◌+◌, ◌-◌, ◌*◌, ◌/◌, ◌%◌, ◌^◌, ◌<◌, ◌≤◌, Bool, true, false, ◌&&◌, List, [], ◌∷◌, ◌==◌, nat_le}
+use Rattle.std.specs.Prelude.{◌≡◌, ℕ, zero, suc, ◌+◌, ◌-◌, ◌*◌, ◌/◌, ◌%◌, ◌^◌, ◌<◌, ◌≤◌, Bool, true, false, ◌&&◌, List, [], ◌∷◌, ◌==◌, nat_le, Option, Some, None}
 use Rattle.std.specs.Int.Count.{count_trailing_zeros}
-use Rattle.cellid.specs.declared.Common.{Common}
-use Rattle.cellid.specs.declared.Common.TheVariants.{Level, Nothing}
 
 -- ---- what an id is
 
@@ -122,9 +120,9 @@ unfoldable pub same_at : ℕ → ℕ → ℕ → Bool
 same_at a b N = nat_le N (level_of a) && (nat_le N (level_of b) && parent_at a N == parent_at b N)
 
 -- the deepest level, from n upwards, at which both have the same ancestor
-unfoldable pub deepest : ℕ → ℕ → ℕ → Common
-deepest a b zero = elim (same_at a b 0) [ true ↦ Level 0 | false ↦ Nothing ]
-deepest a b (suc n) = elim (same_at a b (suc n)) [ true ↦ Level (suc n) | false ↦ deepest a b n ]
+unfoldable pub deepest : ℕ → ℕ → ℕ → Option ℕ
+deepest a b zero = elim (same_at a b 0) [ true ↦ Some 0 | false ↦ None ]
+deepest a b (suc n) = elim (same_at a b (suc n)) [ true ↦ Some (suc n) | false ↦ deepest a b n ]
 
-unfoldable pub common_level : ℕ → ℕ → Common
+unfoldable pub common_level : ℕ → ℕ → Option ℕ
 common_level a b = deepest a b 30

@@ -9,7 +9,7 @@ pub fn lsb(id: u64) -> u64
     requires { 0 < id }
     ensures { result ≡ low_bit id }
 {
-    id & std::num::wrapping_sub_u64(0, id)
+    id & id.wrapping_neg()
 }
 
 // The weight of the lowest set bit of a level's ids.
@@ -31,22 +31,18 @@ pub fn face(id: u64) -> u64
 pub fn level(id: u64) -> u64
     ensures { result ≡ level_of id }
 {
-    let half = u64::trailing_zeros(id) >> 1;
-    if half <= 30 { (30 - half) as u64 } else { 0 }
+    let half = id.trailing_zeros() >> 1;
+    if half <= 30 { u64::from(30 - half) } else { 0 }
 }
+
+const FACES: u64 = 6;
 
 // Whether a number is a cell: face 0 to 5, and the lowest set bit at an even place, 0 to 60.
 pub fn is_valid(id: u64) -> bool
     ensures { result ≡ valid_id id }
 {
-    if face(id) > 5 {
-        return false;
-    }
-    let low = u64::trailing_zeros(id);
-    if low > 60 {
-        return false;
-    }
-    low % 2 == 0
+    let low = id.trailing_zeros();
+    face(id) < FACES && low <= 60 && low % 2 == 0
 }
 
 // The ancestor at a level, of a cell at that level or below.
@@ -55,7 +51,7 @@ pub fn parent(id: u64, level: u64) -> u64
     ensures { result ≡ parent_at id level }
 {
     let low = lsb_for_level(level);
-    (id & std::num::wrapping_sub_u64(0, low)) | low
+    (id & low.wrapping_neg()) | low
 }
 
 // The cell one level up, of a cell that is no face.
@@ -64,7 +60,7 @@ pub fn immediate_parent(id: u64) -> u64
     ensures { result ≡ parent_at id (level_of id - 1) }
 {
     let low = lsb(id) << 2;
-    (id & std::num::wrapping_sub_u64(0, low)) | low
+    (id & low.wrapping_neg()) | low
 }
 
 // The k-th child, 0 to 3, of a cell that is no leaf.
@@ -98,11 +94,7 @@ pub fn contains(a: u64, b: u64) -> bool
     requires { 0 < a }
     ensures { result ≡ holds a b }
 {
-    if range_min(a) <= b {
-        b <= range_max(a)
-    } else {
-        false
-    }
+    range_min(a) <= b && b <= range_max(a)
 }
 
 // Whether a and b have a leaf in common.
@@ -111,37 +103,20 @@ pub fn intersects(a: u64, b: u64) -> bool
     requires b_nonzero { 0 < b }
     ensures { result ≡ meets a b }
 {
-    if range_min(b) <= range_max(a) {
-        range_min(a) <= range_max(b)
-    } else {
-        false
-    }
+    range_min(b) <= range_max(a) && range_min(a) <= range_max(b)
 }
 
-fn larger(a: u64, b: u64) -> u64
-    ensures { result ≡ max a b }
-{
-    if a < b { b } else { a }
-}
-
-// The level of the deepest common ancestor; nothing, where the faces differ.
-#[derive(Clone, Copy)]
-pub enum Common {
-    Level(u64),
-    Nothing,
-}
-
+// The level of the deepest common ancestor; none, where the faces differ.
 // Read from the highest bit at which the two differ, or the higher of their lowest set bits.
-pub fn common_ancestor_level(a: u64, b: u64) -> Common
+pub fn common_ancestor_level(a: u64, b: u64) -> Option<u64>
     requires cell { Cell a }
     requires cell_2 { Cell b }
     ensures { result ≡ common_level a b }
 {
-    let bits = larger(larger(a ^ b, lsb(a)), lsb(b));
-    let above = u64::leading_zeros(bits);
+    let above = (a ^ b).max(lsb(a)).max(lsb(b)).leading_zeros();
     if above < 3 {
-        Common::Nothing
+        None
     } else {
-        Common::Level(((above - 3) >> 1) as u64)
+        Some(u64::from((above - 3) >> 1))
     }
 }

@@ -5,9 +5,9 @@ use Prim.Native.Nat.{ℕ, ◌+◌, ◌-◌, ◌*◌, ◌/◌, ◌%◌, ◌≤◌
 use native.Mathlib.Nat.{div-add-mod', mul-mod_left, zero-mod, mod-le, mod-one}
 use native.Mathlib.Decide.{dec_lt}
 use native.Mathlib.Omega.{arith}
+use Rattle.std.specs.Prelude.{Option, Some, None}
 use borrow.Author.Tests.{le-leb, lt-leb}
 use Rattle.cellid.specs.CellId.{Cell, IsCell, level_of, parent_at, common_level}
-use Rattle.cellid.specs.declared.Common.{Common}
 use Rattle.cellid.proofs.Laws.{level_cell, level_le}
 use Rattle.cellid.proofs.Ancestors.{parent_cell, parent_holds, common_level_lem}
 use Rattle.cellunion.specs.CellUnion.{lo, hi}
@@ -131,10 +131,10 @@ joint_at a b K M c d f g e h =
     let n = nested c h q p (nest q.cell p.cell) in
     record { first = p; second = (omega (arith, r.0, n.0), omega (arith, r.1, n.1)) }
 
-depth_joint : (low step : ℕ) (x : Common) (a b : ℕ) → Cell a → Cell b → common_level a b ≡ x → 0 < depth_of low step x → Joint a b (depth_of low step x - 1)
+depth_joint : (low step : ℕ) (x : Option ℕ) (a b : ℕ) → Cell a → Cell b → common_level a b ≡ x → 0 < depth_of low step x → Joint a b (depth_of low step x - 1)
 unfolding depth_of
-depth_joint low step Common.Nothing a b c d e h = absurd (omega arith)
-depth_joint low step (Common.Level K) a b c d e h =
+depth_joint low step None a b c d e h = absurd (omega arith)
+depth_joint low step (Some K) a b c d e h =
     let s = (common_level_lem a b K e).0 in
     let z : adjusted low step K + 1 - 1 ≡ adjusted low step K = omega arith in
     rw z (joint_at a b K (adjusted low step K) c d s.0 s.1 s.2 (adjusted_le low step K))
@@ -144,19 +144,19 @@ pub pair_joint : (low step a b : ℕ) → Cell a → Cell b → 0 < pair_depth l
 unfolding pair_depth
 pair_joint low step a b c d h = depth_joint low step (common_level a b) a b c d refl h
 
-depth_small : (low step : ℕ) (x : Common) (a b : ℕ) → common_level a b ≡ x → depth_of low step x ≤ 31
+depth_small : (low step : ℕ) (x : Option ℕ) (a b : ℕ) → common_level a b ≡ x → depth_of low step x ≤ 31
 unfolding depth_of
-depth_small low step Common.Nothing a b e = omega arith
-depth_small low step (Common.Level K) a b e = omega (arith, (common_level_lem a b K e).0.0, level_le a, adjusted_le low step K)
+depth_small low step None a b e = omega arith
+depth_small low step (Some K) a b e = omega (arith, (common_level_lem a b K e).0.0, level_le a, adjusted_le low step K)
 
 pub pair_small : (low step a b : ℕ) → pair_depth low step a b ≤ 31
 unfolding pair_depth
 pair_small low step a b = depth_small low step (common_level a b) a b refl
 
-pub depth_some : (low step a b K r : ℕ) → common_level a b ≡ Common.Level K → r ≡ adjusted low step K → r + 1 ≡ pair_depth low step a b
+pub depth_some : (low step a b K r : ℕ) → common_level a b ≡ Some K → r ≡ adjusted low step K → r + 1 ≡ pair_depth low step a b
 unfolding pair_depth depth_of
 depth_some low step a b K r e f = rw (e, f)
 
-pub depth_none : (low step a b : ℕ) → common_level a b ≡ Common.Nothing → 0 ≡ pair_depth low step a b
+pub depth_none : (low step a b : ℕ) → common_level a b ≡ None → 0 ≡ pair_depth low step a b
 unfolding pair_depth depth_of
 depth_none low step a b e = rw e

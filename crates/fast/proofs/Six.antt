@@ -5,9 +5,9 @@ use mathlib.Core.List.{List, map}
 use Prim.Native.Nat.{ℕ, zero, suc, ◌-◌, ◌≤◌, ◌<◌, min}
 use native.Mathlib.Decide.{dec_lt, ℕ_discrete}
 use native.Mathlib.Omega.{arith}
+use Rattle.std.specs.Prelude.{Option, Some, None}
 use lib.ListN.{length, get_or}
 use Rattle.cellid.specs.CellId.{Cell, face_of, first_leaf, last_leaf, common_level}
-use Rattle.cellid.specs.declared.Common.{Common}
 use Rattle.cellid.proofs.Ancestors.{common_nothing}
 use Rattle.order.specs.Order.{All}
 use Rattle.order.proofs.OrderLaws.{all_get}
@@ -28,10 +28,10 @@ best_most low step l (suc k) i h = by_cases (dec_lt (best_of low step l k).depth
     (λ t. rw (best_same low step l k (omega arith)) (by_cases (ℕ_discrete i k) (λ e. rw e (omega arith)) (λ e. best_most low step l k i (omega arith))))
 
 -- a pair of no depth shares no face
-depth_zero : (low step : ℕ) (x : Common) → depth_of low step x ≤ 0 → x ≡ Common.Nothing
+depth_zero : (low step : ℕ) (x : Option ℕ) → depth_of low step x ≤ 0 → x ≡ None
 unfolding depth_of
-depth_zero low step Common.Nothing h = refl
-depth_zero low step (Common.Level K) h = absurd (omega arith)
+depth_zero low step None h = refl
+depth_zero low step (Some K) h = absurd (omega arith)
 
 no_face : (low step a b : ℕ) → pair_depth low step a b ≤ 0 → face_of a ≡ face_of b → ⊥
 unfolding pair_depth

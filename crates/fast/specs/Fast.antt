@@ -1,8 +1,7 @@
 -- Fast coverings and start cells: paper 01's "Lists" and "The run: Start", the latter as paper 02's request b has it. `low` and `top` are the request's min and max level, `step` its
 -- level_mod, `cells` its max_cells.
-use Rattle.std.specs.Prelude.{true, false, List, [], ◌∷◌, ◌++◌, map, ℕ, zero, suc, ◌+◌, ◌-◌, ◌%◌, min, length, take, drop, get_or, ltb, leb}
+use Rattle.std.specs.Prelude.{true, false, Option, Some, None, List, [], ◌∷◌, ◌++◌, map, ℕ, zero, suc, ◌+◌, ◌-◌, ◌%◌, min, length, take, drop, get_or, ltb, leb}
 use Rattle.cellid.specs.CellId.{level_of, parent_at, holds, common_level}
-use Rattle.cellid.specs.declared.Common.{Common}
 use Rattle.cellunion.specs.CellUnion.{normalise, rev}
 use Rattle.denorm.specs.Denorm.{denormalise}
 use Rattle.fast.specs.declared.Best.{Best}
@@ -18,9 +17,9 @@ unfoldable pub lifted : ℕ → ℕ → ℕ → ℕ → ℕ
 lifted low top step id = parent_at id (adjusted low step (min (level_of id) top))
 
 -- One more than the adjusted level of the common ancestor, and 0 for none: no ancestor counts as -1.
-unfoldable pub depth_of : ℕ → ℕ → Common → ℕ
-depth_of low step Common.Nothing = 0
-depth_of low step (Common.Level L) = adjusted low step L + 1
+unfoldable pub depth_of : ℕ → ℕ → Option ℕ → ℕ
+depth_of low step None = 0
+depth_of low step (Some L) = adjusted low step L + 1
 
 unfoldable pub pair_depth : ℕ → ℕ → ℕ → ℕ → ℕ
 pair_depth low step a b = depth_of low step (common_level a b)

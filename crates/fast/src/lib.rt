@@ -54,8 +54,8 @@ fn depth(c: RegionCoverer, a: u64, b: u64) -> u64
 {
     let common = cellid::common_ancestor_level(a, b);
     match common {
-        cellid::Common::Level(level) => adjust_level(c, level) + 1,
-        cellid::Common::Nothing => 0,
+        Some(level) => adjust_level(c, level) + 1,
+        None => 0,
     }
 }
 

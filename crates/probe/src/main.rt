@@ -10,7 +10,6 @@ ghost use Rattle.input.specs.Feed.{Ready};
 
 use bars::Bar;
 use cell::{Cap, Cell};
-use cellid::Common;
 use cellunion::Laid;
 use hilbert::FaceIj;
 use input::{Feed, Found, Streams};
@@ -84,11 +83,7 @@ fn of_numbers(k: u64, a: u64, g: Cap) -> u64 {
 fn common_level(a: u64, b: u64) -> u64
     requires { CellId.Cell b }
 {
-    let level = cellid::common_ancestor_level(cell_id(a), b);
-    match level {
-        Common::Level(n) => n,
-        Common::Nothing => NOTHING,
-    }
+    cellid::common_ancestor_level(cell_id(a), b).unwrap_or(NOTHING)
 }
 
 fn grid_number(g: FaceIj, i: u64) -> u64 {

@@ -13,5 +13,5 @@ returns c = let id = c.args.id in
     let l : u.0 < 30 = omega (arith, u.2.level) in
     let low : (c.lsb-low.result * 2 ^ 2) % 2 ^ 64 ≡ bit_at u.0 = ap (λ (n : ℕ). (n * 2 ^ 2) % 2 ^ 64) (c.lsb-low.ensures ∙ low_cell id (u.0 + 1) u.1 u.2) ∙ shl_two u.0 l in
     let lv : level_of id - 1 ≡ u.0 = omega (arith, level_cell id (u.0 + 1) u.1 u.2) in
-    let n : c.wrapping_sub_u64.result ≡ 2 ^ 64 - bit_at u.0 = omega (arith, c.wrapping_sub_u64.ensures, c.wrapping_sub_u64.type_inv, low, pow_pos (place_at u.0)) in
+    let n : c.wrapping_neg.result ≡ 2 ^ 64 - bit_at u.0 = omega (arith, c.wrapping_neg.ensures, c.wrapping_neg.type_inv, low, pow_pos (place_at u.0)) in
     rw lv (ap₂ (λ (x y : ℕ). bit_or (bit_and id x) y) n low ∙ parent_is id u.0 (omega arith) c.ranges.id.fits)

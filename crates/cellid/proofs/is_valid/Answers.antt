@@ -1,16 +1,13 @@
-use Rattle.std.proofs.Common.{le-leb}
-use borrow.Author.Tests.{lt-leb}
+-- is_valid
+use Rattle.std.proofs.Common.{arith}
+use Rattle.std.proofs.lemmas.Bool.Decides.{nat_tests}
 use Rattle.cellid.specs.CellId.{valid_id}
 use Rattle.cellid.proofs.is_valid.Goals as goal
 
-pub returns-then-face-gt5 : goal.returns-then-face-gt5
+pub returns-then-low-le60 : goal.returns-then-low-le60
 unfolding valid_id
-returns-then-face-gt5 c = rw (← c.face.ensures, lt-leb _ _ c.if-face-gt5.true)
+returns-then-low-le60 c = grind (arith, nat_tests)
 
-pub returns-then-low-gt60 : goal.returns-then-low-gt60
+pub returns-else-low-le60 : goal.returns-else-low-le60
 unfolding valid_id
-returns-then-low-gt60 c = rw (← c.face.ensures, le-leb _ _ c.if-face-gt5.false, lt-leb _ _ c.if-low-gt60.true)
-
-pub returns : goal.returns
-unfolding valid_id
-returns c = rw (← c.face.ensures, le-leb _ _ c.if-face-gt5.false, le-leb _ _ c.if-low-gt60.false)
+returns-else-low-le60 c = grind (arith, nat_tests)

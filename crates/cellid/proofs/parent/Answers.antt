@@ -8,6 +8,7 @@ pub returns : goal.returns
 returns c =
     let id = c.args.id in
     let L = c.args.level in
-    let e : c.lsb_for_level-low.result ≡ bit_at L = c.lsb_for_level-low.ensures in
-    let n : c.wrapping_sub_u64.result ≡ 2 ^ 64 - bit_at L = omega (arith, c.wrapping_sub_u64.ensures, c.wrapping_sub_u64.type_inv, e, pow_pos (2 * (30 - L))) in
+    let low = c.lsb_for_level-low.result in
+    let e : low ≡ bit_at L = c.lsb_for_level-low.ensures in
+    let n : c.wrapping_neg.result ≡ 2 ^ 64 - bit_at L = omega (arith, c.wrapping_neg.ensures, c.wrapping_neg.type_inv, e, pow_pos (2 * (30 - L))) in
     ap₂ (λ (x y : ℕ). bit_or (bit_and id x) y) n e ∙ parent_is id L c.requires c.ranges.id.fits

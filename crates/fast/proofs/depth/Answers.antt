@@ -9,7 +9,7 @@ use Rattle.fast.proofs.depth.Goals as goal
 
 is_depth : (c : After-adjust_level) →
     let s = c.args in c.adjust_level.result + 1 ≡ pair_depth s.c.min_level s.c.level_mod s.a s.b
-is_depth c = depth_some _ _ _ _ _ _ (sym c.common_ancestor_level-common.ensures ∙ c.in-Level.is) c.adjust_level.ensures
+is_depth c = depth_some _ _ _ _ _ _ (sym c.common_ancestor_level-common.ensures ∙ c.in-Some.is) c.adjust_level.ensures
 
 pub common_ancestor_level-common-requires : goal.common_ancestor_level-common-requires
 common_ancestor_level-common-requires c = record {
@@ -22,8 +22,8 @@ overflow_add-result c =
     let s = c.args in
     omega (arith, is_depth (goal.at.overflow_add-result c).After-adjust_level, pair_small s.c.min_level s.c.level_mod s.a s.b)
 
-pub returns-in-Level : goal.returns-in-Level
-returns-in-Level c = is_depth (goal.at.returns-in-Level c).After-adjust_level
+pub returns-in-Some : goal.returns-in-Some
+returns-in-Some c = is_depth (goal.at.returns-in-Some c).After-adjust_level
 
-pub returns-in-Nothing : goal.returns-in-Nothing
-returns-in-Nothing c = depth_none _ _ _ _ (sym c.common_ancestor_level-common.ensures ∙ c.in-Nothing.is)
+pub returns-in-None : goal.returns-in-None
+returns-in-None c = depth_none _ _ _ _ (sym c.common_ancestor_level-common.ensures ∙ c.in-None.is)
