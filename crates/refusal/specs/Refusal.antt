@@ -1,5 +1,5 @@
 -- The papers' refusals by their numbers. Quoted words are the papers'.
-use Rattle.std.specs.Prelude.{ℕ}
+use Rattle.std.specs.Prelude.{ℕ, Result, Ok, Err}
 use Rattle.refusal.specs.declared.Refusal.{Refusal}
 
 abbrev pub number_of : Refusal → ℕ
@@ -22,3 +22,8 @@ number_of Refusal.SecondList = 16  -- the second is none
 number_of Refusal.SetTooLong = 17  -- their answer is longer than the output
 number_of Refusal.NotRanges = 25  -- "input outside these rules"
 number_of Refusal.RangesTooLong = 26  -- "answer longer than the output"
+
+-- the number that is told of an answer: "0" for a success, else that of the refusal
+abbrev pub number_told : {A : Type 0} → Result A Refusal → ℕ
+number_told (Ok a) = 0
+number_told (Err r) = number_of r

@@ -2,7 +2,7 @@
 #![tactic(auto)]
 
 ghost use Rattle.std.specs.Prelude.{◌≡◌};
-ghost use Rattle.refusal.specs.Refusal.{number_of};
+ghost use Rattle.refusal.specs.Refusal.{number_of, number_told};
 
 // Why a call is refused, in the order of the numbers.
 #[derive(Clone, Copy, PartialEq, Eq)]
@@ -54,5 +54,15 @@ impl Refusal {
             Refusal::NotRanges => 25,
             Refusal::RangesTooLong => 26,
         }
+    }
+}
+
+// The number of an answer: 0 for a success, else the refusal's.
+pub fn number<T: Drop>(answer: Result<T, Refusal>) -> u64
+    ensures { result ≡ number_told answer }
+{
+    match answer {
+        Ok(_) => 0,
+        Err(refusal) => refusal.number(),
     }
 }
