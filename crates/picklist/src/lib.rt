@@ -53,15 +53,10 @@ pub fn look_at(list: &[u64], id: u64, whole: bool) -> Sight
     Sight::Outside
 }
 
-// What the four children of a valid id that is no leaf are to a list, one after another.
+// What the four children of a valid id that is no leaf are to a list.
 pub fn look_children(list: &[u64], id: u64, whole: bool) -> Sights
     requires { (is_pick_list list.now ≡ true) × Cell id × (level_of id < 30) }
     ensures { result ≡ sights_of (sight_of (list_meets list.now) (list_holds list.now) whole) id }
 {
-    sight::four(
-        look_at(list, cellid::child(id, 0), whole),
-        look_at(list, cellid::child(id, 1), whole),
-        look_at(list, cellid::child(id, 2), whole),
-        look_at(list, cellid::child(id, 3), whole),
-    )
+    sight::look_children_by(id, move |child| look_at(list, child, whole))
 }

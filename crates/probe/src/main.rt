@@ -130,8 +130,8 @@ fn number_of(k: u64, a: u64, g: Cap, id: u64, c: Cell, i: u64) -> u64
     match k {
         7 => common_level(a, id),
         8 => cell::contains_point(c, g.center) as u64,
-        9 => sight::is_inside(cap::look_at(g, id, true)) as u64,
-        10 => sight::is_passing(cap::look_at(g, id, false)) as u64,
+        9 => cap::look_at(g, id, true).is_inside() as u64,
+        10 => cap::look_at(g, id, false).passes() as u64,
         11 => grid_number(hilbert::face_ij_orientation(id), i),
         12 => cap_number(cell::cap_bound(c), i),
         13 => axis(cell::vertex(c, i / 3), i % 3),
@@ -358,11 +358,7 @@ fn put_look(g: Region, list: &[u64], id: u64, page: &mut Page) -> usize
     requires { (in_domain (area_of g list.now) ≡ true) × CellId.Cell id }
 {
     let n = replies::put_decimal(page, 0, sight_number(region::look_at(g, list, id, true)));
-    let m = put_number(
-        page,
-        n,
-        sight::is_passing(region::look_at(g, list, id, false)) as u64,
-    );
+    let m = put_number(page, n, region::look_at(g, list, id, false).passes() as u64);
     put_children(g, list, id, page, m)
 }
 
@@ -376,8 +372,8 @@ fn put_region(k: u64, c: RegionCoverer, g: Region, list: &[u64], id: u64, page: 
     match k {
         16 => put_bound(g, list, page),
         17 => put_starts(c, g, list, page),
-        21 => put_truth(page, sight::is_inside(region::look_at(g, list, id, true))),
-        22 => put_truth(page, sight::is_passing(region::look_at(g, list, id, false))),
+        21 => put_truth(page, region::look_at(g, list, id, true).is_inside()),
+        22 => put_truth(page, region::look_at(g, list, id, false).passes()),
         _ => put_look(g, list, id, page),
     }
 }

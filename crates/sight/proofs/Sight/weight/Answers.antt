@@ -1,8 +1,8 @@
--- `sight::weight` meets its contract.
+-- `sight::Sight::weight` meets its contract.
 use mathlib.Core.Path.{refl}
 use native.Mathlib.Omega.{arith}
 use Rattle.cellid.specs.CellId.{one}
-use Rattle.sight.proofs.weight.Goals as goal
+use Rattle.sight.proofs.Sight.weight.Goals as goal
 
 pub returns-in-Outside : goal.returns-in-Outside
 unfolding one
