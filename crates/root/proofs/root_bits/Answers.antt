@@ -1,5 +1,6 @@
 -- `root::root_bits` meets its contract. Assumes nothing.
 use Rattle.std.proofs.Common.{◌≡◌, ℕ, ◌+◌, ◌-◌, ◌*◌, ◌/◌, ◌%◌, ◌^◌, ◌<◌, ◌≤◌, sym, refl, ap, ◌∙◌, subst, mul_assoc, arith, pow-add}
+use mathlib.Core.Logic.{inl, inr}
 use native.Mathlib.Decide.{dec_lt}
 use lib.Bits.{bit_and, and_mask}
 use lib.Count.{count_leading_zeros}
@@ -8,7 +9,7 @@ use Rattle.root.specs.Root.{root, rooted}
 use Rattle.root.proofs.Patterns.{normal, subnormal, root_odd}
 use Rattle.root.proofs.Signs.{nan_pattern, written_nan, below_zero, written_back}
 use Rattle.root.proofs.Shifts.{Shifted, shifted, same_number}
-use Rattle.root.proofs.root_bits.Goals.{Then-b-lt4503599627370496}
+use Rattle.root.proofs.root_bits.Goals.{In-1-to-4503599627370495}
 use Rattle.root.proofs.root_bits.Goals as goal
 
 abbrev Answer : ℕ → ℕ
@@ -41,8 +42,14 @@ no_root b f h n = go (dec_lt b 0x8000_0000_0000_0000)
     go (no k) = below_zero b (omega arith) f
 
 -- a subnormal value's digits, shifted up
-up : (c : Then-b-lt4503599627370496) → Shifted c.args.b (count_leading_zeros 64 c.args.b - 11)
-up c = shifted c.args.b (omega arith) c.if-b-lt4503599627370496.true
+small : (c : In-1-to-4503599627370495) → c.args.b < 2 ^ 52
+small c = grind (arith)
+
+above : (c : In-1-to-4503599627370495) → 0 < c.args.b
+above c = grind (arith)
+
+up : (c : In-1-to-4503599627370495) → Shifted c.args.b (count_leading_zeros 64 c.args.b - 11)
+up c = shifted c.args.b (above c) (small c)
 
 -- a normal value's digits, with the leading one
 digits : (b : ℕ) → bit_and b 0xf_ffff_ffff_ffff ≡ b % 2 ^ 52
@@ -57,62 +64,60 @@ same_normal b h =
     shift : (b : ℕ) → 2 ^ 52 ≤ b → b / 2 ^ 52 + 1073 ≡ b / 2 ^ 52 - 1 + 1074
     shift b h = omega arith
 
-pub returns-then-b-eq0 : goal.returns-then-b-eq0
-returns-then-b-eq0 c = itself 0 c.args.b at_zero c.if-b-eq0.true
+pub returns-in-0 : goal.returns-in-0
+returns-in-0 c = elim c.in-0.is [
+  | inl e ↦ itself 0 c.args.b at_zero e
+  | inr (inl e) ↦ itself _ _ at_infinity e
+  | inr (inr e) ↦ itself _ _ at_minus_zero e
+]
 
-pub returns-then-b-eq9223372036854775808 : goal.returns-then-b-eq9223372036854775808
-returns-then-b-eq9223372036854775808 c = itself _ _ at_minus_zero c.if-b-eq9223372036854775808.true
-
-pub returns-then-b-eq9218868437227405312 : goal.returns-then-b-eq9218868437227405312
-returns-then-b-eq9218868437227405312 c = itself _ _ at_infinity c.if-b-eq9218868437227405312.true
-
-pub returns-then-b-gt9218868437227405312 : goal.returns-then-b-gt9218868437227405312
-returns-then-b-gt9218868437227405312 c =
+pub returns-in_default : goal.returns-in_default
+returns-in_default c =
     let b = c.args.b in
-    written_nan (root binary64 (of_bits binary64 b)) (no_root b c.ranges.b.fits c.if-b-gt9218868437227405312.true c.if-b-eq9223372036854775808.false)
+    written_nan (root binary64 (of_bits binary64 b)) (no_root b c.ranges.b.fits (grind (arith)) (grind (arith)))
 
 pub overflow_sub-z : goal.overflow_sub-z
-overflow_sub-z c = let k = up (goal.at.overflow_sub-z c).Then-b-lt4503599627370496 in omega arith
+overflow_sub-z c = let k = up c in omega arith
 
 pub overflow_cast-z : goal.overflow_cast-z
-overflow_cast-z c = let k = up (goal.at.overflow_cast-z c).Then-b-lt4503599627370496 in omega arith
+overflow_cast-z c = let k = up c in omega arith
 
 pub overflow_shl-b : goal.overflow_shl-b
-overflow_shl-b c = let k = up (goal.at.overflow_shl-b c).Then-b-lt4503599627370496 in omega arith
+overflow_shl-b c = let k = up c in omega arith
 
-pub overflow_cast-z-then-b-lt4503599627370496 : goal.overflow_cast-z-then-b-lt4503599627370496
-overflow_cast-z-then-b-lt4503599627370496 c = let k = up (goal.at.overflow_cast-z-then-b-lt4503599627370496 c).Then-b-lt4503599627370496 in omega arith
+pub overflow_cast-z-in-1-to-4503599627370495 : goal.overflow_cast-z-in-1-to-4503599627370495
+overflow_cast-z-in-1-to-4503599627370495 c = let k = up c in omega arith
 
-pub overflow_sub-z-then-b-lt4503599627370496 : goal.overflow_sub-z-then-b-lt4503599627370496
-overflow_sub-z-then-b-lt4503599627370496 c = let k = up (goal.at.overflow_sub-z-then-b-lt4503599627370496 c).Then-b-lt4503599627370496 in omega arith
+pub overflow_sub-z-in-1-to-4503599627370495 : goal.overflow_sub-z-in-1-to-4503599627370495
+overflow_sub-z-in-1-to-4503599627370495 c = let k = up c in omega arith
 
 pub root_parts-requires : goal.root_parts-requires
-root_parts-requires c =
-    let k = up (goal.at.root_parts-requires c).Then-b-lt4503599627370496 in
-    (rw k.exact k.lo, rw k.exact k.hi, omega arith, omega arith)
+root_parts-requires c = let k = up c in (rw k.exact k.lo, rw k.exact k.hi, omega arith, omega arith)
 
-pub returns-then-b-lt4503599627370496 : goal.returns-then-b-lt4503599627370496
-returns-then-b-lt4503599627370496 c =
+pub returns-in-1-to-4503599627370495 : goal.returns-in-1-to-4503599627370495
+returns-in-1-to-4503599627370495 c =
     let b = c.args.b in
     let z = count_leading_zeros 64 b - 11 in
-    let k = up (goal.at.returns-then-b-lt4503599627370496 c).Then-b-lt4503599627370496 in
-    let h : b < 2 ^ 52 = c.if-b-lt4503599627370496.true in
+    let k = up (goal.at.returns-in-1-to-4503599627370495 c).In-1-to-4503599627370495 in
+    let h = small (goal.at.returns-in-1-to-4503599627370495 c).In-1-to-4503599627370495 in
+    let a = above (goal.at.returns-in-1-to-4503599627370495 c).In-1-to-4503599627370495 in
     written_back c.root_parts.result (root binary64 (of_bits binary64 b)) (omega arith)
     (c.root_parts.ensures.value
     ∙ ap (rooted binary64) (ap (λ (x : ℕ). x * 2 ^ (1074 - z)) k.exact ∙ same_number b z (omega arith))
-    ∙ sym (ap (root binary64) (subnormal b h) ∙ root_odd binary64 b 0 (omega arith)))
+    ∙ sym (ap (root binary64) (subnormal b h) ∙ root_odd binary64 b 0 a))
 
 pub overflow_add-b : goal.overflow_add-b
 overflow_add-b c = omega (arith, digits c.args.b)
 
-pub root_parts-requires-2 : goal.root_parts-requires-2
-root_parts-requires-2 c = omega (arith, digits c.args.b)
+pub root_parts-requires-in-4503599627370496-to-9218868437227405311 : goal.root_parts-requires-in-4503599627370496-to-9218868437227405311
+root_parts-requires-in-4503599627370496-to-9218868437227405311 c = omega (arith, digits c.args.b)
 
-pub returns : goal.returns
-returns c =
+pub returns-in-4503599627370496-to-9218868437227405311 : goal.returns-in-4503599627370496-to-9218868437227405311
+returns-in-4503599627370496-to-9218868437227405311 c =
     let b = c.args.b in
-    let h : 2 ^ 52 ≤ b = c.if-b-lt4503599627370496.false in
-    written_back c.root_parts-2.result (root binary64 (of_bits binary64 b)) (omega arith)
-    (c.root_parts-2.ensures.value
+    let h : 2 ^ 52 ≤ b = grind (arith) in
+    let r = c.root_parts-in-4503599627370496-to-9218868437227405311 in
+    written_back r.result (root binary64 (of_bits binary64 b)) (omega arith)
+    (r.ensures.value
     ∙ ap (rooted binary64) (same_normal b h)
     ∙ sym (ap (root binary64) (normal b h (omega arith)) ∙ root_odd binary64 (2 ^ 52 + b % 2 ^ 52) (b / 2 ^ 52 - 1) (omega arith)))

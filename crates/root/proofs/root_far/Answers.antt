@@ -37,5 +37,5 @@ pub float_from_bits-result : goal.float_from_bits-result
 unfolding of_bits
 float_from_bits-result c = no_nan c.args.x c.root_bits.result (number (goal.at.float_from_bits-result c).Else-x-2) c.if-x-2.false (read (goal.at.float_from_bits-result c).Start c.root_bits.result c.root_bits.ensures)
 
-pub returns : goal.returns
-returns c = read (goal.at.returns c).Start c.root_bits.result c.root_bits.ensures
+pub returns-else-x-2 : goal.returns-else-x-2
+returns-else-x-2 c = read (goal.at.returns-else-x-2 c).Start c.root_bits.result c.root_bits.ensures

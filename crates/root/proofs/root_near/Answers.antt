@@ -1,5 +1,5 @@
 -- `root::root_near` meets its contract, whatever the guess: the test says that s is the whole part of the root of m. Assumes nothing.
-use Rattle.std.proofs.Common.{◌≡◌, ℕ, ◌+◌, ◌*◌, ◌/◌, ◌%◌, ◌^◌, ◌<◌, ◌≤◌, mul-le-mul, arith, w64, Fits}
+use Rattle.std.proofs.Common.{ℕ, ◌+◌, ◌-◌, ◌*◌, ◌/◌, ◌%◌, ◌^◌, ◌<◌, ◌≤◌, mul-le-mul, arith, w64, Fits}
 use lib.Bits.{bit_and, mask_lt}
 use lib.Ieee.{binary64, to_bits}
 use Rattle.root.specs.Root.{Near}
@@ -22,8 +22,8 @@ known c = digits c.args.b c.requires
 first_lt : (g : ℕ) → first g < 2 ^ 27
 first_lt g = omega arith
 
-whole_part : (m s d : ℕ) → s < 2 ^ 27 → (d + s * s) % 2 ^ 64 ≡ m → d ≤ 2 * s → (s * s ≤ m) × (m < (s + 1) * (s + 1))
-whole_part m s d h e k = omega (arith, mul-le-mul h h)
+whole_part : (m s : ℕ) → m + 2 ≤ 2 ^ 54 → s < 2 ^ 27 → (m + (2 ^ 64 - s * s)) % 2 ^ 64 ≤ 2 * s → (s * s ≤ m) × (m < (s + 1) * (s + 1))
+whole_part m s b h k = omega (arith, mul-le-mul h h)
 
 fits : (m q : ℕ) → m + 2 ≤ 2 ^ 54 → Near (m * 2 ^ 52) q → Fits w64 (0x3fe0_0000_0000_0000 + q)
 fits m q h near = omega (arith, q_hi m q h near)
@@ -44,15 +44,15 @@ rounded-requires c =
     let k = known (goal.at.rounded-requires c).Start in
     record {
       bound = (k.lo, k.hi);
-      s_bound = whole_part _ _ _ (first_lt (to_bits binary64 c.guess-r.result)) c.wrapping_sub_u64.ensures.value c.if-wrapping_sub_u64-s.true;
+      s_bound = whole_part _ _ k.hi (first_lt (to_bits binary64 c.guess-r.result)) c.if-m-s.true;
     }
 
 pub overflow_add-result : goal.overflow_add-result
 overflow_add-result c = fits _ _ (known (goal.at.overflow_add-result c).Start).hi c.rounded.ensures
 
-pub returns-then-wrapping_sub_u64-s : goal.returns-then-wrapping_sub_u64-s
-returns-then-wrapping_sub_u64-s c =
-    answer _ _ _ c.requires (known (goal.at.returns-then-wrapping_sub_u64-s c).Start) c.rounded.ensures
+pub returns-then-m-s : goal.returns-then-m-s
+returns-then-m-s c =
+    answer _ _ _ c.requires (known (goal.at.returns-then-m-s c).Start) c.rounded.ensures
 
 pub rounded_root-requires : goal.rounded_root-requires
 rounded_root-requires c = let k = known (goal.at.rounded_root-requires c).Start in (k.lo, k.hi)

@@ -44,5 +44,5 @@ overflow_add-result c = let k = known (goal.at.overflow_add-result c).Start in o
 pub returns-then-c-h : goal.returns-then-c-h
 returns-then-c-h c = let k = known (goal.at.returns-then-c-h c).Start in up _ _ _ _ k.square c.if-c-h.true (omega arith)
 
-pub returns : goal.returns
-returns c = let k = known (goal.at.returns c).Start in mid _ _ _ _ k.square c.if-c-h.false k.c_lt
+pub returns-else-c-h : goal.returns-else-c-h
+returns-else-c-h c = let k = known (goal.at.returns-else-c-h c).Start in mid _ _ _ _ k.square c.if-c-h.false k.c_lt
