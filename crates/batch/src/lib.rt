@@ -148,12 +148,11 @@ pub fn read_order(line: &[u8]) -> OrderRead
     let coverer = requests::with_edition(numbers, a.edition);
     let cap = g.cap;
     let allowance = requests::allowance_of(a.allowance);
-    let aside = totals::none();
     let order = Order {
         number: 0,
         count: 0,
         steps: 0,
-        aside,
+        aside: Totals::NONE,
         fast: word.value == 2,
         inner: word.value == 1,
         cell: g.cell,

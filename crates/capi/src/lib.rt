@@ -33,8 +33,8 @@ fn tell(a: Answer, count: &mut u64, steps: &mut u64, aside: &mut [u64; 6]) -> u6
 {
     *count = a.count as u64;
     *steps = a.steps as u64;
-    let t = a.aside;
-    *aside = [t.at0, t.at1, t.at2, t.at3, t.at4, t.at5];
+    let six = a.aside.six;
+    *aside = six;
     a.number
 }
 

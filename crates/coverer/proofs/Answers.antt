@@ -20,7 +20,7 @@ use Rattle.coverer.proofs.Runs.{waiting, idle, unless_queued, run_after}
 -- the totals that are counted are the defined ones
 pub six_are : (E : Engine) (T : Task) {m : List ℕ} {t : Tally} {s : State} → Holds E T m t s → t.aside ≡ aside_six s
 unfolding aside_six
-six_are E T {m} {t} {s} H = totals_by_lem t.aside (aside_from s) (λ j. (H.at j).aside)
+six_are E T {m} {t} {s} H = totals_by_lem t.aside (aside_from s) H.six (λ j. (H.at j).aside)
 
 module _ (E : Engine) (T : Task) (l : List ℕ) (k : ℕ) (m m₁ : List ℕ) (r : Stage) (C : Comes E T (after (in_edition T) l k) m m₁ r) where
   abbrev o : Outcome

@@ -7,7 +7,7 @@ use Prim.Native.Nat.{ℕ, zero, suc, ◌+◌, ◌-◌, ◌^◌, ◌≤◌, ◌<�
 use native.Mathlib.Numerals.{add-one}
 use native.Mathlib.Decide.{ℕ_discrete}
 use native.Mathlib.Omega.{arith}
-use lib.ListN.{length, get_or, drop}
+use lib.ListN.{length, length-set, get_or, drop}
 use lib.Seq.{drop-cons, drop-length}
 use Rattle.cellid.specs.CellId.{leaves_of, low_bit}
 use Rattle.order.specs.Order.{All}
@@ -179,21 +179,22 @@ after_others (Turn.Going t) x i u a j d = ap (λ (y : Totals). total_at y j) (st
     stage_aside u w e = let z : u ≡ w = cc in ap (λ (t : Tally). t.aside) z
 
 module _ (E : Engine) (T : Task) where
-  holds_after : (i : ℕ) (x : Totals) (m : List ℕ) (t : Counts) (s : State) → i < places_most → Stands E T i (total_at x) m t s
+  holds_after : (i : ℕ) (x : Totals) (m : List ℕ) (t : Counts) (s : State) → i < places_most → length x.six ≡ places_most → Stands E T i (total_at x) m t s
       → Holds E T m (record { kept = t.kept; queued = t.queued; steps = t.steps; aside = with_total x i t.aside }) s
-  holds_after i x m t s h S = record {
+  holds_after i x m t s h six S = record {
     at = λ j. record { queue = S.queue; raw = S.raw; few = S.few; room = S.room; places = S.places; aside = all j; others = λ k d. all k; steps = S.steps };
+    six = simp length-set six;
   }
     where
       all : (k : ℕ) → total_at (with_total x i t.aside) k ≡ aside_from s k
       all k = by_cases (ℕ_discrete i k)
-          (λ z. ap (total_at (with_total x i t.aside)) (sym z) ∙ with_same x i t.aside h ∙ S.aside ∙ ap (aside_from s) z)
+          (λ z. ap (total_at (with_total x i t.aside)) (sym z) ∙ with_same x i t.aside (omega (arith, six)) ∙ S.aside ∙ ap (aside_from s) z)
           (λ d. with_other x i t.aside k d ∙ S.others k d)
 
-  turn_over : (i : ℕ) (x : Totals) (m : List ℕ) (turn : Turn) (r : Stage) (o : Outcome) → i < places_most → r ≡ stage_after turn x i → Gives E T i (total_at x) m turn o → Leads E T m r o
+  turn_over : (i : ℕ) (x : Totals) (m : List ℕ) (turn : Turn) (r : Stage) (o : Outcome) → i < places_most → length x.six ≡ places_most → r ≡ stage_after turn x i → Gives E T i (total_at x) m turn o → Leads E T m r o
   unfolding stage_after Gives Leads
-  turn_over i x m (Turn.Refused n) r o h a g = rw a g
-  turn_over i x m (Turn.Going t) r o h a g = rw a (g.0, g.1, holds_after i x m t g.0 h g.2)
+  turn_over i x m (Turn.Refused n) r o h six a g = rw a g
+  turn_over i x m (Turn.Going t) r o h six a g = rw a (g.0, g.1, holds_after i x m t g.0 h six g.2)
 
   -- ---- the start cells, one after another: l are all of them, i of them are done
 
@@ -217,6 +218,7 @@ module _ (E : Engine) (T : Task) where
       others = λ j d. none_at j ∙ sym (aside_nothing j);
       steps = refl;
     };
+    six = refl;
   }
 
   pub starting : (l m : List ℕ) → Starting l m m (record { kept = 0; queued = 0; steps = 0; aside = no_totals }) 0
@@ -246,7 +248,7 @@ module _ (E : Engine) (T : Task) where
         }
 
     led : Leads E T m' r (start_as (in_edition T) (look T x) (grown i x) I.state)
-    led = turn_over i t.aside m' turn r _ few a (d.gives (total_at t.aside) I.state begun)
+    led = turn_over i t.aside m' turn r _ few I.holds.six a (d.gives (total_at t.aside) I.state begun)
 
     on : start_all (in_edition T) (placed i (drop i l)) I.state ≡ then (start_as (in_edition T) (look T x) (grown i x) I.state) (start_all (in_edition T) (placed (i + 1) (drop (i + 1) l)))
     on = turned l i x I.state h ex
@@ -391,7 +393,7 @@ module _ (E : Engine) (T : Task) where
         ap (after (in_edition T) l) (add-one t.steps) ∙ ap (λ (y : Outcome). then y (step (in_edition T))) R.is ∙ ap (λ (x : List Grown). step_on (in_edition T) x s) P.queue
         ∙ ap (λ (x : Grown). step_with (in_edition T) x (without s P.rest)) (sym (same_cell m t s P r er)) in
         record {
-          gives = subst (Leads E T m₂ a) (sym o) (turn_over i t.aside m₂ turn a _ place w g);
+          gives = subst (Leads E T m₂ a) (sym o) (turn_over i t.aside m₂ turn a _ place R.holds.six w g);
           frame = d.frame ∙ ap (past memory_words) p ∙ past_later queue_words memory_words m _ (omega arith) (rest_past E queue_most queue_words m (t.queued - 1) (omega arith) refl);
         }
 

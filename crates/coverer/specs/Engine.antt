@@ -131,6 +131,7 @@ module _ (e : Engine) (T : Task) where
   -- between turns: m and t stand for s, whichever start cell's turn comes
   pub record Holds (m : List ℕ) (t : Tally) (s : State) : Type 0 where
     pub at : (i : ℕ) → Stands i (total_at t.aside) m (counts_at i t) s
+    pub six : length t.aside.six ≡ places_most
 
   -- between turns: the memory m and an answer stand for an outcome
   unfoldable pub Leads : List ℕ → Stage → Outcome → Type 0

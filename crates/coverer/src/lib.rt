@@ -361,7 +361,7 @@ fn end_turn(turn: Turn, before: Totals, from: u64) -> Stage
     match turn {
         Turn::Refused(n) => Stage::Refused(n),
         Turn::Going(t) => {
-            let aside = totals::put(before, from, t.aside);
+            let aside = before.with(from, t.aside);
             Stage::Going(Tally {
                 kept: t.kept,
                 queued: t.queued,
@@ -389,7 +389,7 @@ fn step(m: &mut [u64], t: Tally, q: Request, g: Region, list: &[u64], e: Engine)
         Counts {
             kept: t.kept,
             queued: n,
-            aside: totals::get(before, from),
+            aside: before.get(from),
             steps: t.steps + 1,
         },
         q,
@@ -443,7 +443,7 @@ fn initial_candidates(
     requires all { All (Fit q) (take count ids) }
     ensures { Comes e (task_of q (area_of g list.now)) (after (course_of q (area_of g list.now)) (take count ids) 0) m.old m.new result }
 {
-    let aside = totals::none();
+    let aside = Totals::NONE;
     let mut t = Tally {
         kept: 0,
         queued: 0,

@@ -57,12 +57,11 @@ pub enum Kind {
 fn refuse(number: u64) -> Answer
     ensures { result ≡ refusal number }
 {
-    let aside = totals::none();
     Answer {
         number,
         count: 0,
         steps: 0,
-        aside,
+        aside: Totals::NONE,
     }
 }
 
@@ -179,7 +178,7 @@ fn lay_fast(c: RegionCoverer, g: Region, list: &[u64], mem: &mut [u64], out: &mu
 {
     let laid = fast::fast_covering(c, g, list, mem, out);
     clear_front(mem);
-    laid_answer(laid, 0, totals::none())
+    laid_answer(laid, 0, Totals::NONE)
 }
 
 // What a request that is not barred comes to, by its kind.

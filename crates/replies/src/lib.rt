@@ -169,12 +169,12 @@ pub fn put_counted(text: &mut [u8], at: usize, form: Form, ids: &[u64]) -> usize
 pub fn put_totals(text: &mut [u8], at: usize, t: Totals) -> usize
     ensures { Wrote at (totals_text t) text.old result text.new }
 {
-    let a = put_number(text, at, b" ", t.at0);
-    let b = put_number(text, a, b" ", t.at1);
-    let c = put_number(text, b, b" ", t.at2);
-    let d = put_number(text, c, b" ", t.at3);
-    let e = put_number(text, d, b" ", t.at4);
-    put_number(text, e, b" ", t.at5)
+    let a = put_number(text, at, b" ", t.six[0]);
+    let b = put_number(text, a, b" ", t.six[1]);
+    let c = put_number(text, b, b" ", t.six[2]);
+    let d = put_number(text, c, b" ", t.six[3]);
+    let e = put_number(text, d, b" ", t.six[4]);
+    put_number(text, e, b" ", t.six[5])
 }
 
 // The answer to a request that is met: `ok STEPS ASIDE0 .. ASIDE5 COUNT ID...`.

@@ -8,4 +8,4 @@ returns-in-Refused c = rw c.in-Refused.is
 
 pub returns-in-Going : goal.returns-in-Going
 unfolding stage_after
-returns-in-Going c = rw (c.in-Going.is, c.put-aside.ensures)
+returns-in-Going c = rw (c.in-Going.is, c.with-aside.ensures)

@@ -24,7 +24,7 @@ shape_of-m c = c.loop-i.invariant.long
 
 pub loop-i-init : goal.loop-i-init
 loop-i-init c =
-    record { within = omega arith; six = c.requires.count_bound; wide = omega arith; long = refl; starting = rw c.none-aside.ensures (starting _ _ _ _) }
+    record { within = omega arith; six = c.requires.count_bound; wide = omega arith; long = refl; starting = starting _ _ _ _ }
 
 pub bounds-ids-i : goal.bounds-ids-i
 bounds-ids-i c = let I = c.loop-i.invariant in

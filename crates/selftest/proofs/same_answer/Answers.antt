@@ -18,4 +18,4 @@ returns-then-a-b-3 c = sym (rw (eq-eqb _ _ c.if-a-b.false, eq-eqb _ _ c.if-a-b-2
 
 pub returns : goal.returns
 unfolding same_answer
-returns c = sym (rw (eq-eqb _ _ c.if-a-b.false, eq-eqb _ _ c.if-a-b-2.false, eq-eqb _ _ c.if-a-b-3.false) (sym c.same.ensures))
+returns c = sym (rw (eq-eqb _ _ c.if-a-b.false, eq-eqb _ _ c.if-a-b-2.false, eq-eqb _ _ c.if-a-b-3.false) (sym c.eq.ensures))
