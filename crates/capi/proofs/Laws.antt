@@ -8,7 +8,8 @@ use Rattle.covering.specs.declared.Answer.{Answer}
 use Rattle.covering.specs.Covering.{Result, answer_of, Answered}
 use Rattle.ranges.specs.declared.Answer as ListAnswer
 use Rattle.ranges.specs.Ranges as Ranges
-use Rattle.tokens.specs.declared.Answer as Tokens
+use Rattle.refusal.specs.declared.Refusal.{Refusal}
+use Rattle.std.specs.Prelude as Std
 use Rattle.tokens.specs.Tokens as Names
 use Rattle.capi.specs.Calls.{Told, Called, CalledBy, CalledOf, NamesTold, NamesCalled}
 
@@ -54,9 +55,9 @@ words_determined R n n' o o₁ o₂ k k' a b = (a.is ∙ sym b.is, a.output ∙ 
 
 -- ---- tokens
 
-pub names_called : (R : Names.Result) (a : Tokens.Answer) (number count first : ℕ) (o o' : List ℕ) → Names.Answered R a o o' → NamesTold a number count first → NamesCalled R number o o' count first
-names_called R a number count first o o' A t = record { told = subst (λ (x : Tokens.Answer). NamesTold x number count first) A.answer t; output = A.output }
+pub names_called : (R : Std.Result (List ℕ) Refusal) (a : Std.Result ℕ Refusal) (number count first : ℕ) (o o' : List ℕ) → Names.Answered R a o o' → NamesTold a number count first → NamesCalled R number o o' count first
+names_called R a number count first o o' A t = record { told = subst (λ (x : Std.Result ℕ Refusal). NamesTold x number count first) A.answer t; output = A.output }
 
-pub names_determined : (R : Names.Result) (n n' : ℕ) (o o₁ o₂ : List ℕ) (k k' f f' : ℕ) → NamesCalled R n o o₁ k f → NamesCalled R n' o o₂ k' f' → (n ≡ n') × (o₁ ≡ o₂) × (k ≡ k') × (f ≡ f')
+pub names_determined : (R : Std.Result (List ℕ) Refusal) (n n' : ℕ) (o o₁ o₂ : List ℕ) (k k' f f' : ℕ) → NamesCalled R n o o₁ k f → NamesCalled R n' o o₂ k' f' → (n ≡ n') × (o₁ ≡ o₂) × (k ≡ k') × (f ≡ f')
 names_determined R n n' o o₁ o₂ k k' f f' a b =
     (a.told.is ∙ sym b.told.is, a.output ∙ sym b.output, a.told.counted ∙ sym b.told.counted, a.told.named ∙ sym b.told.named)

@@ -1,7 +1,8 @@
 -- What a call from C comes to: the request and the region made of its numbers, and the papers' number and values in the places that the caller lent.
 use Rattle.std.specs.Prelude.{◌≡◌, List, ℕ, Float}
+use Rattle.std.specs.Prelude as Std
 use Rattle.ranges.specs.Ranges as Ranges
-use Rattle.tokens.specs.declared.Answer as Tokens
+use Rattle.refusal.specs.declared.Refusal.{Refusal}
 use Rattle.tokens.specs.Tokens as Names
 use Rattle.region.specs.Region.{Area, cap_area}
 use Rattle.run.specs.declared.RegionCoverer.{RegionCoverer}
@@ -48,12 +49,12 @@ pub record CalledOf (R : Ranges.Result) (number : ℕ) (out out' : List ℕ) (co
 -- ---- tokens
 
 -- an answer's number, how many bytes or ids were written, and the number of the first that is bad
-pub record NamesTold (a : Tokens.Answer) (number count first : ℕ) : Type 0 where
+pub record NamesTold (a : Std.Result ℕ Refusal) (number count first : ℕ) : Type 0 where
   pub is : number ≡ Names.number_of a
   pub counted : count ≡ Names.written_of a
   pub named : first ≡ Names.first_of a
 
 -- all that such a call leaves
-pub record NamesCalled (R : Names.Result) (number : ℕ) (out out' : List ℕ) (count first : ℕ) : Type 0 where
-  pub told : NamesTold (Names.token_answer R) number count first
+pub record NamesCalled (R : Std.Result (List ℕ) Refusal) (number : ℕ) (out out' : List ℕ) (count first : ℕ) : Type 0 where
+  pub told : NamesTold (Names.length_of R) number count first
   pub output : out' ≡ Names.output_after R out

@@ -14,7 +14,7 @@ ghost use Rattle.sets.specs.declared.Op.{Op};
 ghost use Rattle.sets.specs.Sets.{set_result};
 ghost use Rattle.orders.specs.Orders.{NightOver};
 ghost use Rattle.tokens.specs.declared.Form.{Form};
-ghost use Rattle.tokens.specs.Tokens.{write_result, read_result};
+ghost use Rattle.tokens.specs.Tokens.{write_result, read_result, first_of};
 ghost use Rattle.capi.specs.Calls.{region_coverer, cap_given, Told, Called, CalledBy, CalledOf, NamesTold, NamesCalled};
 
 use cell::Cap;
@@ -22,6 +22,7 @@ use covering::{Answer, Ending, Kind};
 use orders::Order;
 use point::Point;
 use queue::Engine;
+use refusal::Refusal;
 use region::Region;
 use run::RegionCoverer;
 use sets::Op;
@@ -1492,26 +1493,30 @@ pub fn flaxbadger_difference(first: &[u64], second: &[u64], out: &mut [u64], cou
     tell_words(a, count)
 }
 
-// The number of an answer about tokens; how many bytes or ids were written, and the number from 1 of the first line or id that is bad, go through the
-// references.
-fn tell_names(a: tokens::Answer, count: &mut u64, first: &mut u64) -> u64
-    ensures { NamesTold a result count.new first.new }
+// The number from 1 of the first line or id that is bad, 0 where none is.
+fn first_named(a: Result<usize, Refusal>) -> u64
+    ensures { result ≡ first_of a }
 {
     match a {
-        tokens::Answer::Done(n) => {
+        Err(Refusal::Malformed(k)) => k,
+        _ => 0,
+    }
+}
+
+// The number of an answer about tokens; how many bytes or ids were written, and the number from 1 of the first line or id that is bad, go through the
+// references.
+fn tell_names(a: Result<usize, Refusal>, count: &mut u64, first: &mut u64) -> u64
+    ensures { NamesTold a result count.new first.new }
+{
+    *first = first_named(a);
+    match a {
+        Ok(n) => {
             *count = n as u64;
-            *first = 0;
             0
         }
-        tokens::Answer::Malformed(k) => {
+        Err(refusal) => {
             *count = 0;
-            *first = k;
-            11
-        }
-        tokens::Answer::NoRoom => {
-            *count = 0;
-            *first = 0;
-            12
+            refusal.number()
         }
     }
 }

@@ -4,17 +4,11 @@
 
 ghost use Rattle.std.specs.Prelude.{◌≡◌, ◌≤◌, ◌<◌, replicate, length};
 ghost use Rattle.replies.specs.Write.{Wrote};
-ghost use Rattle.filter.specs.Filter.{Turned, malformed_text, over_text, Replied};
+ghost use Rattle.filter.specs.Filter.{Turned, malformed_text, over_text, refusal_text, length_said, Replied};
 
 use input::{All, Found, Streams};
-use tokens::{Answer, Form};
-
-// What is to be written: how many bytes of the page, and whether they are the answer or say why there is none.
-#[derive(Clone, Copy)]
-pub struct Reply {
-    pub length: usize,
-    pub done: bool,
-}
+use refusal::Refusal;
+use tokens::Form;
 
 // Room for a text of 1,114,112 bytes, 65,536 lines of sixteen digits, and one byte more.
 pub fn buffer() -> [u8; 1114113]
@@ -41,15 +35,17 @@ pub fn page() -> [u8; 1114112]
 }
 
 // Turns a text in one form into one in the other, over the list that it is.
-pub fn turn(from: Form, to: Form, text: &[u8], ids: &mut [u64], page: &mut [u8]) -> Answer
+pub fn turn(
+    from: Form,
+    to: Form,
+    text: &[u8],
+    ids: &mut [u64],
+    page: &mut [u8],
+) -> Result<usize, Refusal>
     ensures { Turned from to text.now result ids.old ids.new page.old page.new }
 {
-    let found = tokens::read(from, text, ids);
-    match found {
-        Answer::Done(n) => tokens::write(to, &ids[..n], page),
-        Answer::Malformed(k) => Answer::Malformed(k),
-        Answer::NoRoom => Answer::NoRoom,
-    }
+    let n = tokens::read(from, text, ids)?;
+    tokens::write(to, &ids[..n], page)
 }
 
 // Says which line is malformed.
@@ -68,38 +64,43 @@ fn put_over(page: &mut [u8], most: usize, what: &[u8]) -> usize
     replies::put(page, n, what)
 }
 
-// What is to be written for a text, from the first byte of the page on.
-pub fn answer(from: Form, to: Form, text: &[u8], ids: &mut [u64], page: &mut [u8]) -> Reply
+// Says why there is no other text, where there are so many places for ids.
+fn put_refusal(page: &mut [u8], refusal: Refusal, places: usize) -> usize
+    ensures { Wrote 0 (refusal_text places refusal) page.old result page.new }
+{
+    match refusal {
+        Refusal::Malformed(k) => put_malformed(page, k),
+        _ => put_over(page, places, b" lines\n"),
+    }
+}
+
+// What is to be written for a text, from the first byte of the page on, and how many bytes it is: the other text, or why there is none.
+pub fn answer(
+    from: Form,
+    to: Form,
+    text: &[u8],
+    ids: &mut [u64],
+    page: &mut [u8],
+) -> Result<usize, usize>
     requires { 64 ≤ length page.old }
     ensures { Replied from to text.now result ids.old ids.new page.old page.new }
 {
-    let a = turn(from, to, text, ids, page);
-    match a {
-        Answer::Done(n) => Reply {
-            length: n,
-            done: true,
-        },
-        Answer::Malformed(k) => Reply {
-            length: put_malformed(page, k),
-            done: false,
-        },
-        Answer::NoRoom => Reply {
-            length: put_over(page, ids.len(), b" lines\n"),
-            done: false,
-        },
+    match turn(from, to, text, ids, page) {
+        Ok(n) => Ok(n),
+        Err(refusal) => Err(put_refusal(page, refusal, ids.len())),
     }
 }
 
 // Writes what there is to write: an answer to standard output, else to standard error.
-fn tell(streams: Streams, r: Reply, page: &[u8])
-    requires { r.length ≤ length page.now }
+fn tell(streams: Streams, reply: Result<usize, usize>, page: &[u8])
+    requires { length_said reply ≤ length page.now }
 {
-    let n = r.length;
-    if r.done {
-        input::tell(streams, Found::Line, &page[..n]);
-        return;
+    match reply {
+        Ok(n) => {
+            input::tell(streams, Found::Line, &page[..n]);
+        }
+        Err(n) => input::say(streams, &page[..n]),
     }
-    input::say(streams, &page[..n]);
 }
 
 // Takes all of standard input.
@@ -113,12 +114,8 @@ pub fn run(streams: Streams, from: Form, to: Form, buf: &mut [u8], ids: &mut [u6
             tell(streams, r, page);
         }
         All::TooLong => {
-            let length = put_over(page, buf.len() - 1, b" bytes\n");
-            let r = Reply {
-                length,
-                done: false,
-            };
-            tell(streams, r, page);
+            let n = put_over(page, buf.len() - 1, b" bytes\n");
+            tell(streams, Err(n), page);
         }
         All::Failed => {
             input::tell(streams, Found::Failed, b"");

@@ -6,19 +6,17 @@ use native.Mathlib.Omega.{arith}
 use native.Mathlib.Nat.{zero-add}
 use native.Mathlib.Decide.{dec_lt}
 use mathlib.Core.Logic.{by_cases}
-use lib.ListN.{length, drop, length-append, length-take, length-drop}
+use lib.ListN.{length, drop, length-append}
 use lib.Seq.{sets-eq}
 use borrow.Author.Tests.{lt-ltb, le-ltb}
 use Rattle.text.specs.Ascii.{ascii}
-use Rattle.text.specs.Text.{bytes_of, field_no}
 use Rattle.text.specs.declared.Fault.{Fault}
-use Rattle.text.specs.declared.Field.{Field}
 use Rattle.tokens.specs.declared.Form.{Form}
 use Rattle.tokens.specs.Tokens.{name_of}
 use Rattle.tokens.proofs.Names.{name_short}
 use Rattle.totals.specs.declared.Totals.{Totals}
 use Rattle.totals.specs.Totals.{six_of}
-use Rattle.replies.specs.Write.{Wrote, Whole, spelled, decimal_text, id_text, ids_text, fault_words, fault_no, fault_text, error_text, refused_text, end_text, counted_text, numbers_text, totals_text, ok_text, list_text}
+use Rattle.replies.specs.Write.{Wrote, Whole, spelled, decimal_text, id_text, ids_text, fault_text, error_text, refused_text, end_text, counted_text, numbers_text, totals_text, ok_text, list_text}
 
 pub wrote_whole : {s d : List ℕ} {r : ℕ} {d' : List ℕ} → length s ≤ length d → Wrote 0 s d r d' → Whole s d r d'
 wrote_whole {s} {d} h w = record { count = omega arith; bytes = w.bytes ∙ rw zero-add at (sets-eq s d 0 (omega arith)) }
@@ -45,13 +43,22 @@ unfolding ids_text id_text
 ids_length form [] = omega arith
 ids_length form (id ∷ l) = rw (ids_text, id_text, length-append (name_of form id) (ids_text form l)) (omega (arith, name_short form id, ids_length form l))
 
-bytes_length : (l : List ℕ) (f : Field) → length (bytes_of l f) ≤ length l
-unfolding bytes_of
-bytes_length l f = simp (length-take, length-drop) (omega arith)
-
-fault_length : (f : Fault) → length (fault_text f) ≤ 200
-unfolding fault_text fault_words ascii
-fault_length f = omega (arith, bytes_length fault_words (field_no (fault_no f) fault_words 0))
+fault_length : (f : Fault) → length (fault_text f) ≤ 15
+unfolding fault_text ascii
+fault_length Fault.UnknownKind = omega arith
+fault_length Fault.UnknownRegion = omega arith
+fault_length Fault.UnknownEngine = omega arith
+fault_length Fault.MissingField = omega arith
+fault_length Fault.ExtraField = omega arith
+fault_length Fault.RepeatedOption = omega arith
+fault_length Fault.NotANumber = omega arith
+fault_length Fault.TooFewDigits = omega arith
+fault_length Fault.TooManyDigits = omega arith
+fault_length Fault.TooLarge = omega arith
+fault_length Fault.BadByte = omega arith
+fault_length Fault.LineTooLong = omega arith
+fault_length Fault.OutsideDomain = omega arith
+fault_length Fault.ReadFailed = omega arith
 
 pub error_length : (line : ℕ) (f : Fault) → length (error_text line f) ≤ 256
 unfolding error_text ascii

@@ -1,14 +1,15 @@
 -- Laws of `specs/Write.antt`: what is written in parts is written whole, and what a number's digits are.
 use mathlib.Core.Path.{◌≡◌, refl, sym, ap, ◌∙◌}
-use mathlib.Core.List.{List, [], ◌∷◌, ◌++◌}
-use Prim.Native.Nat.{ℕ, zero, suc, ◌+◌, ◌-◌, ◌*◌, ◌/◌, ◌^◌, ◌≤◌, ◌<◌}
+use mathlib.Core.List.{List, [], ◌∷◌, ◌++◌, append_assoc}
+use Prim.Native.Nat.{ℕ, zero, suc, ◌+◌, ◌-◌, ◌*◌, ◌/◌, ◌^◌, ◌≤◌, ◌<◌, min}
 use native.Mathlib.Omega.{arith}
 use native.Mathlib.Decide.{dec_lt}
 use mathlib.Core.Logic.{by_cases}
 use native.Mathlib.Numerals.{add-one}
 use native.Mathlib.Nat.{mod-eq_of_lt, div-lt_iff_lt-mul, le-div_iff_mul-le, pow-suc, pow-le-pow_right}
-use lib.ListN.{length, get_or, drop, set, length-append}
-use lib.Seq.{drop-cons, set_out, sets, length-sets}
+use lib.ListN.{length, get_or, take, drop, length-append, length-drop, take-append-drop}
+use lib.Seq.{drop-cons, drop-drop, length-take-le, set_out, sets, sets-eq, length-sets}
+use borrow.Rule.Slice.PartMut.{put_mid}
 use borrow.Author.Tests.{lt-ltb, le-ltb}
 use Rattle.io.specs.Digits.{last_digits, IsDigitCount}
 use Rattle.cellid.proofs.Puts.{sets_append}
@@ -21,8 +22,20 @@ pub sets_out : (s d : List ℕ) (at : ℕ) → length d ≤ at → sets d at s �
 sets_out [] d at h = refl
 sets_out (x ∷ s) d at h = rw (set_out d at x h) (sets_out s d (suc at) (omega arith))
 
-pub sets_go : (s d : List ℕ) (n i : ℕ) → i < length s → sets d n (drop i s) ≡ sets (set d n (get_or s i 0)) (n + 1) (drop (i + 1) s)
-sets_go s d n i h = rw (drop-cons s i 0 h, add-one i, add-one n)
+-- what has no room changes nothing
+sets_rest : (s d : List ℕ) (at : ℕ) → (0 < length s → length d ≤ at) → sets d at s ≡ d
+sets_rest [] d at h = refl
+sets_rest (x ∷ s) d at h = sets_out (x ∷ s) d at (h (omega arith))
+
+-- as much of s as has room, copied to its place, is s stored byte after byte
+pub sets_copied : (s d m : List ℕ) (at n k : ℕ) → at < length d → n ≡ min (length s) (length d - at) → m ≡ take n s → k ≡ n → put_mid at k d m ≡ sets d at s
+sets_copied s d m at n k h e c f =
+    let t : length (take n s) ≡ n = length-take-le n s (omega arith) in
+    let l : length (sets d at (take n s)) ≡ length d = length-sets d at (take n s) in
+    let whole : sets d at s ≡ sets d at (take n s) =
+    ap (sets d at) (sym (take-append-drop n s)) ∙ sets_append (take n s) (drop n s) d at
+    ∙ sets_rest (drop n s) (sets d at (take n s)) (at + length (take n s)) (simp length-drop (λ p. omega arith)) in
+    rw (whole, sets-eq (take n s) d at (omega arith), t, c, f, drop-drop n at d) (sym (append_assoc (take at d) (take n s) (drop (at + n) d)))
 
 pub wrote_none : (at : ℕ) (d : List ℕ) → Wrote at [] d at d
 wrote_none at d = record { count = omega arith; bytes = refl }

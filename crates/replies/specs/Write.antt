@@ -2,7 +2,6 @@
 use Rattle.std.specs.Prelude.{◌≡◌, true, false, List, [], ◌∷◌, ◌++◌, ℕ, zero, suc, ◌+◌, ◌-◌, ◌/◌, ◌%◌, min, ltb, length, drop}
 use Rattle.std.proofs.lemmas.List.Edits.{sets}
 use Rattle.text.specs.Ascii.{ascii}
-use Rattle.text.specs.Text.{bytes_of, field_no}
 use Rattle.text.specs.declared.Fault.{Fault}
 use Rattle.io.specs.Digits.{hex_digit_ascii}
 use Rattle.tokens.specs.declared.Form.{Form}
@@ -50,30 +49,22 @@ ids_text form (id ∷ l) = id_text form id ++ ids_text form l
 
 -- ---- answers
 
--- the words for faults, in the order of the faults
-unfoldable pub fault_words : List ℕ
-fault_words =
-    ascii "unknown-kind unknown-region unknown-engine missing-field extra-field repeated-option not-a-number too-few-digits too-many-digits too-large bad-byte line-too-long outside-domain read-failed"
-
--- the place of a fault's word, counted from 0
-abbrev pub fault_no : Fault → ℕ
-fault_no Fault.UnknownKind = 0
-fault_no Fault.UnknownRegion = 1
-fault_no Fault.UnknownEngine = 2
-fault_no Fault.MissingField = 3
-fault_no Fault.ExtraField = 4
-fault_no Fault.RepeatedOption = 5
-fault_no Fault.NotANumber = 6
-fault_no Fault.TooFewDigits = 7
-fault_no Fault.TooManyDigits = 8
-fault_no Fault.TooLarge = 9
-fault_no Fault.BadByte = 10
-fault_no Fault.LineTooLong = 11
-fault_no Fault.OutsideDomain = 12
-fault_no Fault.ReadFailed = 13
-
+-- the word for what is wrong with a line
 unfoldable pub fault_text : Fault → List ℕ
-fault_text f = bytes_of fault_words (field_no (fault_no f) fault_words 0)
+fault_text Fault.UnknownKind = ascii "unknown-kind"
+fault_text Fault.UnknownRegion = ascii "unknown-region"
+fault_text Fault.UnknownEngine = ascii "unknown-engine"
+fault_text Fault.MissingField = ascii "missing-field"
+fault_text Fault.ExtraField = ascii "extra-field"
+fault_text Fault.RepeatedOption = ascii "repeated-option"
+fault_text Fault.NotANumber = ascii "not-a-number"
+fault_text Fault.TooFewDigits = ascii "too-few-digits"
+fault_text Fault.TooManyDigits = ascii "too-many-digits"
+fault_text Fault.TooLarge = ascii "too-large"
+fault_text Fault.BadByte = ascii "bad-byte"
+fault_text Fault.LineTooLong = ascii "line-too-long"
+fault_text Fault.OutsideDomain = ascii "outside-domain"
+fault_text Fault.ReadFailed = ascii "read-failed"
 
 -- error LINE-NUMBER WORD
 unfoldable pub error_text : ℕ → Fault → List ℕ

@@ -2,9 +2,8 @@
 #![tactic(auto)]
 
 ghost use Rattle.std.specs.Prelude.{◌≡◌, ◌++◌};
-ghost use Rattle.text.specs.Text.{bytes_of, field_no};
 ghost use Rattle.tokens.specs.Tokens.{name_of};
-ghost use Rattle.replies.specs.Write.{Wrote, decimal_text, id_text, ids_text, fault_no, fault_text, error_text, refused_text, disagree_text, end_text, counted_text, totals_text, ok_text, list_text};
+ghost use Rattle.replies.specs.Write.{Wrote, decimal_text, id_text, ids_text, fault_text, error_text, refused_text, disagree_text, end_text, counted_text, totals_text, ok_text, list_text};
 
 use text::Fault;
 use tokens::Form;
@@ -14,17 +13,12 @@ use totals::Totals;
 pub fn put(text: &mut [u8], at: usize, s: &[u8]) -> usize
     ensures { Wrote at s.now text.old result text.new }
 {
-    let mut n = at;
-    let mut i = 0;
-    while i < s.len() {
-        if text.len() <= n {
-            return n;
-        }
-        text[n] = s[i];
-        n += 1;
-        i += 1;
+    if text.len() <= at {
+        return at;
     }
-    n
+    let n = s.len().min(text.len() - at);
+    text[at..at + n].copy_from_slice(&s[..n]);
+    at + n
 }
 
 // Writes n in decimal digits.
@@ -48,10 +42,8 @@ pub fn put_number(text: &mut [u8], at: usize, s: &[u8], n: u64) -> usize
 pub fn put_name(text: &mut [u8], at: usize, form: Form, id: u64) -> usize
     ensures { Wrote at (name_of form id) text.old result text.new }
 {
-    if 16 <= text.len() {
-        if at <= text.len() - 16 {
-            return tokens::put_name(form, text, at, id);
-        }
+    if 16 <= text.len() && at <= text.len() - 16 {
+        return tokens::put_name(form, text, at, id);
     }
     let mut name = [0u8; 16];
     let k = tokens::put_name(form, &mut name, 0, id);
@@ -71,56 +63,33 @@ pub fn put_ids(text: &mut [u8], at: usize, form: Form, ids: &[u64]) -> usize
     ensures { Wrote at (ids_text form ids.now) text.old result text.new }
 {
     let mut n = at;
-    let mut i = 0;
-    while i < ids.len() {
-        n = put_id(text, n, form, ids[i]);
-        i += 1;
+    for id in ids {
+        n = put_id(text, n, form, *id);
     }
     n
 }
 
-// Writes the k-th of some words, counted from 0, or nothing where there are fewer.
-fn put_word(text: &mut [u8], at: usize, words: &[u8], k: u64) -> usize
-    ensures { Wrote at (bytes_of words.now (field_no k words.now 0)) text.old result text.new }
-{
-    let word = text::field_no(words, k);
-    let start = word.start;
-    let end = word.end;
-    if start < end {
-        return put(text, at, &words[start..end]);
-    }
-    at
-}
-
-// The place of a fault's word among the words for faults.
-fn fault_place(f: Fault) -> u64
-    ensures { result ≡ fault_no f }
+// The word for what is wrong with a line.
+#[tactic(auto, unfolding(crate::specs::Write::fault_text, text::specs::Ascii::ascii))]
+fn word(f: Fault) -> &'static [u8]
+    ensures { result.now ≡ fault_text f }
 {
     match f {
-        Fault::UnknownKind => 0,
-        Fault::UnknownRegion => 1,
-        Fault::UnknownEngine => 2,
-        Fault::MissingField => 3,
-        Fault::ExtraField => 4,
-        Fault::RepeatedOption => 5,
-        Fault::NotANumber => 6,
-        Fault::TooFewDigits => 7,
-        Fault::TooManyDigits => 8,
-        Fault::TooLarge => 9,
-        Fault::BadByte => 10,
-        Fault::LineTooLong => 11,
-        Fault::OutsideDomain => 12,
-        Fault::ReadFailed => 13,
+        Fault::UnknownKind => b"unknown-kind",
+        Fault::UnknownRegion => b"unknown-region",
+        Fault::UnknownEngine => b"unknown-engine",
+        Fault::MissingField => b"missing-field",
+        Fault::ExtraField => b"extra-field",
+        Fault::RepeatedOption => b"repeated-option",
+        Fault::NotANumber => b"not-a-number",
+        Fault::TooFewDigits => b"too-few-digits",
+        Fault::TooManyDigits => b"too-many-digits",
+        Fault::TooLarge => b"too-large",
+        Fault::BadByte => b"bad-byte",
+        Fault::LineTooLong => b"line-too-long",
+        Fault::OutsideDomain => b"outside-domain",
+        Fault::ReadFailed => b"read-failed",
     }
-}
-
-// Writes the word for what is wrong with a line.
-fn put_fault(text: &mut [u8], at: usize, f: Fault) -> usize
-    ensures { Wrote at (fault_text f) text.old result text.new }
-{
-    let words =
-        b"unknown-kind unknown-region unknown-engine missing-field extra-field repeated-option not-a-number too-few-digits too-many-digits too-large bad-byte line-too-long outside-domain read-failed";
-    put_word(text, at, words, fault_place(f))
 }
 
 // The answer to a line that asks nothing that can be answered: `error LINE-NUMBER WORD`.
@@ -129,7 +98,7 @@ pub fn put_error(text: &mut [u8], line: u64, f: Fault) -> usize
 {
     let a = put_number(text, 0, b"error ", line);
     let b = put(text, a, b" ");
-    let c = put_fault(text, b, f);
+    let c = put(text, b, word(f));
     put(text, c, b"\n")
 }
 

@@ -3,11 +3,12 @@ use mathlib.Core.Path.{◌≡◌, refl}
 use mathlib.Core.List.{List, [], ◌∷◌, ◌++◌, map}
 use Prim.Native.Nat.{ℕ}
 use lib.Count.{count_trailing_zeros}
+use Rattle.std.proofs.Common.{Ok}
 use Rattle.text.specs.Ascii.{ascii}
 use Rattle.text.specs.Text.{digit_of, all_digits, value_from}
 use Rattle.cellid.specs.CellId.{valid_id}
 use Rattle.tokens.specs.declared.Form.{Form}
-use Rattle.tokens.specs.Tokens.{hex_text, digit_before, trim, token_of, name_of, is_name, value_of, named, name_line, lines_of, unended, ids_from, seen, done, result_of, write_result, read_result, token_answer, number_of, written_of, first_of}
+use Rattle.tokens.specs.Tokens.{hex_text, digit_before, trim, token_of, name_of, is_name, value_of, named, name_line, lines_of, unended, ids_from, first_bad, result_of, write_result, read_result, length_of, number_of, written_of, first_of}
 
 -- "The list 0x04.., 0x0c.., 0x14.. is the nine bytes `04`, newline, `0c`, newline, `14`, newline"
 abbrev three : List ℕ
@@ -16,21 +17,21 @@ three = 0x0400000000000000 ∷ 0x0c00000000000000 ∷ 0x1400000000000000 ∷ []
 abbrev nine : List ℕ
 nine = 48 ∷ 52 ∷ 10 ∷ 48 ∷ 99 ∷ 10 ∷ 49 ∷ 52 ∷ 10 ∷ []
 
-pub nine_bytes : write_result Form.Token three 9 ≡ done nine
-unfolding write_result result_of seen valid_id count_trailing_zeros lines_of name_line name_of token_of hex_text trim digit_before
+pub nine_bytes : write_result Form.Token three 9 ≡ Ok nine
+unfolding write_result result_of first_bad valid_id count_trailing_zeros lines_of name_line name_of token_of hex_text trim digit_before
 nine_bytes = refl
 
-pub and_back : read_result Form.Token nine 3 ≡ done three
-unfolding read_result result_of seen valid_id count_trailing_zeros ids_from unended named is_name value_of digit_of all_digits value_from
+pub and_back : read_result Form.Token nine 3 ≡ Ok three
+unfolding read_result result_of first_bad valid_id count_trailing_zeros ids_from unended named is_name value_of digit_of all_digits value_from
 and_back = refl
 
 -- "an empty list is an empty text"
-pub none_written : write_result Form.Token [] 0 ≡ done []
-unfolding write_result result_of seen lines_of
+pub none_written : write_result Form.Token [] 0 ≡ Ok []
+unfolding write_result result_of first_bad lines_of
 none_written = refl
 
-pub none_read : read_result Form.Token [] 0 ≡ done []
-unfolding read_result result_of seen ids_from unended
+pub none_read : read_result Form.Token [] 0 ≡ Ok []
+unfolding read_result result_of first_bad ids_from unended
 none_read = refl
 
 -- ---- rules broken: a text and the number of its first malformed line
@@ -55,15 +56,15 @@ cases =
     ∷ (ended (ascii "d") [], 1)  -- no cell: face 6
     ∷ []
 
-pub cases_refused : map (λ (c : List ℕ × ℕ). first_of (token_answer (read_result Form.Token c.0 9))) cases ≡ map (λ (c : List ℕ × ℕ). c.1) cases
-unfolding ascii read_result result_of seen valid_id count_trailing_zeros ids_from unended named is_name value_of digit_of all_digits value_from token_answer first_of
+pub cases_refused : map (λ (c : List ℕ × ℕ). first_of (length_of (read_result Form.Token c.0 9))) cases ≡ map (λ (c : List ℕ × ℕ). c.1) cases
+unfolding ascii read_result result_of first_bad valid_id count_trailing_zeros ids_from unended named is_name value_of digit_of all_digits value_from length_of
 cases_refused = refl
 
 -- ---- an answer's number, what was written, and the number of the first that is bad: done, no room, and an invalid id before no room
 
 abbrev values : List ℕ → ℕ → List ℕ
-values ids room = let a = token_answer (write_result Form.Token ids room) in number_of a ∷ written_of a ∷ first_of a ∷ []
+values ids room = let a = length_of (write_result Form.Token ids room) in number_of a ∷ written_of a ∷ first_of a ∷ []
 
 pub values_given : (values three 9 ≡ 0 ∷ 9 ∷ 0 ∷ []) × (values three 8 ≡ 12 ∷ 0 ∷ 0 ∷ []) × (values (0x0400000000000000 ∷ 0 ∷ []) 0 ≡ 11 ∷ 0 ∷ 2 ∷ [])
-unfolding write_result result_of seen valid_id count_trailing_zeros lines_of name_line name_of token_of hex_text trim digit_before token_answer number_of written_of first_of
+unfolding write_result result_of first_bad valid_id count_trailing_zeros lines_of name_line name_of token_of hex_text trim digit_before length_of
 values_given = (refl, refl, refl)

@@ -2,6 +2,7 @@
 use mathlib.Core.Path.{◌≡◌, refl, sym, ap, ◌∙◌}
 use mathlib.Core.Bool.{Bool, true, false, and-eq-true_iff}
 use mathlib.Core.List.{List, [], ◌∷◌, ◌++◌, append_assoc, append-nil}
+use Rattle.std.proofs.Common.{Option, Some, None, unwrap_or}
 use Prim.Native.Nat.{ℕ, suc, ◌+◌, ◌-◌, ◌≤◌, ◌<◌}
 use native.Mathlib.Omega.{arith}
 use native.Mathlib.Decide.{dec_lt}
@@ -15,7 +16,6 @@ use Rattle.text.proofs.Fields.{digits_then}
 use Rattle.cellid.proofs.Laws.{no_true}
 use Rattle.cellid.proofs.Puts.{next_of}
 use Rattle.tokens.specs.declared.Form.{Form}
-use Rattle.tokens.specs.declared.Line.{Line}
 use Rattle.tokens.specs.Tokens.{is_name, named, unended, ids_from, ids_of}
 use Rattle.tokens.specs.Steps.{of_digits, FirstLine}
 use Rattle.tokens.proofs.Digits.{digit_line}
@@ -77,27 +77,24 @@ module _ (form : Form) where
         ∙ past_digits name [] (drop end text) S.digits
 
     -- a newline follows
-    pub line_ended : (r : Line) → end < length text → get_or text end 0 ≡ 10 → r.id ≡ of_digits form (end - at) v → r.next ≡ end + 1 → FirstLine form text at r
+    ended : (o : Option ℕ) → end < length text → get_or text end 0 ≡ 10 → o ≡ of_digits form (end - at) v → ids_of form (drop at text) ≡ unwrap_or o 0 ∷ ids_of form (drop (end + 1) text)
     unfolding ids_from
-    line_ended r h e i n = record {
-      rest = ids_of form (drop (end + 1) text);
-      first =
-          from_here ∙ ap (ids_from form name) (next_of text end h)
-          ∙ rw (ids_from, eq-eqb _ _ e, i) (ap (λ (x : ℕ). x ∷ ids_of form (drop (end + 1) text)) (named_digits name (omega (arith, name_length, S.few)) S.digits form ∙ rw (name_length, S.value)));
-      more = λ p. rw n;
-      after = λ p. omega (arith, S.order);
-      within = λ p. omega arith;
-    }
+    ended o h e i =
+        from_here ∙ ap (ids_from form name) (next_of text end h)
+        ∙ rw (ids_from, eq-eqb _ _ e, i) (ap (λ (x : ℕ). x ∷ ids_of form (drop (end + 1) text)) (named_digits name (omega (arith, name_length, S.few)) S.digits form ∙ rw (name_length, S.value)))
 
-    none : (r : Line) → r.id ≡ 0 → Malformed (ids_of form (drop at text)) → FirstLine form text at r
-    none r i m = record { rest = m.0; first = rw i m.1; more = λ p. absurd (omega arith); after = λ p. absurd (omega arith); within = λ p. absurd (omega arith) }
+    pub line_ended : (id next : ℕ) → end < length text → get_or text end 0 ≡ 10 → Some id ≡ of_digits form (end - at) v → next ≡ end + 1 → FirstLine form text at (Some (record { id = id; next = next }))
+    line_ended id next h e i n = record { first = rw n (ended (Some id) h e i); after = omega (arith, S.order); within = omega arith }
+
+    pub line_none : end < length text → get_or text end 0 ≡ 10 → None ≡ of_digits form (end - at) v → FirstLine form text at None
+    line_none h e i = record { rest = ids_of form (drop (end + 1) text); first = ended None h e i }
 
     -- nothing follows
-    pub line_open : (r : Line) → at < length text → length text ≤ end → r.id ≡ 0 → FirstLine form text at r
+    pub line_open : at < length text → length text ≤ end → FirstLine form text at None
     unfolding ids_from
-    line_open r p h i =
+    line_open p h =
         let m = unended_some name (omega (arith, name_length)) in
-        none r i (m.0, from_here ∙ ap (ids_from form name) (drop_of_length-le text {i = end} h) ∙ m.1)
+        record { rest = m.0; first = from_here ∙ ap (ids_from form name) (drop_of_length-le text {i = end} h) ∙ m.1 }
 
     -- another byte follows: it is no digit, or there are sixteen
     no_name : Stopped 16 text at end → end < length text → (u : List ℕ) → is_name form ((name ++ (get_or text end 0 ∷ [])) ++ u) ≡ true → ⊥
@@ -108,8 +105,8 @@ module _ (form : Form) where
         let d : digit_of (get_or text end 0) < 16 = ltb-true _ _ ((and-eq-true_iff _ (all_digits 16 u)).0 ((and-eq-true_iff (all_digits 16 name) _).0 (rw (append_assoc name (get_or text end 0 ∷ []) u, digits_then 16 name (get_or text end 0 ∷ u)) at n.digits)).1).0 in
         by_cases (dec_lt end (at + 16)) (λ l. omega (arith, stop h l)) (λ l. omega (arith, name_length, S.order))
 
-    pub line_other : (r : Line) → Stopped 16 text at end → end < length text → (get_or text end 0 ≡ 10 → ⊥) → r.id ≡ 0 → FirstLine form text at r
+    pub line_other : Stopped 16 text at end → end < length text → (get_or text end 0 ≡ 10 → ⊥) → FirstLine form text at None
     unfolding ids_from
-    line_other r stop h e i =
+    line_other stop h e =
         let m = spoilt (drop (end + 1) text) (name ++ (get_or text end 0 ∷ [])) (rw (length-append name (get_or text end 0 ∷ [])) (omega arith)) (λ u. no_true _ (no_name stop h u)) in
-        none r i (m.0, from_here ∙ ap (ids_from form name) (next_of text end h) ∙ rw (ids_from, ne_eqb _ _ e) m.1)
+        record { rest = m.0; first = from_here ∙ ap (ids_from form name) (next_of text end h) ∙ rw (ids_from, ne_eqb _ _ e) m.1 }

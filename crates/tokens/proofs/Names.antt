@@ -2,6 +2,7 @@
 use mathlib.Core.Path.{◌≡◌, refl, sym, ap, ap₂, ◌∙◌}
 use mathlib.Core.Bool.{Bool, true, false, not, and-eq-true_iff}
 use mathlib.Core.List.{List, [], ◌∷◌, ◌++◌}
+use Rattle.std.proofs.Common.{Option, Some, None, unwrap_or}
 use mathlib.Core.Logic.{by_cases, ⊎_elim}
 use Prim.Native.Nat.{ℕ, zero, suc, ◌+◌, ◌-◌, ◌*◌, ◌/◌, ◌%◌, ◌^◌, ◌≤◌, ◌<◌}
 use native.Mathlib.Omega.{arith}
@@ -132,29 +133,29 @@ last_zero t p h =
     (λ n. ne_eqb _ _ n ∙ sym (ne_eqb _ _ (λ z. n (sym (glyph_digit _ m.1) ∙ ap hex_digit_ascii (sym m.0 ∙ z)))))
 
 module _ (t : List ℕ) (few : length t ≤ 16) (h : all_digits 16 t ≡ true) where
-  digits_named : (u : Bool) → eqb (length t) 16 ≡ u → named Form.Digits t ≡ of_digits Form.Digits (length t) (value_from 16 0 t)
-  unfolding named is_name of_digits value_of
+  digits_named : (u : Bool) → eqb (length t) 16 ≡ u → named Form.Digits t ≡ unwrap_or (of_digits Form.Digits (length t) (value_from 16 0 t)) 0
+  unfolding named is_name value_of
   digits_named true e =
       let k : length t ≡ 16 = eqb-true _ _ e in
       rw (named, is_name, e, h, value_of, k, mul-one, of_digits)
   digits_named false e = rw (named, is_name, e, of_digits)
 
-  token_named : named Form.Token t ≡ of_digits Form.Token (length t) (value_from 16 0 t)
-  unfolding named is_name of_digits value_of
+  token_named : named Form.Token t ≡ unwrap_or (of_digits Form.Token (length t) (value_from 16 0 t)) 0
+  unfolding named is_name value_of
   token_named = ⊎_elim
       (λ (z : length t ≡ 0). none t z)
       (λ (p : 0 < length t). rw (named, is_name, le-leb 1 (length t) p, le-leb (length t) 16 few, h, last_zero t p h, value_of) (turned (eqb (value_from 16 0 t % 16) 0)))
       (eq-zero-or-pos (length t))
     where
-      none : (t : List ℕ) → length t ≡ 0 → named Form.Token t ≡ of_digits Form.Token (length t) (value_from 16 0 t)
-      none [] z = unfold named is_name of_digits value_from in refl
+      none : (t : List ℕ) → length t ≡ 0 → named Form.Token t ≡ unwrap_or (of_digits Form.Token (length t) (value_from 16 0 t)) 0
+      none [] z = unfold named is_name value_from in refl
       none (b ∷ t) z = absurd (omega arith)
 
-      turned : (u : Bool) → ◌≡◌ {A = ℕ} (elim (not u) [ true ↦ value_from 16 0 t * 16 ^ (16 - length t) | false ↦ 0 ]) (elim u [ true ↦ 0 | false ↦ value_from 16 0 t * 16 ^ (16 - length t) ])
+      turned : (u : Bool) → ◌≡◌ {A = ℕ} (elim (not u) [ true ↦ value_from 16 0 t * 16 ^ (16 - length t) | false ↦ 0 ]) (unwrap_or (elim u [ true ↦ None | false ↦ Some (value_from 16 0 t * 16 ^ (16 - length t)) ]) 0)
       turned true = refl
       turned false = refl
 
-  pub named_digits : (form : Form) → named form t ≡ of_digits form (length t) (value_from 16 0 t)
+  pub named_digits : (form : Form) → named form t ≡ unwrap_or (of_digits form (length t) (value_from 16 0 t)) 0
   named_digits Form.Digits = digits_named (eqb (length t) 16) refl
   named_digits Form.Token = token_named
 
@@ -174,12 +175,10 @@ hex_value : (id : ℕ) → id < 2 ^ 64 → value_from 16 0 (hex_text id) ≡ id
 unfolding hex_text
 hex_value id h = value_digits 16 id h
 
-of_digits_lem : (v : ℕ) → of_digits Form.Digits 16 v ≡ v
-unfolding of_digits
+of_digits_lem : (v : ℕ) → of_digits Form.Digits 16 v ≡ Some v
 of_digits_lem v = refl
 
-of_token : (n v : ℕ) → 0 < v % 16 → of_digits Form.Token n v ≡ v * 16 ^ (16 - n)
-unfolding of_digits
+of_token : (n v : ℕ) → 0 < v % 16 → of_digits Form.Token n v ≡ Some (v * 16 ^ (16 - n))
 of_token n v h = rw (of_digits, ne_eqb (v % 16) 0 (λ e. omega arith))
 
 pub name_back : (form : Form) (id : ℕ) → valid_id id ≡ true → named form (name_of form id) ≡ id
@@ -187,7 +186,7 @@ unfolding name_of
 name_back Form.Digits id v =
     let h = (valid_fits id v).1 in
     named_digits (hex_text id) (omega (arith, hex_length id)) (name_is_digits Form.Digits id h) Form.Digits
-    ∙ ap₂ (of_digits Form.Digits) (hex_length id) (hex_value id h) ∙ of_digits_lem id
+    ∙ ap (λ (o : Option ℕ). unwrap_or o 0) (ap₂ (of_digits Form.Digits) (hex_length id) (hex_value id h) ∙ of_digits_lem id)
 name_back Form.Token id v =
     let h = (valid_fits id v).1 in
     let z = count_trailing_zeros 64 id / 4 in
@@ -196,7 +195,7 @@ name_back Form.Token id v =
     let k : 16 - (16 - z) ≡ z = omega (arith, P.few) in
     let d : value_from 16 0 (digits 16 (16 - z) m) ≡ m = value_digits (16 - z) m (part_small id z m h P.few P.is) in
     rw P.token (named_digits (digits 16 (16 - z) m) (omega (arith, digits_length 16 (16 - z) m)) (digits_all (16 - z) m) Form.Token
-    ∙ ap₂ (of_digits Form.Token) (digits_length 16 (16 - z) m) d ∙ of_token (16 - z) m (P.last (valid_fits id v).0) ∙ rw k (sym P.is))
+    ∙ ap (λ (o : Option ℕ). unwrap_or o 0) (ap₂ (of_digits Form.Token) (digits_length 16 (16 - z) m) d ∙ of_token (16 - z) m (P.last (valid_fits id v).0)) ∙ rw k (sym P.is))
 
 -- ---- a name from its id
 

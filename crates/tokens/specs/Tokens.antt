@@ -1,11 +1,12 @@
 -- An id's name, sixteen hexadecimal digits or its token; a list of ids as a text with a name a line; such a text as a list again; and what is answered. Quoted
 -- lines are paper 02's words, from d.
-use Rattle.std.specs.Prelude.{◌≡◌, Bool, true, false, ◌&&◌, not, List, [], ◌∷◌, ◌++◌, ℕ, suc, ◌-◌, ◌*◌, ◌^◌, leb, eqb, length, get_or, drop}
+use Rattle.std.specs.Prelude.{◌≡◌, Bool, true, false, ◌&&◌, not, Option, Some, None, Result, Ok, Err, List, [], ◌∷◌, ◌++◌, ℕ, suc, ◌-◌, ◌*◌, ◌^◌, leb, eqb, length, get_or, drop}
 use Rattle.io.specs.Digits.{last_digits}
 use Rattle.text.specs.Text.{all_digits, value_from}
 use Rattle.cellid.specs.CellId.{valid_id}
+use Rattle.refusal.specs.declared.Refusal.{Refusal}
+use Rattle.refusal.specs.Refusal as Numbers
 use Rattle.tokens.specs.declared.Form.{Form}
-use Rattle.tokens.specs.declared.Answer.{Answer}
 
 -- ---- names
 
@@ -40,7 +41,7 @@ is_name Form.Token t = leb 1 (length t) && (leb (length t) 16 && (all_digits 16 
 unfoldable pub value_of : List ℕ → ℕ
 value_of t = value_from 16 0 t * 16 ^ (16 - length t)
 
--- the number of a name; 0, which is no id, for what is none
+-- the number of a name; 0, which is no id, for what is none: so one look at numbers finds malformed lines and invalid ids
 unfoldable pub named : Form → List ℕ → ℕ
 named form t = elim (is_name form t) [ true ↦ value_of t | false ↦ 0 ]
 
@@ -70,64 +71,50 @@ ids_from form s (b ∷ l) = elim (eqb b 10) [ true ↦ named form s ∷ ids_from
 abbrev pub ids_of : Form → List ℕ → List ℕ
 ids_of form text = ids_from form [] text
 
--- ---- a look at all numbers: "every id valid", or "the number from 1 of the first such" that is not
+-- ---- a look at all numbers: "the number from 1 of the first such" that is no valid id, where so many are seen already; none where "every id valid"
 
-pub data Seen : Type 0 where
-  sound : Seen
-  bad : ℕ → Seen
-
--- so many are seen already
-unfoldable pub seen : ℕ → List ℕ → Seen
-seen k [] = sound
-seen k (id ∷ l) = elim (valid_id id) [ true ↦ seen (suc k) l | false ↦ bad (suc k) ]
+unfoldable pub first_bad : ℕ → List ℕ → Option ℕ
+first_bad k [] = None
+first_bad k (id ∷ l) = elim (valid_id id) [ true ↦ first_bad (suc k) l | false ↦ Some (suc k) ]
 
 -- ---- what a call comes to
 
-pub data Result : Type 0 where
-  malformed : ℕ → Result
-  no_room : Result
-  done : List ℕ → Result
-
 -- l is the answer where all is sound: "11 malformed line when reading, invalid id when writing", "12 list or text longer than its buffer, after 11"
-unfoldable pub result_of : Seen → List ℕ → ℕ → Result
-result_of (bad k) l room = malformed k
-result_of sound l room = elim (leb (length l) room) [ true ↦ done l | false ↦ no_room ]
+unfoldable pub result_of : Option ℕ → List ℕ → ℕ → Result (List ℕ) Refusal
+result_of (Some k) l room = Err (Refusal.Malformed k)
+result_of None l room = elim (leb (length l) room) [ true ↦ Ok l | false ↦ Err Refusal.NamesTooLong ]
 
 -- with so many bytes, or so many places, of output
-unfoldable pub write_result : Form → List ℕ → ℕ → Result
-write_result form ids room = result_of (seen 0 ids) (lines_of form ids) room
+unfoldable pub write_result : Form → List ℕ → ℕ → Result (List ℕ) Refusal
+write_result form ids room = result_of (first_bad 0 ids) (lines_of form ids) room
 
-unfoldable pub read_result : Form → List ℕ → ℕ → Result
-read_result form text room = result_of (seen 0 (ids_of form text)) (ids_of form text) room
+unfoldable pub read_result : Form → List ℕ → ℕ → Result (List ℕ) Refusal
+read_result form text room = result_of (first_bad 0 (ids_of form text)) (ids_of form text) room
 
-unfoldable pub token_answer : Result → Answer
-token_answer (malformed k) = Answer.Malformed k
-token_answer no_room = Answer.NoRoom
-token_answer (done l) = Answer.Done (length l)
+-- how many bytes or ids are given
+unfoldable pub length_of : Result (List ℕ) Refusal → Result ℕ Refusal
+length_of (Ok l) = Ok (length l)
+length_of (Err e) = Err e
 
 -- "the output unchanged in both"; else the list or text stands in the first places, and the others stay
-unfoldable pub output_after : Result → List ℕ → List ℕ
-output_after (malformed k) out = out
-output_after no_room out = out
-output_after (done l) out = l ++ drop (length l) out
+unfoldable pub output_after : Result (List ℕ) Refusal → List ℕ → List ℕ
+output_after (Ok l) out = l ++ drop (length l) out
+output_after (Err e) out = out
 
 -- what a public function ensures of its answer and the output
-pub record Answered (R : Result) (r : Answer) (out out' : List ℕ) : Type 0 where
-  pub answer : r ≡ token_answer R
+pub record Answered (R : Result (List ℕ) Refusal) (r : Result ℕ Refusal) (out out' : List ℕ) : Type 0 where
+  pub answer : r ≡ length_of R
   pub output : out' ≡ output_after R out
 
 -- the paper's number of an answer, 0 for success; how many bytes or ids were written; "the number from 1 of the first such", 0 where there is none
-unfoldable pub number_of : Answer → ℕ
-number_of (Answer.Done n) = 0
-number_of (Answer.Malformed k) = 11
-number_of Answer.NoRoom = 12
+abbrev pub number_of : Result ℕ Refusal → ℕ
+number_of (Ok n) = 0
+number_of (Err e) = Numbers.number_of e
 
-unfoldable pub written_of : Answer → ℕ
-written_of (Answer.Done n) = n
-written_of (Answer.Malformed k) = 0
-written_of Answer.NoRoom = 0
+abbrev pub written_of : Result ℕ Refusal → ℕ
+written_of (Ok n) = n
+written_of (Err e) = 0
 
-unfoldable pub first_of : Answer → ℕ
-first_of (Answer.Done n) = 0
-first_of (Answer.Malformed k) = k
-first_of Answer.NoRoom = 0
+abbrev pub first_of : Result ℕ Refusal → ℕ
+first_of (Err (Refusal.Malformed k)) = k
+first_of _ = 0

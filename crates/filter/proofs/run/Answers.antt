@@ -9,9 +9,6 @@ pub slice_bounds-answer-end : goal.slice_bounds-answer-end
 unfolding held_bytes
 slice_bounds-answer-end c = omega (arith, rw c.in-Held.is at c.read_all-all.ensures)
 
-pub tell-requires-in-TooLong : goal.tell-requires-in-TooLong
-tell-requires-in-TooLong c = omega (arith, c.put_over-length.ensures.count)
-
 pub slice_bounds-answer-end-in-Held : goal.slice_bounds-answer-end-in-Held
 unfolding held_bytes
 slice_bounds-answer-end-in-Held c = sym (length-take-le _ _ (omega (arith, rw c.in-Held.is at c.read_all-all.ensures)))

@@ -6,4 +6,4 @@ use Rattle.replies.proofs.put_error.Goals as goal
 
 pub returns : goal.returns
 unfolding error_text ascii
-returns c = wrote_then c.put_number-a.ensures (wrote_then c.put-b.ensures (wrote_then c.put_fault-c.ensures c.put.ensures))
+returns c = wrote_then c.put_number-a.ensures (wrote_then c.put-b.ensures (wrote_then (rw c.word.ensures at c.put-c.ensures) c.put.ensures))

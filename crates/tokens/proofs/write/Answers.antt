@@ -1,19 +1,17 @@
 -- `tokens::write`: one look, and where all is sound and fits, the lines.
 use mathlib.Core.Path.{sym, ◌∙◌}
+use Rattle.std.proofs.lemmas.Result.{err_from_is_err_and}
 use Rattle.tokens.specs.Tokens.{write_result}
-use Rattle.tokens.proofs.Turns.{fits, answered_done, answered_bad, answered_full}
+use Rattle.tokens.proofs.Turns.{fits, answered_done, answered_bad}
 use Rattle.tokens.proofs.write.Goals as goal
 
 pub put_lines-requires : goal.put_lines-requires
 unfolding write_result
-put_lines-requires c = (fits _ _ _ _ (sym c.in-Done.is ∙ c.look_ids-found.ensures)).within
+put_lines-requires c = (fits _ _ _ _ (sym c.in_ok-look_ids.was ∙ c.look_ids.ensures)).within
 
-pub returns-in-Done : goal.returns-in-Done
+pub returns : goal.returns
 unfolding write_result
-returns-in-Done c = answered_done _ _ _ _ _ _ (fits _ _ _ _ (sym c.in-Done.is ∙ c.look_ids-found.ensures)) c.put_lines.ensures
+returns c = answered_done _ _ _ _ _ _ (fits _ _ _ _ (sym c.in_ok-look_ids.was ∙ c.look_ids.ensures)) c.put_lines.ensures
 
-pub returns-in-Malformed : goal.returns-in-Malformed
-returns-in-Malformed c = answered_bad _ _ _ (sym c.in-Malformed.is ∙ c.look_ids-found.ensures)
-
-pub returns-in-NoRoom : goal.returns-in-NoRoom
-returns-in-NoRoom c = answered_full _ _ (sym c.in-NoRoom.is ∙ c.look_ids-found.ensures)
+pub returns-in_err-look_ids : goal.returns-in_err-look_ids
+returns-in_err-look_ids c = let p = err_from_is_err_and c.from_residual.result c.from_residual.ensures.1 in rw (p.1, p.2) (answered_bad _ _ _ (sym c.in_err-look_ids.was ∙ c.look_ids.ensures))
