@@ -14,7 +14,9 @@ use borrow.Author.Tests.{lt-ltb, le-ltb}
 use Rattle.io.specs.Digits.{last_digits, IsDigitCount}
 use Rattle.cellid.proofs.Puts.{sets_append}
 use Rattle.tokens.specs.declared.Form.{Form}
-use Rattle.replies.specs.Write.{Wrote, spelled, decimal_text, id_text, ids_text}
+use Rattle.totals.specs.declared.Totals.{Totals}
+use Rattle.totals.specs.Totals.{six_of, total_at}
+use Rattle.replies.specs.Write.{Wrote, spelled, decimal_text, space, id_text, ids_text, numbers_text}
 
 -- ---- parts
 
@@ -82,6 +84,23 @@ decimal_text_lem zero n h b = absurd (omega arith)
 decimal_text_lem (suc k) n h b =
     let e : suc k - 1 ≡ k = omega arith in
     digits_spelled k n 20 h.1 (λ p. rw e at (h.2 (omega arith))) (omega (arith, few 10 1 20 n (suc k) (omega arith) (omega arith) (omega arith) h))
+
+numbers_go : (l : List ℕ) (i : ℕ) → i < length l → numbers_text (drop i l) ≡ (space ++ decimal_text (get_or l i 0)) ++ numbers_text (drop (i + 1) l)
+unfolding numbers_text
+numbers_go l i h = rw (drop-cons l i 0 h, numbers_text, add-one i) (sym (append_assoc space (decimal_text (get_or l i 0)) _))
+
+-- a total more
+six_at : (t : Totals) (i : ℕ) → i < 6 → get_or (six_of t) i 0 ≡ total_at t i
+six_at t zero h = refl
+six_at t (suc zero) h = refl
+six_at t (suc (suc zero)) h = refl
+six_at t (suc (suc (suc zero))) h = refl
+six_at t (suc (suc (suc (suc zero)))) h = refl
+six_at t (suc (suc (suc (suc (suc zero))))) h = refl
+six_at t (suc (suc (suc (suc (suc (suc i)))))) h = absurd (omega (arith, h))
+
+pub totals_go : (t : Totals) (i : ℕ) → i < 6 → numbers_text (drop i (six_of t)) ≡ (space ++ decimal_text (total_at t i)) ++ numbers_text (drop (i + 1) (six_of t))
+totals_go t i h = numbers_go (six_of t) i h ∙ rw (six_at t i h)
 
 pub ids_go : (form : Form) (l : List ℕ) (i : ℕ) → i < length l → ids_text form (drop i l) ≡ id_text form (get_or l i 0) ++ ids_text form (drop (i + 1) l)
 unfolding ids_text

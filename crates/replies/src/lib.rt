@@ -138,12 +138,11 @@ pub fn put_counted(text: &mut [u8], at: usize, form: Form, ids: &[u64]) -> usize
 pub fn put_totals(text: &mut [u8], at: usize, t: Totals) -> usize
     ensures { Wrote at (totals_text t) text.old result text.new }
 {
-    let a = put_number(text, at, b" ", t.six[0]);
-    let b = put_number(text, a, b" ", t.six[1]);
-    let c = put_number(text, b, b" ", t.six[2]);
-    let d = put_number(text, c, b" ", t.six[3]);
-    let e = put_number(text, d, b" ", t.six[4]);
-    put_number(text, e, b" ", t.six[5])
+    let mut n = at;
+    for place in 0..6 {
+        n = put_number(text, n, b" ", t.get(place));
+    }
+    n
 }
 
 // The answer to a request that is met: `ok STEPS ASIDE0 .. ASIDE5 COUNT ID...`.
