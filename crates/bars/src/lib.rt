@@ -62,10 +62,10 @@ pub fn edition_bar(n: u64) -> Bar
 }
 
 // 5: the region.
-pub fn region_bar(g: Region, list: &[u64]) -> Bar
-    ensures { result ≡ region_bar (area_of g list.now) }
+pub fn region_bar(g: Region<'_>) -> Bar
+    ensures { result ≡ region_bar (area_of g.entry) }
 {
-    if region::in_domain(g, list) {
+    if region::in_domain(g) {
         Bar::Open
     } else {
         Bar::Barred(5)
@@ -84,9 +84,9 @@ pub fn memory_bar(words: usize) -> Bar
 }
 
 // The first of these refusals that is to be given, if any.
-pub fn first_refusal(c: RegionCoverer, g: Region, list: &[u64], words: usize) -> Bar
-    ensures { result ≡ bar_of c (area_of g list.now) words }
+pub fn first_refusal(c: RegionCoverer, g: Region<'_>, words: usize) -> Bar
+    ensures { result ≡ bar_of c (area_of g.entry) words }
 {
-    let late = first_bar(region_bar(g, list), memory_bar(words));
+    let late = first_bar(region_bar(g), memory_bar(words));
     first_bar(numbers_bar(c), first_bar(edition_bar(c.edition), late))
 }

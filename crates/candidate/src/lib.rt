@@ -52,14 +52,14 @@ fn asks_whole(q: Request, level: u64, crossing: Candidate) -> bool
 
 // What the cell is to the run: kept if it is terminal, queued if it is to be expanded, none if it lies outside or an inner run can't use it. One look, for no
 // more than the run asks.
-pub fn new_candidate(q: Request, g: Region, list: &[u64], id: u64) -> Candidate
-    requires asks { Asks q (area_of g list.now) }
+pub fn new_candidate(q: Request, g: Region<'_>, id: u64) -> Candidate
+    requires asks { Asks q (area_of g) }
     requires cell { Cell id }
-    ensures { result ≡ candidate_of (look (task_of q (area_of g list.now)) id) }
+    ensures { result ≡ candidate_of (look (task_of q (area_of g.entry)) id) }
 {
     let level = cellid::level(id);
     let c = crossing(q, level);
-    let s = region::look_at(g, list, id, asks_whole(q, level, c));
+    let s = region::look_at(g, id, asks_whole(q, level, c));
     match s {
         Sight::Outside => Candidate::None,
         Sight::Crossing => c,
@@ -68,14 +68,14 @@ pub fn new_candidate(q: Request, g: Region, list: &[u64], id: u64) -> Candidate
 }
 
 // The sets of the four children of a cell, which have one level, so that one rule holds for all four.
-fn children(q: Request, g: Region, list: &[u64], id: u64) -> Found
-    requires asks { Asks q (area_of g list.now) }
+fn children(q: Request, g: Region<'_>, id: u64) -> Found
+    requires asks { Asks q (area_of g) }
     requires cell { Cell id × (level_of id < 30) }
-    ensures { result ≡ found (task_of q (area_of g list.now)) 1 id }
+    ensures { result ≡ found (task_of q (area_of g.entry)) 1 id }
 {
     let under = cellid::level(id) + 1;
     let c = crossing(q, under);
-    let l = region::look_children(g, list, id, asks_whole(q, under, c));
+    let l = region::look_children(g, id, asks_whole(q, under, c));
     match c {
         Candidate::Kept => Found {
             present: l.passing,
@@ -104,18 +104,18 @@ fn placed(acc: Found, f: Found, width: u64, k: u64) -> Found
 }
 
 // The children `left` levels under a cell, one level inside another: the cells between are looked at four by four, each cell once.
-fn expand_children(q: Request, g: Region, list: &[u64], id: u64, left: u64) -> Found
-    requires asks { Asks q (area_of g list.now) }
+fn expand_children(q: Request, g: Region<'_>, id: u64, left: u64) -> Found
+    requires asks { Asks q (area_of g) }
     requires left_nonzero { (0 < left) × (left ≤ 3) }
     requires cell { Cell id × (level_of id + left ≤ 30) }
-    ensures { result ≡ found (task_of q (area_of g list.now)) left id }
+    ensures { result ≡ found (task_of q (area_of g.entry)) left id }
 {
     if left == 1 {
-        return children(q, g, list, id);
+        return children(q, g, id);
     }
     let less = left - 1;
     let width: u64 = 1 << (2 * less);
-    let l = region::look_children(g, list, id, false);
+    let l = region::look_children(g, id, false);
     let passing = l.passing;
     let mut acc = Found {
         present: 0,
@@ -124,7 +124,7 @@ fn expand_children(q: Request, g: Region, list: &[u64], id: u64, left: u64) -> F
     let mut k: u64 = 0;
     while k < 4 {
         let f = if (passing >> k) & 1 == 1 {
-            expand_children(q, g, list, cellid::child(id, k), less)
+            expand_children(q, g, cellid::child(id, k), less)
         } else {
             Found {
                 present: 0,
@@ -138,18 +138,18 @@ fn expand_children(q: Request, g: Region, list: &[u64], id: u64, left: u64) -> F
 }
 
 // The children of a candidate that is to be expanded: by one level below min, else by level_mod.
-pub fn expand(q: Request, g: Region, list: &[u64], id: u64) -> Found
-    requires asks { Asks q (area_of g list.now) }
+pub fn expand(q: Request, g: Region<'_>, id: u64) -> Found
+    requires asks { Asks q (area_of g) }
     requires cell { Cell id × (level_of id + depth q id ≤ 30) }
-    ensures { result ≡ found (task_of q (area_of g list.now)) (depth q id) id }
+    ensures { result ≡ found (task_of q (area_of g.entry)) (depth q id) id }
 {
     if cellid::level(id) < q.coverer.min_level {
-        children(q, g, list, id)
+        children(q, g, id)
     } else {
         if q.coverer.level_mod == 1 {
-            children(q, g, list, id)
+            children(q, g, id)
         } else {
-            expand_children(q, g, list, id, q.coverer.level_mod)
+            expand_children(q, g, id, q.coverer.level_mod)
         }
     }
 }

@@ -59,7 +59,7 @@ fn call_cap(
     let center = Point { x, y, z };
     let cap = Cap { center, radius };
     let g = Region::Cap(cap);
-    let a = covering::respond(Engine::Quick, kind, c, g, &[], allowance, mem, out);
+    let a = covering::respond(Engine::Quick, kind, c, g, allowance, mem, out);
     tell(a, count, steps, aside)
 }
 
@@ -78,7 +78,7 @@ fn call_cell(
     ensures { Called (result_of kind c (cell_area id) allowance (length mem.old) (length out.old)) result mem.old mem.new out.old out.new count.new steps.new aside.new }
 {
     let g = Region::Cell(id);
-    let a = covering::respond(Engine::Quick, kind, c, g, &[], allowance, mem, out);
+    let a = covering::respond(Engine::Quick, kind, c, g, allowance, mem, out);
     tell(a, count, steps, aside)
 }
 
@@ -100,8 +100,7 @@ fn call_list(
         Engine::Quick,
         kind,
         c,
-        Region::List,
-        list,
+        Region::List(list),
         allowance,
         mem,
         out,
@@ -721,8 +720,7 @@ pub fn flaxbadger_fast_covering_list(
 fn call_by(
     engines: u64,
     kind: Kind,
-    g: Region,
-    list: &[u64],
+    g: Region<'_>,
     c: RegionCoverer,
     allowance: u32,
     mem: &mut [u64],
@@ -732,10 +730,10 @@ fn call_by(
     aside: &mut [u64; 6],
     agree: &mut u64,
 ) -> u64
-    ensures { CalledBy (result_of kind c (area_of g list.now) allowance (length mem.old) (length out.old)) result mem.old mem.new out.old out.new count.new steps.new aside.new agree.new }
+    ensures { CalledBy (result_of kind c (area_of g.entry) allowance (length mem.old) (length out.old)) result mem.old mem.new out.old out.new count.new steps.new aside.new agree.new }
 {
     let by = selftest::engines_of(engines);
-    let t = selftest::respond(by, kind, c, g, list, allowance, mem, out);
+    let t = selftest::respond(by, kind, c, g, allowance, mem, out);
     *agree = t.agree as u64;
     tell(t.answer, count, steps, aside)
 }
@@ -763,18 +761,7 @@ fn call_cap_by(
     let cap = Cap { center, radius };
     let g = Region::Cap(cap);
     call_by(
-        engines,
-        kind,
-        g,
-        &[],
-        c,
-        allowance,
-        mem,
-        out,
-        count,
-        steps,
-        aside,
-        agree,
+        engines, kind, g, c, allowance, mem, out, count, steps, aside, agree,
     )
 }
 
@@ -796,18 +783,7 @@ fn call_cell_by(
 {
     let g = Region::Cell(id);
     call_by(
-        engines,
-        kind,
-        g,
-        &[],
-        c,
-        allowance,
-        mem,
-        out,
-        count,
-        steps,
-        aside,
-        agree,
+        engines, kind, g, c, allowance, mem, out, count, steps, aside, agree,
     )
 }
 
@@ -830,8 +806,7 @@ fn call_list_by(
     call_by(
         engines,
         kind,
-        Region::List,
-        list,
+        Region::List(list),
         c,
         allowance,
         mem,

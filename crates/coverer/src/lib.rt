@@ -164,25 +164,24 @@ fn add_candidate(
     m: &mut [u64],
     t: Counts,
     q: Request,
-    g: Region,
-    list: &[u64],
+    g: Region<'_>,
     e: Engine,
     from: u64,
     id: u64,
     terminal: bool,
 ) -> Turn
     requires memory_words_in_bounds { memory_words ≤ length m.old }
-    requires asks { Asks q (area_of g list.now) }
+    requires asks { Asks q (area_of g) }
     requires from_lt_places_most { from < places_most }
-    requires child_ok { ChildOk (task_of q (area_of g list.now)) (record { id = id; ends = terminal }) }
+    requires child_ok { ChildOk (task_of q (area_of g)) (record { id = id; ends = terminal }) }
     requires aside_fits { t.aside + leaves_of id < 2 ^ 64 }
-    ensures does { Does e (task_of q (area_of g list.now)) from (add (course_of q (area_of g list.now)) (grown from id) terminal) m.old t m.new result }
+    ensures does { Does e (task_of q (area_of g.entry)) from (add (course_of q (area_of g.entry)) (grown from id) terminal) m.old t m.new result }
     ensures aside_up_to { AsideUpTo (t.aside + leaves_of id) result }
 {
     if terminal {
         return keep(m, t, id);
     }
-    let f = candidate::expand(q, g, list, id);
+    let f = candidate::expand(q, g, id);
     if f.present == 0 {
         return Turn::Going(set_aside(q, t, cellid::lsb(id)));
     }
@@ -208,18 +207,17 @@ fn add_child(
     m: &mut [u64],
     t: Counts,
     q: Request,
-    g: Region,
-    list: &[u64],
+    g: Region<'_>,
     e: Engine,
     b: Brood,
     j: u64,
 ) -> Turn
     requires memory_words_in_bounds { memory_words ≤ length m.old }
-    requires asks { Asks q (area_of g list.now) }
+    requires asks { Asks q (area_of g) }
     requires j_bound { (j < 64) × (b.from < places_most) }
-    requires all { All (ChildOk (task_of q (area_of g list.now))) (child_if b j) }
+    requires all { All (ChildOk (task_of q (area_of g))) (child_if b j) }
     requires aside_fits { t.aside + leaves_in (child_if b j) < 2 ^ 64 }
-    ensures does { Does e (task_of q (area_of g list.now)) b.from (add_all (course_of q (area_of g list.now)) b.from (child_if b j)) m.old t m.new result }
+    ensures does { Does e (task_of q (area_of g.entry)) b.from (add_all (course_of q (area_of g.entry)) b.from (child_if b j)) m.old t m.new result }
     ensures aside_up_to { AsideUpTo (t.aside + leaves_in (child_if b j)) result }
 {
     if is_in(b.present, j) {
@@ -227,17 +225,7 @@ fn add_child(
             Turn::Going(t)
         } else {
             let ends = is_in(b.terminal, j);
-            add_candidate(
-                m,
-                t,
-                q,
-                g,
-                list,
-                e,
-                b.from,
-                b.base + (2 * j + 1) * b.unit,
-                ends,
-            )
+            add_candidate(m, t, q, g, e, b.from, b.base + (2 * j + 1) * b.unit, ends)
         }
     } else {
         Turn::Going(t)
@@ -245,27 +233,19 @@ fn add_child(
 }
 
 // Adds the children of a brood, in order.
-fn add_children(
-    m: &mut [u64],
-    s: Counts,
-    q: Request,
-    g: Region,
-    list: &[u64],
-    e: Engine,
-    b: Brood,
-) -> Turn
+fn add_children(m: &mut [u64], s: Counts, q: Request, g: Region<'_>, e: Engine, b: Brood) -> Turn
     requires memory_words_in_bounds { memory_words ≤ length m.old }
-    requires asks { Asks q (area_of g list.now) }
+    requires asks { Asks q (area_of g) }
     requires places_bound { (b.places ≤ 64) × (b.from < places_most) }
-    requires all { All (ChildOk (task_of q (area_of g list.now))) (children_from b 0) }
+    requires all { All (ChildOk (task_of q (area_of g))) (children_from b 0) }
     requires aside_fits { s.aside + leaves_in (children_from b 0) < 2 ^ 64 }
-    ensures { Does e (task_of q (area_of g list.now)) b.from (add_all (course_of q (area_of g list.now)) b.from (children_from b 0)) m.old s m.new result }
+    ensures { Does e (task_of q (area_of g.entry)) b.from (add_all (course_of q (area_of g.entry)) b.from (children_from b 0)) m.old s m.new result }
 {
     let places = b.places;
     let mut t = s;
     let mut j: u64 = 0;
     while j < places {
-        let r = add_child(m, t, q, g, list, e, b, j);
+        let r = add_child(m, t, q, g, e, b, j);
         match r {
             Turn::Refused(n) => {
                 return Turn::Refused(n);
@@ -302,40 +282,31 @@ fn hand_on(
     m: &mut [u64],
     t: Counts,
     q: Request,
-    g: Region,
-    list: &[u64],
+    g: Region<'_>,
     e: Engine,
     r: Rec,
     children: u64,
 ) -> Turn
     requires memory_words_in_bounds { memory_words ≤ length m.old }
-    requires asks { Asks q (area_of g list.now) }
-    requires taken { Taken (task_of q (area_of g list.now)) r }
+    requires asks { Asks q (area_of g) }
+    requires taken { Taken (task_of q (area_of g)) r }
     requires children_value { children ≡ ones r.present }
     requires aside_fits { t.aside + leaves_of r.id < 2 ^ 64 }
-    ensures { Does e (task_of q (area_of g list.now)) (from_r r) (hand_on (task_of q (area_of g list.now)) (grown (from_r r) r.id)) m.old t m.new result }
+    ensures { Does e (task_of q (area_of g.entry)) (from_r r) (hand_on (task_of q (area_of g.entry)) (grown (from_r r) r.id)) m.old t m.new result }
 {
     let b = cells_under(r, decide::levels_under(q, r.id));
     let failed = (b.places - children) * b.unit;
-    add_children(m, set_aside(q, t, failed), q, g, list, e, b)
+    add_children(m, set_aside(q, t, failed), q, g, e, b)
 }
 
 // What is done with a taken record.
-fn use_taken(
-    m: &mut [u64],
-    t: Counts,
-    q: Request,
-    g: Region,
-    list: &[u64],
-    e: Engine,
-    r: Rec,
-) -> Turn
+fn use_taken(m: &mut [u64], t: Counts, q: Request, g: Region<'_>, e: Engine, r: Rec) -> Turn
     requires memory_words_in_bounds { memory_words ≤ length m.old }
-    requires asks { Asks q (area_of g list.now) }
+    requires asks { Asks q (area_of g) }
     requires kept_le_raw_most { (t.kept ≤ raw_most) × (t.queued ≤ queue_most) }
-    requires taken { Taken (task_of q (area_of g list.now)) r }
+    requires taken { Taken (task_of q (area_of g)) r }
     requires aside_fits { t.aside + leaves_of r.id < 2 ^ 64 }
-    ensures { Does e (task_of q (area_of g list.now)) (from_r r) (step_with (course_of q (area_of g list.now)) (grown (from_r r) r.id)) m.old t m.new result }
+    ensures { Does e (task_of q (area_of g.entry)) (from_r r) (step_with (course_of q (area_of g.entry)) (grown (from_r r) r.id)) m.old t m.new result }
 {
     if decide::is_full(q, t.kept) {
         return Turn::Going(Counts {
@@ -347,7 +318,7 @@ fn use_taken(
     }
     let children = records::count(r.present);
     if decide::is_handed_on(q, t.kept, t.queued, r.id, children) {
-        hand_on(m, t, q, g, list, e, r, children)
+        hand_on(m, t, q, g, e, r, children)
     } else {
         keep(m, t, r.id)
     }
@@ -373,12 +344,12 @@ fn end_turn(turn: Turn, before: Totals, from: u64) -> Stage
 }
 
 // One step: takes the least of the queue.
-fn step(m: &mut [u64], t: Tally, q: Request, g: Region, list: &[u64], e: Engine) -> Stage
+fn step(m: &mut [u64], t: Tally, q: Request, g: Region<'_>, e: Engine) -> Stage
     requires memory_words_in_bounds { memory_words ≤ length m.old }
-    requires asks { Asks q (area_of g list.now) }
-    requires live { Live e (task_of q (area_of g list.now)) m.old t }
+    requires asks { Asks q (area_of g) }
+    requires live { Live e (task_of q (area_of g)) m.old t }
     requires queued_nonzero { (0 < t.queued) × (t.steps + 1 < 2 ^ 32) }
-    ensures { (l : List ℕ) → Reached e (task_of q (area_of g list.now)) l m.old t → Comes e (task_of q (area_of g list.now)) (after (course_of q (area_of g list.now)) l (t.steps + 1)) m.old m.new result }
+    ensures { (l : List ℕ) → Reached e (task_of q (area_of g.entry)) l m.old t → Comes e (task_of q (area_of g.entry)) (after (course_of q (area_of g.entry)) l (t.steps + 1)) m.old m.new result }
 {
     let n = t.queued - 1;
     let r = queue::take(e, m, n);
@@ -394,7 +365,6 @@ fn step(m: &mut [u64], t: Tally, q: Request, g: Region, list: &[u64], e: Engine)
         },
         q,
         g,
-        list,
         e,
         r,
     );
@@ -402,27 +372,18 @@ fn step(m: &mut [u64], t: Tally, q: Request, g: Region, list: &[u64], e: Engine)
 }
 
 // The start cell at the place `from`: added if it is a candidate. One that fails is set aside.
-fn start(
-    m: &mut [u64],
-    t: Counts,
-    q: Request,
-    g: Region,
-    list: &[u64],
-    e: Engine,
-    from: u64,
-    id: u64,
-) -> Turn
+fn start(m: &mut [u64], t: Counts, q: Request, g: Region<'_>, e: Engine, from: u64, id: u64) -> Turn
     requires memory_words_in_bounds { memory_words ≤ length m.old }
-    requires asks { Asks q (area_of g list.now) }
+    requires asks { Asks q (area_of g) }
     requires from_lt_places_most { from < places_most }
     requires fit { Fit q id }
     requires aside_fits { t.aside + leaves_of id < 2 ^ 64 }
-    ensures { Does e (task_of q (area_of g list.now)) from (start_one (task_of q (area_of g list.now)) (grown from id)) m.old t m.new result }
+    ensures { Does e (task_of q (area_of g.entry)) from (start_one (task_of q (area_of g.entry)) (grown from id)) m.old t m.new result }
 {
-    let c = candidate::new_candidate(q, g, list, id);
+    let c = candidate::new_candidate(q, g, id);
     match c {
-        Candidate::Kept => add_candidate(m, t, q, g, list, e, from, id, true),
-        Candidate::Queued => add_candidate(m, t, q, g, list, e, from, id, false),
+        Candidate::Kept => add_candidate(m, t, q, g, e, from, id, true),
+        Candidate::Queued => add_candidate(m, t, q, g, e, from, id, false),
         Candidate::None => Turn::Going(set_aside(q, t, cellid::lsb(id))),
     }
 }
@@ -431,17 +392,16 @@ fn start(
 fn initial_candidates(
     m: &mut [u64],
     q: Request,
-    g: Region,
-    list: &[u64],
+    g: Region<'_>,
     e: Engine,
     ids: [u64; 6],
     count: usize,
 ) -> Stage
     requires memory_words_in_bounds { memory_words ≤ length m.old }
-    requires asks { Asks q (area_of g list.now) }
+    requires asks { Asks q (area_of g) }
     requires count_bound { count ≤ 6 }
     requires all { All (Fit q) (take count ids) }
-    ensures { Comes e (task_of q (area_of g list.now)) (after (course_of q (area_of g list.now)) (take count ids) 0) m.old m.new result }
+    ensures { Comes e (task_of q (area_of g.entry)) (after (course_of q (area_of g.entry)) (take count ids) 0) m.old m.new result }
 {
     let aside = Totals::NONE;
     let mut t = Tally {
@@ -463,7 +423,6 @@ fn initial_candidates(
             },
             q,
             g,
-            list,
             e,
             i as u64,
             ids[i],
@@ -483,27 +442,19 @@ fn initial_candidates(
 }
 
 // Step after step until the queue is empty or the allowance is used up.
-fn proceed(
-    m: &mut [u64],
-    s: Tally,
-    q: Request,
-    g: Region,
-    list: &[u64],
-    e: Engine,
-    allowance: u32,
-) -> Stage
+fn proceed(m: &mut [u64], s: Tally, q: Request, g: Region<'_>, e: Engine, allowance: u32) -> Stage
     requires memory_words_in_bounds { memory_words ≤ length m.old }
-    requires asks { Asks q (area_of g list.now) }
-    requires live { Live e (task_of q (area_of g list.now)) m.old s }
+    requires asks { Asks q (area_of g) }
+    requires live { Live e (task_of q (area_of g)) m.old s }
     requires steps_le_allowance { s.steps ≤ allowance }
-    ensures { (l : List ℕ) → Reached e (task_of q (area_of g list.now)) l m.old s → Comes e (task_of q (area_of g list.now)) (after (course_of q (area_of g list.now)) l allowance) m.old m.new result }
+    ensures { (l : List ℕ) → Reached e (task_of q (area_of g.entry)) l m.old s → Comes e (task_of q (area_of g.entry)) (after (course_of q (area_of g.entry)) l allowance) m.old m.new result }
 {
     let mut t = s;
     while 0 < t.queued {
         if t.steps == allowance {
             return Stage::Going(t);
         }
-        let r = step(m, t, q, g, list, e);
+        let r = step(m, t, q, g, e);
         match r {
             Stage::Refused(n) => {
                 return Stage::Refused(n);
@@ -520,23 +471,22 @@ fn proceed(
 fn covering_internal(
     m: &mut [u64],
     q: Request,
-    g: Region,
-    list: &[u64],
+    g: Region<'_>,
     e: Engine,
     ids: [u64; 6],
     count: usize,
     allowance: u32,
 ) -> Stage
     requires memory_words_in_bounds { memory_words ≤ length m.old }
-    requires asks { Asks q (area_of g list.now) }
+    requires asks { Asks q (area_of g) }
     requires count_bound { count ≤ 6 }
     requires all { All (Fit q) (take count ids) }
-    ensures { Comes e (task_of q (area_of g list.now)) (after (course_of q (area_of g list.now)) (take count ids) allowance) m.old m.new result }
+    ensures { Comes e (task_of q (area_of g.entry)) (after (course_of q (area_of g.entry)) (take count ids) allowance) m.old m.new result }
 {
-    let r = initial_candidates(m, q, g, list, e, ids, count);
+    let r = initial_candidates(m, q, g, e, ids, count);
     match r {
         Stage::Refused(n) => Stage::Refused(n),
-        Stage::Going(t) => proceed(m, t, q, g, list, e, allowance),
+        Stage::Going(t) => proceed(m, t, q, g, e, allowance),
     }
 }
 
@@ -572,20 +522,19 @@ pub fn run(
     engine: Engine,
     mem: &mut [u64],
     q: Request,
-    g: Region,
-    list: &[u64],
+    g: Region<'_>,
     ids: [u64; 6],
     count: usize,
     allowance: u32,
 ) -> Ran
     requires memory_words_in_bounds { memory_words ≤ length mem.old }
-    requires asks { Asks q (area_of g list.now) }
+    requires asks { Asks q (area_of g) }
     requires count_bound { count ≤ 6 }
     requires all { All (Fit q) (take count ids) }
-    ensures value { result ≡ engine_answer (outcome_of q (area_of g list.now) (take count ids) allowance) }
-    ensures mem_after { mem.new ≡ engine_memory (outcome_of q (area_of g list.now) (take count ids) allowance) mem.old }
+    ensures value { result ≡ engine_answer (outcome_of q (area_of g.entry) (take count ids) allowance) }
+    ensures mem_after { mem.new ≡ engine_memory (outcome_of q (area_of g.entry) (take count ids) allowance) mem.old }
 {
-    let r = covering_internal(mem, q, g, list, engine, ids, count, allowance);
+    let r = covering_internal(mem, q, g, engine, ids, count, allowance);
     match r {
         Stage::Refused(n) => refuse(mem, n),
         Stage::Going(t) => {
@@ -653,22 +602,21 @@ pub fn watch(
     engine: Engine,
     mem: &mut [u64],
     q: Request,
-    g: Region,
-    list: &[u64],
+    g: Region<'_>,
     ids: [u64; 6],
     count: usize,
     steps: u32,
     out: &mut [u64],
 ) -> Seen
     requires memory_words_in_bounds { memory_words ≤ length mem.old }
-    requires asks { Asks q (area_of g list.now) }
+    requires asks { Asks q (area_of g) }
     requires count_bound { count ≤ 6 }
     requires all { All (Fit q) (take count ids) }
-    ensures value { result ≡ seen_of (task_of q (area_of g list.now)) (length out.old) (after (course_of q (area_of g list.now)) (take count ids) steps) }
-    ensures out_after { out.new ≡ seen_over (task_of q (area_of g list.now)) (after (course_of q (area_of g list.now)) (take count ids) steps) out.old }
+    ensures value { result ≡ seen_of (task_of q (area_of g.entry)) (length out.old) (after (course_of q (area_of g.entry)) (take count ids) steps) }
+    ensures out_after { out.new ≡ seen_over (task_of q (area_of g.entry)) (after (course_of q (area_of g.entry)) (take count ids) steps) out.old }
     ensures mem_after { mem.new ≡ cleared 0 memory_words mem.old }
 {
-    let r = covering_internal(mem, q, g, list, engine, ids, count, steps);
+    let r = covering_internal(mem, q, g, engine, ids, count, steps);
     match r {
         Stage::Refused(n) => {
             cellunion::clear(mem, 0, MEMORY_WORDS);

@@ -111,18 +111,17 @@ fn run_from_starts(
     engine: Engine,
     inner: bool,
     c: RegionCoverer,
-    g: Region,
-    list: &[u64],
+    g: Region<'_>,
     allowance: u32,
     mem: &mut [u64],
 ) -> Ran
-    requires { bar_of c (area_of g list.now) (length mem.old) ≡ Bar.Open }
-    ensures { (result ≡ engine_answer (ran_of inner c (area_of g list.now) allowance)) × (mem.new ≡ engine_memory (ran_of inner c (area_of g list.now) allowance) mem.old) }
+    requires { bar_of c (area_of g) (length mem.old) ≡ Bar.Open }
+    ensures { (result ≡ engine_answer (ran_of inner c (area_of g.entry) allowance)) × (mem.new ≡ engine_memory (ran_of inner c (area_of g.entry) allowance) mem.old) }
 {
-    let starts = fast::starts(c, g, list, mem);
+    let starts = fast::starts(c, g, mem);
     let q = Request { coverer: c, inner };
     let ids = starts.ids;
-    coverer::run(engine, mem, q, g, list, ids, starts.count, allowance)
+    coverer::run(engine, mem, q, g, ids, starts.count, allowance)
 }
 
 // Ends a request whose raw list stands in the memory behind the queue's words: lays the list that is asked for over the output, if it has room, and clears
@@ -151,16 +150,15 @@ fn run_and_finish(
     e: Ending,
     inner: bool,
     c: RegionCoverer,
-    g: Region,
-    list: &[u64],
+    g: Region<'_>,
     allowance: u32,
     mem: &mut [u64],
     out: &mut [u64],
 ) -> Answer
-    requires { bar_of c (area_of g list.now) (length mem.old) ≡ Bar.Open }
-    ensures { Answered (ended_as e c (length out.old) (ran_of inner c (area_of g list.now) allowance)) result mem.old mem.new out.old out.new }
+    requires { bar_of c (area_of g) (length mem.old) ≡ Bar.Open }
+    ensures { Answered (ended_as e c (length out.old) (ran_of inner c (area_of g.entry) allowance)) result mem.old mem.new out.old out.new }
 {
-    let ran = run_from_starts(engine, inner, c, g, list, allowance, mem);
+    let ran = run_from_starts(engine, inner, c, g, allowance, mem);
     match ran {
         Ran::Refused(late) => refuse(late),
         Ran::Done {
@@ -172,11 +170,11 @@ fn run_and_finish(
 }
 
 // The quick covering of a request that is not barred.
-fn lay_fast(c: RegionCoverer, g: Region, list: &[u64], mem: &mut [u64], out: &mut [u64]) -> Answer
-    requires { bar_of c (area_of g list.now) (length mem.old) ≡ Bar.Open }
-    ensures { Answered (fitted (length out.old) (fast_covering_for c (bound_of (area_of g list.now))) 0 no_totals) result mem.old mem.new out.old out.new }
+fn lay_fast(c: RegionCoverer, g: Region<'_>, mem: &mut [u64], out: &mut [u64]) -> Answer
+    requires { bar_of c (area_of g) (length mem.old) ≡ Bar.Open }
+    ensures { Answered (fitted (length out.old) (fast_covering_for c (bound_of (area_of g.entry))) 0 no_totals) result mem.old mem.new out.old out.new }
 {
-    let laid = fast::fast_covering(c, g, list, mem, out);
+    let laid = fast::fast_covering(c, g, mem, out);
     clear_front(mem);
     laid_answer(laid, 0, Totals::NONE)
 }
@@ -186,19 +184,18 @@ fn come_to(
     engine: Engine,
     kind: Kind,
     c: RegionCoverer,
-    g: Region,
-    list: &[u64],
+    g: Region<'_>,
     allowance: u32,
     mem: &mut [u64],
     out: &mut [u64],
 ) -> Answer
-    requires { bar_of c (area_of g list.now) (length mem.old) ≡ Bar.Open }
-    ensures { Answered (comes_to kind c (area_of g list.now) allowance (length out.old)) result mem.old mem.new out.old out.new }
+    requires { bar_of c (area_of g) (length mem.old) ≡ Bar.Open }
+    ensures { Answered (comes_to kind c (area_of g.entry) allowance (length out.old)) result mem.old mem.new out.old out.new }
 {
     match kind {
-        Kind::Outer(e) => run_and_finish(engine, e, false, c, g, list, allowance, mem, out),
-        Kind::Inner(e) => run_and_finish(engine, e, true, c, g, list, allowance, mem, out),
-        Kind::Fast => lay_fast(c, g, list, mem, out),
+        Kind::Outer(e) => run_and_finish(engine, e, false, c, g, allowance, mem, out),
+        Kind::Inner(e) => run_and_finish(engine, e, true, c, g, allowance, mem, out),
+        Kind::Fast => lay_fast(c, g, mem, out),
     }
 }
 
@@ -208,17 +205,16 @@ pub fn respond(
     engine: Engine,
     kind: Kind,
     c: RegionCoverer,
-    g: Region,
-    list: &[u64],
+    g: Region<'_>,
     allowance: u32,
     mem: &mut [u64],
     out: &mut [u64],
 ) -> Answer
-    ensures { Answered (result_of kind c (area_of g list.now) allowance (length mem.old) (length out.old)) result mem.old mem.new out.old out.new }
+    ensures { Answered (result_of kind c (area_of g.entry) allowance (length mem.old) (length out.old)) result mem.old mem.new out.old out.new }
 {
-    let first = bars::first_refusal(c, g, list, mem.len());
+    let first = bars::first_refusal(c, g, mem.len());
     match first {
-        Bar::Open => come_to(engine, kind, c, g, list, allowance, mem, out),
+        Bar::Open => come_to(engine, kind, c, g, allowance, mem, out),
         Bar::Barred(number) => refuse(number),
     }
 }
@@ -226,20 +222,18 @@ pub fn respond(
 // A covering: cells of levels min_level to max_level, in whole steps of level_mod, that cover the region as the outer run does.
 pub fn covering(
     c: RegionCoverer,
-    g: Region,
-    list: &[u64],
+    g: Region<'_>,
     allowance: u32,
     mem: &mut [u64],
     out: &mut [u64],
 ) -> Answer
-    ensures { Answered (result_of (Kind.Outer Ending.Covering) c (area_of g list.now) allowance (length mem.old) (length out.old)) result mem.old mem.new out.old out.new }
+    ensures { Answered (result_of (Kind.Outer Ending.Covering) c (area_of g.entry) allowance (length mem.old) (length out.old)) result mem.old mem.new out.old out.new }
 {
     respond(
         Engine::Quick,
         Kind::Outer(Ending::Covering),
         c,
         g,
-        list,
         allowance,
         mem,
         out,
@@ -249,20 +243,18 @@ pub fn covering(
 // The outer run's raw list, normalised; nothing is promised of levels.
 pub fn cellunion(
     c: RegionCoverer,
-    g: Region,
-    list: &[u64],
+    g: Region<'_>,
     allowance: u32,
     mem: &mut [u64],
     out: &mut [u64],
 ) -> Answer
-    ensures { Answered (result_of (Kind.Outer Ending.CellUnion) c (area_of g list.now) allowance (length mem.old) (length out.old)) result mem.old mem.new out.old out.new }
+    ensures { Answered (result_of (Kind.Outer Ending.CellUnion) c (area_of g.entry) allowance (length mem.old) (length out.old)) result mem.old mem.new out.old out.new }
 {
     respond(
         Engine::Quick,
         Kind::Outer(Ending::CellUnion),
         c,
         g,
-        list,
         allowance,
         mem,
         out,
@@ -272,20 +264,18 @@ pub fn cellunion(
 // The outer run's raw list, in the order kept.
 pub fn raw(
     c: RegionCoverer,
-    g: Region,
-    list: &[u64],
+    g: Region<'_>,
     allowance: u32,
     mem: &mut [u64],
     out: &mut [u64],
 ) -> Answer
-    ensures { Answered (result_of (Kind.Outer Ending.Raw) c (area_of g list.now) allowance (length mem.old) (length out.old)) result mem.old mem.new out.old out.new }
+    ensures { Answered (result_of (Kind.Outer Ending.Raw) c (area_of g.entry) allowance (length mem.old) (length out.old)) result mem.old mem.new out.old out.new }
 {
     respond(
         Engine::Quick,
         Kind::Outer(Ending::Raw),
         c,
         g,
-        list,
         allowance,
         mem,
         out,
@@ -295,20 +285,18 @@ pub fn raw(
 // Cells inside the region, of levels min_level to max_level in whole steps of level_mod.
 pub fn interior_covering(
     c: RegionCoverer,
-    g: Region,
-    list: &[u64],
+    g: Region<'_>,
     allowance: u32,
     mem: &mut [u64],
     out: &mut [u64],
 ) -> Answer
-    ensures { Answered (result_of (Kind.Inner Ending.Covering) c (area_of g list.now) allowance (length mem.old) (length out.old)) result mem.old mem.new out.old out.new }
+    ensures { Answered (result_of (Kind.Inner Ending.Covering) c (area_of g.entry) allowance (length mem.old) (length out.old)) result mem.old mem.new out.old out.new }
 {
     respond(
         Engine::Quick,
         Kind::Inner(Ending::Covering),
         c,
         g,
-        list,
         allowance,
         mem,
         out,
@@ -318,20 +306,18 @@ pub fn interior_covering(
 // The inner run's raw list, normalised; nothing is promised of levels.
 pub fn interior_cellunion(
     c: RegionCoverer,
-    g: Region,
-    list: &[u64],
+    g: Region<'_>,
     allowance: u32,
     mem: &mut [u64],
     out: &mut [u64],
 ) -> Answer
-    ensures { Answered (result_of (Kind.Inner Ending.CellUnion) c (area_of g list.now) allowance (length mem.old) (length out.old)) result mem.old mem.new out.old out.new }
+    ensures { Answered (result_of (Kind.Inner Ending.CellUnion) c (area_of g.entry) allowance (length mem.old) (length out.old)) result mem.old mem.new out.old out.new }
 {
     respond(
         Engine::Quick,
         Kind::Inner(Ending::CellUnion),
         c,
         g,
-        list,
         allowance,
         mem,
         out,
@@ -341,20 +327,18 @@ pub fn interior_cellunion(
 // The inner run's raw list, in the order kept.
 pub fn interior_raw(
     c: RegionCoverer,
-    g: Region,
-    list: &[u64],
+    g: Region<'_>,
     allowance: u32,
     mem: &mut [u64],
     out: &mut [u64],
 ) -> Answer
-    ensures { Answered (result_of (Kind.Inner Ending.Raw) c (area_of g list.now) allowance (length mem.old) (length out.old)) result mem.old mem.new out.old out.new }
+    ensures { Answered (result_of (Kind.Inner Ending.Raw) c (area_of g.entry) allowance (length mem.old) (length out.old)) result mem.old mem.new out.old out.new }
 {
     respond(
         Engine::Quick,
         Kind::Inner(Ending::Raw),
         c,
         g,
-        list,
         allowance,
         mem,
         out,
@@ -362,16 +346,10 @@ pub fn interior_raw(
 }
 
 // The quick, coarse covering from the region's bound alone, with no run and 0 steps.
-pub fn fast_covering(
-    c: RegionCoverer,
-    g: Region,
-    list: &[u64],
-    mem: &mut [u64],
-    out: &mut [u64],
-) -> Answer
-    ensures { Answered (result_of Kind.Fast c (area_of g list.now) 0 (length mem.old) (length out.old)) result mem.old mem.new out.old out.new }
+pub fn fast_covering(c: RegionCoverer, g: Region<'_>, mem: &mut [u64], out: &mut [u64]) -> Answer
+    ensures { Answered (result_of Kind.Fast c (area_of g.entry) 0 (length mem.old) (length out.old)) result mem.old mem.new out.old out.new }
 {
-    respond(Engine::Quick, Kind::Fast, c, g, list, 0, mem, out)
+    respond(Engine::Quick, Kind::Fast, c, g, 0, mem, out)
 }
 
 // The run of a request that is not barred, from its start cells, as it stands after so many steps.
@@ -379,19 +357,18 @@ fn watch_from_starts(
     engine: Engine,
     inner: bool,
     c: RegionCoverer,
-    g: Region,
-    list: &[u64],
+    g: Region<'_>,
     steps: u32,
     mem: &mut [u64],
     out: &mut [u64],
 ) -> Seen
-    requires { bar_of c (area_of g list.now) (length mem.old) ≡ Bar.Open }
-    ensures { Watched inner c (area_of g list.now) steps result mem.old mem.new out.old out.new }
+    requires { bar_of c (area_of g) (length mem.old) ≡ Bar.Open }
+    ensures { Watched inner c (area_of g.entry) steps result mem.old mem.new out.old out.new }
 {
-    let starts = fast::starts(c, g, list, mem);
+    let starts = fast::starts(c, g, mem);
     let q = Request { coverer: c, inner };
     let ids = starts.ids;
-    coverer::watch(engine, mem, q, g, list, ids, starts.count, steps, out)
+    coverer::watch(engine, mem, q, g, ids, starts.count, steps, out)
 }
 
 // A request's run as it stands after so many steps, or where its queue is empty before, by either engine: in the output's first places the kept ids, in the
@@ -401,17 +378,16 @@ pub fn watch(
     engine: Engine,
     inner: bool,
     c: RegionCoverer,
-    g: Region,
-    list: &[u64],
+    g: Region<'_>,
     steps: u32,
     mem: &mut [u64],
     out: &mut [u64],
 ) -> Seen
-    ensures { Watched inner c (area_of g list.now) steps result mem.old mem.new out.old out.new }
+    ensures { Watched inner c (area_of g.entry) steps result mem.old mem.new out.old out.new }
 {
-    let first = bars::first_refusal(c, g, list, mem.len());
+    let first = bars::first_refusal(c, g, mem.len());
     match first {
-        Bar::Open => watch_from_starts(engine, inner, c, g, list, steps, mem, out),
+        Bar::Open => watch_from_starts(engine, inner, c, g, steps, mem, out),
         Bar::Barred(number) => Seen::Refused(number),
     }
 }

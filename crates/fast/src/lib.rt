@@ -154,16 +154,15 @@ pub fn normalize_covering(
 // place stays the list before it was denormalised.
 pub fn fast_covering(
     c: RegionCoverer,
-    g: region::Region,
-    list: &[u64],
+    g: region::Region<'_>,
     mem: &mut [u64],
     out: &mut [u64],
 ) -> cellunion::Laid
-    requires { NumbersFit c × (in_domain (area_of g list.now) ≡ true) × (memory_words ≤ length mem.old) }
-    ensures value { (result ≡ room_for (fast_covering_for c (bound_of (area_of g list.now))) out.old) × (out.new ≡ laid_over (fast_covering_for c (bound_of (area_of g list.now))) out.old) }
-    ensures mem_after { mem.new ≡ in_place (length (bound_of (area_of g list.now))) (merged_covering_for c (bound_of (area_of g list.now))) mem.old }
+    requires { NumbersFit c × (in_domain (area_of g) ≡ true) × (memory_words ≤ length mem.old) }
+    ensures value { (result ≡ room_for (fast_covering_for c (bound_of (area_of g.entry))) out.old) × (out.new ≡ laid_over (fast_covering_for c (bound_of (area_of g.entry))) out.old) }
+    ensures mem_after { mem.new ≡ in_place (length (bound_of (area_of g.entry))) (merged_covering_for c (bound_of (area_of g.entry))) mem.old }
 {
-    let n = region::cell_union_bound(g, list, mem);
+    let n = region::cell_union_bound(g, mem);
     normalize_covering(c, mem, n, out)
 }
 
@@ -232,12 +231,12 @@ fn six_words() -> [u64; 6]
 }
 
 // The start cells for the region: those of its bound, which stands in the memory's first words meanwhile; in its place they stay there, too.
-pub fn starts(c: RegionCoverer, g: region::Region, list: &[u64], mem: &mut [u64]) -> StartCells
-    requires { NumbersFit c × (in_domain (area_of g list.now) ≡ true) × (memory_words ≤ length mem.old) }
-    ensures count_value { (result.count ≡ length (starts_for c (bound_of (area_of g list.now)))) × (result.ids ≡ starts_for c (bound_of (area_of g list.now)) ++ zeros (6 - length (starts_for c (bound_of (area_of g list.now))))) }
-    ensures mem_after { mem.new ≡ in_place (length (bound_of (area_of g list.now))) (starts_for c (bound_of (area_of g list.now))) mem.old }
+pub fn starts(c: RegionCoverer, g: region::Region<'_>, mem: &mut [u64]) -> StartCells
+    requires { NumbersFit c × (in_domain (area_of g) ≡ true) × (memory_words ≤ length mem.old) }
+    ensures count_value { (result.count ≡ length (starts_for c (bound_of (area_of g.entry)))) × (result.ids ≡ starts_for c (bound_of (area_of g.entry)) ++ zeros (6 - length (starts_for c (bound_of (area_of g.entry))))) }
+    ensures mem_after { mem.new ≡ in_place (length (bound_of (area_of g.entry))) (starts_for c (bound_of (area_of g.entry))) mem.old }
 {
-    let n = region::cell_union_bound(g, list, mem);
+    let n = region::cell_union_bound(g, mem);
     let count = start_cells(c, mem, n);
     let mut ids = six_words();
     cellunion::copy(mem, count, &mut ids);

@@ -47,8 +47,8 @@ fn kind_of(fast: bool, inner: bool) -> Kind
 }
 
 // The region that an order asks about.
-fn region_of(cell: bool, id: u64, cap: Cap) -> Region
-    ensures { area_of result [] ≡ area_for cell id cap }
+fn region_of<'a>(cell: bool, id: u64, cap: Cap) -> Region<'a>
+    ensures { area_of result ≡ area_for cell id cap }
 {
     if cell {
         return Region::Cell(id);
@@ -70,7 +70,6 @@ fn serve(o: Order, used: usize, mem: &mut [u64], out: &mut [u64]) -> Answer
         kind,
         coverer,
         region,
-        &[],
         o.allowance,
         mem,
         &mut out[used..],

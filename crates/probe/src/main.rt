@@ -308,19 +308,19 @@ fn read_cell(k: u64, line: &[u8], p: Place) -> Read {
     text::read_number(line, p, Base::Sixteen, u64::MAX)
 }
 
-fn put_bound(g: Region, list: &[u64], page: &mut Page) -> usize
-    requires { in_domain (area_of g list.now) ≡ true }
+fn put_bound(g: Region<'_>, page: &mut Page) -> usize
+    requires { in_domain (area_of g) ≡ true }
 {
     let mut mem = memory();
-    let count = region::cell_union_bound(g, list, &mut mem);
+    let count = region::cell_union_bound(g, &mut mem);
     put_list(page, &mem, count)
 }
 
-fn put_starts(c: RegionCoverer, g: Region, list: &[u64], page: &mut Page) -> usize
-    requires { NumbersFit c × (in_domain (area_of g list.now) ≡ true) }
+fn put_starts(c: RegionCoverer, g: Region<'_>, page: &mut Page) -> usize
+    requires { NumbersFit c × (in_domain (area_of g) ≡ true) }
 {
     let mut mem = memory();
-    let s = fast::starts(c, g, list, &mut mem);
+    let s = fast::starts(c, g, &mut mem);
     let ids = s.ids;
     put_list(page, &ids, s.count)
 }
@@ -340,12 +340,12 @@ fn sight_number(s: Sight) -> u64 {
 }
 
 // The looks at the four children: those that pass and those inside, and, where only outside or not is asked, those that pass; zeros for a leaf, which has none.
-fn put_children(g: Region, list: &[u64], id: u64, page: &mut Page, at: usize) -> usize
-    requires { (in_domain (area_of g list.now) ≡ true) × CellId.Cell id }
+fn put_children(g: Region<'_>, id: u64, page: &mut Page, at: usize) -> usize
+    requires { (in_domain (area_of g) ≡ true) × CellId.Cell id }
 {
     if cellid::level(id) < 30 {
-        let l = region::look_children(g, list, id, true);
-        let less = region::look_children(g, list, id, false);
+        let l = region::look_children(g, id, true);
+        let less = region::look_children(g, id, false);
         let n = put_number(page, at, l.passing);
         let m = put_number(page, n, l.inside);
         return put_number(page, m, less.passing);
@@ -354,45 +354,38 @@ fn put_children(g: Region, list: &[u64], id: u64, page: &mut Page, at: usize) ->
 }
 
 // The look at the cell, then whether it passes, where only outside or not is asked, then the looks at its children.
-fn put_look(g: Region, list: &[u64], id: u64, page: &mut Page) -> usize
-    requires { (in_domain (area_of g list.now) ≡ true) × CellId.Cell id }
+fn put_look(g: Region<'_>, id: u64, page: &mut Page) -> usize
+    requires { (in_domain (area_of g) ≡ true) × CellId.Cell id }
 {
-    let n = replies::put_decimal(page, 0, sight_number(region::look_at(g, list, id, true)));
-    let m = put_number(page, n, region::look_at(g, list, id, false).passes() as u64);
-    put_children(g, list, id, page, m)
+    let n = replies::put_decimal(page, 0, sight_number(region::look_at(g, id, true)));
+    let m = put_number(page, n, region::look_at(g, id, false).passes() as u64);
+    put_children(g, id, page, m)
 }
 
 fn put_truth(page: &mut Page, b: bool) -> usize {
     replies::put_decimal(page, 0, b as u64)
 }
 
-fn put_region(k: u64, c: RegionCoverer, g: Region, list: &[u64], id: u64, page: &mut Page) -> usize
-    requires { NumbersFit c × (in_domain (area_of g list.now) ≡ true) × CellId.Cell id }
+fn put_region(k: u64, c: RegionCoverer, g: Region<'_>, id: u64, page: &mut Page) -> usize
+    requires { NumbersFit c × (in_domain (area_of g) ≡ true) × CellId.Cell id }
 {
     match k {
-        16 => put_bound(g, list, page),
-        17 => put_starts(c, g, list, page),
-        21 => put_truth(page, region::look_at(g, list, id, true).is_inside()),
-        22 => put_truth(page, region::look_at(g, list, id, false).passes()),
-        _ => put_look(g, list, id, page),
+        16 => put_bound(g, page),
+        17 => put_starts(c, g, page),
+        21 => put_truth(page, region::look_at(g, id, true).is_inside()),
+        22 => put_truth(page, region::look_at(g, id, false).passes()),
+        _ => put_look(g, id, page),
     }
 }
 
 // Writes the answer, and tells how long it is: 0 outside the domain.
-fn answer_region(
-    k: u64,
-    c: RegionCoverer,
-    g: Region,
-    list: &[u64],
-    last: u64,
-    page: &mut Page,
-) -> usize {
+fn answer_region(k: u64, c: RegionCoverer, g: Region<'_>, last: u64, page: &mut Page) -> usize {
     let id = cell_id(last);
-    let first = bars::first_refusal(c, g, list, MEMORY_WORDS);
+    let first = bars::first_refusal(c, g, MEMORY_WORDS);
     match first {
         Bar::Open => {
             if id == last {
-                return put_region(k, c, g, list, id, page);
+                return put_region(k, c, g, id, page);
             }
             0
         }
@@ -410,8 +403,9 @@ fn ask_region(k: u64, line: &[u8], p: Place, number: u64, page: &mut Page) -> us
     let pi = id.after;
     let end = text::read_end(line, pi);
     let coverer = c.coverer;
-    let region = g.region;
-    let n = answer_region(k, coverer, region, &list[..g.count], id.value, page);
+    let shape = g.shape;
+    let region = requests::region_in(shape, &list);
+    let n = answer_region(k, coverer, region, id.value, page);
     finish(page, number, end, n)
 }
 
@@ -486,7 +480,7 @@ fn answer_list(
     page: &mut Page,
 ) -> usize {
     let m = cells_in_front(ids, n);
-    let first = bars::first_refusal(c, Region::Cell(0x1000_0000_0000_0000), ids, MEMORY_WORDS);
+    let first = bars::first_refusal(c, Region::Cell(0x1000_0000_0000_0000), MEMORY_WORDS);
     match first {
         Bar::Open => {
             if m == n {

@@ -15,17 +15,17 @@ use Rattle.sight.specs.Sight.{sight_of}
 use Rattle.sight.specs.declared.Sight.{Sight}
 use Rattle.region.specs.declared.Region.{Region}
 
--- ---- what is asked about: a region's kind, and the ids that are lent beside it, which only a list heeds
+-- ---- what is asked about, by value: of a list the ids that are lent
 
 pub data Area : Type 0 where
   cap_area : Cap → Area
   cell_area : ℕ → Area
   list_area : List ℕ → Area
 
-unfoldable pub area_of : Region → List ℕ → Area
-area_of (Region.Cap c) ids = cap_area c
-area_of (Region.Cell own) ids = cell_area own
-area_of Region.List ids = list_area ids
+unfoldable pub area_of : Region → Area
+area_of (Region.Cap c) = cap_area c
+area_of (Region.Cell own) = cell_area own
+area_of (Region.List list) = list_area list.now
 
 -- ---- its domain
 

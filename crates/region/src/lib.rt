@@ -1,5 +1,5 @@
-// A region is a cap, a cell or a list of cells, and nothing else: the trait of the Rust's region.rs as an enum, by value. The ids of a list are lent beside it,
-// as `list` wherever a region goes; a cap and a cell heed none. Its domain is refusal 5's test; the look and the bound go by the case.
+// A region is a cap, a cell or a lent list of cells, and nothing else: the trait of the Rust's region.rs as an enum, by value. Its domain is refusal 5's test;
+// the look and the bound go by the case.
 #![tactic(auto)]
 
 ghost use Rattle.std.specs.Prelude.{◌≡◌, true, ◌≤◌, ◌<◌, length, take};
@@ -17,10 +17,10 @@ use cell::Cap;
 use sight::{Sight, Sights};
 
 #[derive(Clone, Copy)]
-pub enum Region {
+pub enum Region<'a> {
     Cap(Cap),
     Cell(u64),
-    List,
+    List(&'a [u64]),
 }
 
 // Neither an infinity nor a NaN.
@@ -57,38 +57,38 @@ pub fn cap_in_domain(c: Cap) -> bool
 }
 
 // Whether the region is one that a request may have: what refusal 5 asks.
-pub fn in_domain(g: Region, list: &[u64]) -> bool
-    ensures { result ≡ in_domain (area_of g list.now) }
+pub fn in_domain(g: Region<'_>) -> bool
+    ensures { result ≡ in_domain (area_of g.entry) }
 {
     match g {
         Region::Cap(c) => cap_in_domain(c),
         Region::Cell(own) => cellid::is_valid(own),
-        Region::List => picklist::is_pick_list(list),
+        Region::List(list) => picklist::is_pick_list(list),
     }
 }
 
 // What the cell of a valid id is to the region; where `whole` is false only outside or not. For a cap see crate cap; for a cell a few whole-number operations,
 // for a list a binary search.
-pub fn look_at(g: Region, list: &[u64], id: u64, whole: bool) -> Sight
-    requires { (in_domain (area_of g list.now) ≡ true) × Cell id }
-    ensures { result ≡ sight_at (area_of g list.now) whole id }
+pub fn look_at(g: Region<'_>, id: u64, whole: bool) -> Sight
+    requires { (in_domain (area_of g) ≡ true) × Cell id }
+    ensures { result ≡ sight_at (area_of g.entry) whole id }
 {
     match g {
         Region::Cap(c) => cap::look_at(c, id, whole),
         Region::Cell(own) => sight::look_at(own, id, whole),
-        Region::List => picklist::look_at(list, id, whole),
+        Region::List(list) => picklist::look_at(list, id, whole),
     }
 }
 
 // The four children of a valid id that is no leaf, as two sets by place on the curve: a cap looks at them together, a cell and a list at one after another.
-pub fn look_children(g: Region, list: &[u64], id: u64, whole: bool) -> Sights
-    requires { (in_domain (area_of g list.now) ≡ true) × Cell id × (level_of id < 30) }
-    ensures { result ≡ sights_of (sight_at (area_of g list.now) whole) id }
+pub fn look_children(g: Region<'_>, id: u64, whole: bool) -> Sights
+    requires { (in_domain (area_of g) ≡ true) × Cell id × (level_of id < 30) }
+    ensures { result ≡ sights_of (sight_at (area_of g.entry) whole) id }
 {
     match g {
         Region::Cap(c) => cap::look_children(c, id, whole),
         Region::Cell(own) => sight::look_children(own, id, whole),
-        Region::List => picklist::look_children(list, id, whole),
+        Region::List(list) => picklist::look_children(list, id, whole),
     }
 }
 
@@ -121,13 +121,13 @@ fn copy_list(list: &[u64], mem: &mut [u64]) -> usize
 }
 
 // Lays the cells that bound the region over the memory's first words, and gives how many they are: one to six for a cap or a cell, the list itself for a list.
-pub fn cell_union_bound(g: Region, list: &[u64], mem: &mut [u64]) -> usize
-    requires { (in_domain (area_of g list.now) ≡ true) × (picks_most ≤ length mem.old) }
-    ensures { (result ≡ length (bound_of (area_of g list.now))) × (mem.new ≡ laid 0 (bound_of (area_of g list.now)) mem.old) }
+pub fn cell_union_bound(g: Region<'_>, mem: &mut [u64]) -> usize
+    requires { (in_domain (area_of g) ≡ true) × (picks_most ≤ length mem.old) }
+    ensures { (result ≡ length (bound_of (area_of g.entry))) × (mem.new ≡ laid 0 (bound_of (area_of g.entry)) mem.old) }
 {
     match g {
         Region::Cap(c) => copy_six(cap::cell_union_bound(c), mem),
         Region::Cell(own) => copy_six(cell_bound(own), mem),
-        Region::List => copy_list(list, mem),
+        Region::List(list) => copy_list(list, mem),
     }
 }

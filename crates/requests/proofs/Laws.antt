@@ -15,14 +15,15 @@ use Rattle.covering.specs.Covering.{Result, barred, refused, done, result_of, an
 use Rattle.selftest.specs.declared.Tested.{Tested}
 use Rattle.text.specs.declared.Fault.{Fault}
 use Rattle.text.specs.declared.Place.{Place}
-use Rattle.text.specs.Text.{is_silent}
+use Rattle.text.specs.Text.{is_silent, words_with}
 use Rattle.text.proofs.Fields.{words_fit, words_list}
 use Rattle.tokens.specs.declared.Form.{Form}
 use Rattle.replies.specs.Write.{Wrote, ok_text, refused_text, disagree_text, error_text}
 use Rattle.replies.proofs.Lengths.{wrote_whole, error_length, refused_length, ok_length}
-use Rattle.region.specs.Region.{Area, cap_area, cell_area, list_area, area_of}
+use Rattle.region.specs.Region.{Area, cap_area, cell_area, list_area}
 use Rattle.requests.specs.declared.line.Asked.{Asked}
-use Rattle.requests.specs.Line.{Wish, wish_of, region_of, ids_of, asked_part, asked_with, ReadAsked}
+use Rattle.requests.specs.declared.line.RegionRead.{RegionRead}
+use Rattle.requests.specs.Line.{AreaRead, Wish, wish_of, shape_of, ids_of, held, area_in, asked_part, asked_with, ReadRegion, ReadAsked}
 use Rattle.requests.specs.Requests.{allowance_of, result_for, result_in, result_text, on_first, text_at, memory_at, output_at, asked_text, asked_words, asked_memory, asked_output, answer_text, tested_text, AnsweredIn, Replied}
 
 -- ---- a part no longer than the whole
@@ -148,23 +149,29 @@ module _ (w : Wish) (number : ℕ) (mem out : List ℕ) (p : Place) where
 
 -- ---- what was read is what is asked, with the ids that stand in the words
 
-area_back : (a : Area) → area_of (region_of a) (ids_of a) ≡ a
-unfolding area_of region_of ids_of
-area_back (cap_area c) = refl
-area_back (cell_area own) = refl
-area_back (list_area ids) = refl
+shape_fits : (a : Area) (words words' : List ℕ) → words' ≡ words_with (ids_of a) words → held (shape_of a) ≤ length words'
+unfolding shape_of ids_of held
+shape_fits (cap_area c) words words' e = omega arith
+shape_fits (cell_area own) words words' e = omega arith
+shape_fits (list_area ids) words words' e = words_fit ids words words' (length ids) refl e
+
+pub read_fits : (n : AreaRead) (r : RegionRead) (words words' : List ℕ) → ReadRegion n r words words' → held r.shape ≤ length words'
+read_fits n r words words' R = rw R.read (shape_fits n.area words words' R.ids)
+
+area_back : (a : Area) (words words' : List ℕ) → words' ≡ words_with (ids_of a) words → area_in (shape_of a) words' ≡ a
+unfolding shape_of ids_of area_in
+area_back (cap_area c) words words' e = refl
+area_back (cell_area own) words words' e = refl
+area_back (list_area ids) words words' e = ap list_area (words_list ids words words' (length ids) refl e)
 
 module _ (w : Wish) (q : Asked) (words words' : List ℕ) (R : ReadAsked w q words words') where
-  count_is : q.count ≡ length (ids_of w.area)
-  count_is = ap (λ (x : Asked). x.count) R.read
+  pub ids_fit : held q.shape ≤ length words'
+  ids_fit = rw R.read (shape_fits w.area words words' R.ids)
 
-  pub ids_fit : q.count ≤ length words'
-  ids_fit = words_fit (ids_of w.area) words words' q.count count_is R.ids
-
-  asked_back : asked_with q (take q.count words') ≡ w
-  asked_back =
-      let ids : take q.count words' ≡ ids_of w.area = words_list (ids_of w.area) words words' q.count count_is R.ids in
-      ap (λ (x : Asked). asked_with x (take q.count words')) R.read ∙ ap (λ (l : List ℕ). asked_with (asked_part w) l) ids ∙ ap (λ (a : Area). record { kind = w.kind; coverer = w.coverer; area = a; allowance = w.allowance; out = w.out; mem = w.mem; form = w.form; engines = w.engines; after = w.after }) (area_back w.area)
+  asked_back : (a : Area) → a ≡ area_in q.shape words' → asked_with q a ≡ w
+  asked_back a e =
+      let back : a ≡ w.area = e ∙ ap (λ (x : Asked). area_in x.shape words') R.read ∙ area_back w.area words words' R.ids in
+      ap (λ (x : Asked). asked_with x a) R.read ∙ ap (asked_with (asked_part w)) back
 
 module _ (number : ℕ) (line words mem out page : List ℕ) where
   pub replied_nothing : is_silent line ≡ true → Replied number line words words mem mem out out page 0 page
@@ -190,12 +197,12 @@ module _ (number : ℕ) (line words mem out page : List ℕ) where
           output = rw (asked_output, asks, output_bad w number mem out w.after f b);
         }
 
-    pub replied_asked : (end : ℕ) (t : Tested) (mem' out' : List ℕ) → q.after ≡ Place.At end → AnsweredIn (asked_with q (take q.count words')) t.answer mem mem' out out' × (t.agree ≡ true)
+    pub replied_asked : (end : ℕ) (a : Area) (t : Tested) (mem' out' : List ℕ) → q.after ≡ Place.At end → a ≡ area_in q.shape words' → AnsweredIn (asked_with q a) t.answer mem mem' out out' × (t.agree ≡ true)
         → Wrote 0 (tested_text q.form t out') page r page'
         → Replied number line words words' mem mem' out out' page r page'
     unfolding asked_text asked_memory asked_output w
-    replied_asked end t mem' out' e B v =
-        let A : AnsweredIn w t.answer mem mem' out out' = rw (asked_back w q words words' R) at B.0 in
+    replied_asked end a t mem' out' e back B v =
+        let A : AnsweredIn w t.answer mem mem' out out' = rw (asked_back w q words words' R a back) at B.0 in
         let b : w.after ≡ Place.At end = sym (ap (λ (x : Asked). x.after) R.read) ∙ e in
         let s : tested_text q.form t out' ≡ result_text w.form (result_in w mem out) =
         agreed_text q.form t out' B.1 ∙ ap (λ (x : Asked). answer_text x.form t.answer out') R.read ∙ rw (A.answer, A.output) (answer_text_lem w.form _ (result_in w mem out) _ _ (in_sound w mem out)) in

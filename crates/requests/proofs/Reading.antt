@@ -13,7 +13,6 @@ use Rattle.text.specs.declared.Place.{Place}
 use Rattle.text.specs.declared.Read.{Read}
 use Rattle.text.specs.Text.{until, field_at, bytes_of, place_among, chosen, faulty, number_in, number_after, numbers_after, list_after, ReadList, choice_after, end_after, start_of, words_with}
 use Rattle.cell.specs.declared.Cap.{Cap}
-use Rattle.region.specs.declared.Region.{Region}
 use Rattle.run.specs.declared.RegionCoverer.{RegionCoverer}
 use Rattle.run.specs.Editions.{with_edition}
 use Rattle.run.specs.Run.{memory_words}
@@ -22,10 +21,11 @@ use Rattle.selftest.specs.declared.Engines.{Engines}
 use Rattle.tokens.specs.declared.Form.{Form}
 use Rattle.requests.specs.declared.line.Four.{Four}
 use Rattle.requests.specs.declared.line.CovererRead.{CovererRead}
+use Rattle.requests.specs.declared.line.Shape.{Shape}
 use Rattle.requests.specs.declared.line.RegionRead.{RegionRead}
 use Rattle.requests.specs.declared.line.Options.{Options}
 use Rattle.selftest.specs.Selftest.{engines_of}
-use Rattle.requests.specs.Line.{kinds, kind_of, four_after, coverer_after, cap_of, AreaRead, cap_after, cell_after, ids_after, shapes, area_after, keys, most_of, none, value_or, form_of, engine_words, engine_in, value_in, bad_option, option_given, option_of, option_from, next_option, options_after, wish_of, region_of, ids_of, region_part, ReadRegion, ReadAsked}
+use Rattle.requests.specs.Line.{kinds, kind_of, four_after, coverer_after, cap_of, AreaRead, cap_after, cell_after, ids_after, shapes, area_after, keys, most_of, none, value_or, form_of, engine_words, engine_in, value_in, bad_option, option_given, option_of, option_from, next_option, options_after, wish_of, shape_of, ids_of, region_part, ReadRegion, ReadAsked}
 
 -- ---- the parts of a request
 
@@ -40,16 +40,16 @@ module _ (l : List ℕ) (p : Place) where
   coverer_read n e = rw e
 
   pub cap_read : (n : Four) (c : Cap) → n ≡ four_after Base.Sixteen l p → c ≡ cap_of (get_or n.values 0 0) (get_or n.values 1 0) (get_or n.values 2 0) (get_or n.values 3 0)
-      → record { region = Region.Cap c; count = 0; after = n.after } ≡ region_part (cap_after l p)
-  unfolding cap_after region_of ids_of
+      → record { shape = Shape.Cap c; after = n.after } ≡ region_part (cap_after l p)
+  unfolding cap_after shape_of
   cap_read n c e d = rw (d, e)
 
-  pub cell_read : (id : Read) → id ≡ number_after Base.Sixteen 0xffff_ffff_ffff_ffff l p → record { region = Region.Cell id.value; count = 0; after = id.after } ≡ region_part (cell_after l p)
-  unfolding cell_after region_of ids_of
+  pub cell_read : (id : Read) → id ≡ number_after Base.Sixteen 0xffff_ffff_ffff_ffff l p → record { shape = Shape.Cell id.value; after = id.after } ≡ region_part (cell_after l p)
+  unfolding cell_after shape_of
   cell_read id e = rw e
 
-  pub ids_read : (most : ℕ) (n : Read) (words words' : List ℕ) → ReadList (list_after most l p) n words words' → ReadRegion (ids_after most l p) (record { region = Region.List; count = n.value; after = n.after }) words words'
-  unfolding ids_after region_of ids_of words_with
+  pub ids_read : (most : ℕ) (n : Read) (words words' : List ℕ) → ReadList (list_after most l p) n words words' → ReadRegion (ids_after most l p) (record { shape = Shape.List n.value; after = n.after }) words words'
+  unfolding ids_after shape_of ids_of words_with
   ids_read most n words words' R = record { read = rw (R.count, R.place); ids = R.lent }
 
   -- a region without ids leaves the words as they are
@@ -142,7 +142,7 @@ pub asked_read : (most : ℕ) (l words words' : List ℕ) (start : Place) (word 
     → start ≡ start_of l → word ≡ choice_after kinds 7 Fault.UnknownKind l start → c ≡ coverer_after l word.after → ReadRegion (area_after most l c.after) g words words' → o ≡ options_after l g.after
     → end ≡ end_after l o.after → edition ≡ value_or 1 (get_or o.values 4 0) → n ≡ with_edition c.coverer edition → k ≡ kind_of word.value → allowance ≡ value_or 4294967295 (get_or o.values 0 0) → out ≡ value_or 65536 (get_or o.values 1 0)
     → mem ≡ value_or memory_words (get_or o.values 2 0) → form ≡ form_of (get_or o.values 3 0) → which ≡ value_or 0 (get_or o.values 5 0) → engines ≡ engines_of which
-    → ReadAsked (wish_of most l) (record { kind = k; coverer = n; region = g.region; count = g.count; allowance = allowance; out = out; mem = mem; form = form; engines = engines; after = end }) words words'
+    → ReadAsked (wish_of most l) (record { kind = k; coverer = n; shape = g.shape; allowance = allowance; out = out; mem = mem; form = form; engines = engines; after = end }) words words'
 unfolding wish_of
 asked_read most l words words' start word c g o end edition n k allowance out mem form which engines es ek ec G eo ee en e1 e2 e3 e4 e5 e6 e7 e8 = record {
   read = rw (e1, en, e2, e3, e4, e5, e6, e8, e7, ee, eo, G.read, ec, ek, es);

@@ -11,8 +11,7 @@ use Rattle.text.specs.declared.Read.{Read}
 use Rattle.text.specs.Text.{until, field_at, bytes_of, is_there, place_among, chosen, number_in, number_after, numbers_after, list_after, words_with, choice_after, end_after, start_of}
 use Rattle.point.specs.declared.Point.{Point}
 use Rattle.cell.specs.declared.Cap.{Cap}
-use Rattle.region.specs.declared.Region.{Region}
-use Rattle.region.specs.Region.{Area, cap_area, cell_area, list_area, area_of}
+use Rattle.region.specs.Region.{Area, cap_area, cell_area, list_area}
 use Rattle.run.specs.declared.RegionCoverer.{RegionCoverer}
 use Rattle.run.specs.Run.{memory_words}
 use Rattle.run.specs.Editions.{with_edition}
@@ -23,6 +22,7 @@ use Rattle.selftest.specs.Selftest.{engines_of}
 use Rattle.tokens.specs.declared.Form.{Form}
 use Rattle.requests.specs.declared.line.CovererRead.{CovererRead}
 use Rattle.requests.specs.declared.line.Four.{Four}
+use Rattle.requests.specs.declared.line.Shape.{Shape}
 use Rattle.requests.specs.declared.line.RegionRead.{RegionRead}
 use Rattle.requests.specs.declared.line.Options.{Options}
 use Rattle.requests.specs.declared.line.Asked.{Asked}
@@ -208,21 +208,33 @@ wish_of most l =
       after = end_after l o.after;
     }
 
--- ---- as the functions have it: a region's kind, with the ids of a list in the first of the words that are lent
+-- ---- as the functions have it: a region's shape, with the ids of a list in the first of the words that are lent
 
-unfoldable pub region_of : Area → Region
-region_of (cap_area c) = Region.Cap c
-region_of (cell_area own) = Region.Cell own
-region_of (list_area ids) = Region.List
+unfoldable pub shape_of : Area → Shape
+shape_of (cap_area c) = Shape.Cap c
+shape_of (cell_area own) = Shape.Cell own
+shape_of (list_area ids) = Shape.List (length ids)
 
 unfoldable pub ids_of : Area → List ℕ
 ids_of (cap_area c) = []
 ids_of (cell_area own) = []
 ids_of (list_area ids) = ids
 
+-- how many of the words a shape's ids are
+unfoldable pub held : Shape → ℕ
+held (Shape.Cap c) = 0
+held (Shape.Cell own) = 0
+held (Shape.List n) = n
+
+-- the area of a shape, with the words
+unfoldable pub area_in : Shape → List ℕ → Area
+area_in (Shape.Cap c) words = cap_area c
+area_in (Shape.Cell own) words = cell_area own
+area_in (Shape.List n) words = list_area (take n words)
+
 -- what was read, its ids aside
 abbrev pub region_part : AreaRead → RegionRead
-region_part n = record { region = region_of n.area; count = length (ids_of n.area); after = n.after }
+region_part n = record { shape = shape_of n.area; after = n.after }
 
 -- a region was read, the ids of its list into the words that are lent
 pub record ReadRegion (n : AreaRead) (r : RegionRead) (words words' : List ℕ) : Type 0 where
@@ -234,8 +246,7 @@ abbrev pub asked_part : Wish → Asked
 asked_part w = record {
   kind = w.kind;
   coverer = w.coverer;
-  region = region_of w.area;
-  count = length (ids_of w.area);
+  shape = shape_of w.area;
   allowance = w.allowance;
   out = w.out;
   mem = w.mem;
@@ -249,12 +260,12 @@ pub record ReadAsked (w : Wish) (r : Asked) (words words' : List ℕ) : Type 0 w
   pub read : r ≡ asked_part w
   pub ids : words' ≡ words_with (ids_of w.area) words
 
--- what is asked with these ids
-abbrev pub asked_with : Asked → List ℕ → Wish
-asked_with q ids = record {
+-- what is asked of this area
+abbrev pub asked_with : Asked → Area → Wish
+asked_with q area = record {
   kind = q.kind;
   coverer = q.coverer;
-  area = area_of q.region ids;
+  area = area;
   allowance = q.allowance;
   out = q.out;
   mem = q.mem;

@@ -5,15 +5,17 @@ mod line;
 
 ghost use Rattle.std.specs.Prelude.{true, ◌≡◌, length, ◌+◌, ◌*◌, ◌≤◌};
 ghost use Rattle.covering.specs.Covering.{Answered};
+ghost use Rattle.region.specs.Region.{area_of};
 ghost use Rattle.replies.specs.Write.{Wrote};
 ghost use Rattle.requests.specs.Line.{asked_with};
 ghost use Rattle.requests.specs.Requests.{allowance_of, result_for, AnsweredIn, answer_text, tested_text, Replied};
 
 use covering::Answer;
 pub use line::{
-    Asked, CovererRead, Four, Options, RegionRead, cap_of, form_of, read_asked, read_coverer,
-    read_four, read_options, read_region, value_or, with_edition,
+    Asked, CovererRead, Four, Options, RegionRead, Shape, cap_of, form_of, read_asked,
+    read_coverer, read_four, read_options, read_region, region_in, value_or, with_edition,
 };
+use region::Region;
 use selftest::Tested;
 use text::Place;
 use tokens::Form;
@@ -28,20 +30,18 @@ pub fn allowance_of(n: u64) -> u32
     4294967295
 }
 
-// Answers a request with the ids of its list, and with the working memory and the output that are lent: their lengths are those that it is answered for.
-fn answer_run(q: Asked, list: &[u64], mem: &mut [u64], out: &mut [u64]) -> Tested
-    ensures { Answered (result_for (asked_with q list.now) (length mem.old) (length out.old)) result.answer mem.old mem.new out.old out.new × (result.agree ≡ true) }
+// Answers a request for its region, and with the working memory and the output that are lent: their lengths are those that it is answered for.
+fn answer_run(q: Asked, g: Region<'_>, mem: &mut [u64], out: &mut [u64]) -> Tested
+    ensures { Answered (result_for (asked_with q (area_of g.entry)) (length mem.old) (length out.old)) result.answer mem.old mem.new out.old out.new × (result.agree ≡ true) }
 {
     let engines = q.engines;
     let kind = q.kind;
     let coverer = q.coverer;
-    let region = q.region;
     selftest::respond(
         engines,
         kind,
         coverer,
-        region,
-        list,
+        g,
         allowance_of(q.allowance),
         mem,
         out,
@@ -49,12 +49,12 @@ fn answer_run(q: Asked, list: &[u64], mem: &mut [u64], out: &mut [u64]) -> Teste
 }
 
 // Answers a request with as much of the memory and of the output as it asks for.
-fn answer_in(q: Asked, list: &[u64], mem: &mut [u64], out: &mut [u64]) -> Tested
-    ensures { AnsweredIn (asked_with q list.now) result.answer mem.old mem.new out.old out.new × (result.agree ≡ true) }
+fn answer_in(q: Asked, g: Region<'_>, mem: &mut [u64], out: &mut [u64]) -> Tested
+    ensures { AnsweredIn (asked_with q (area_of g.entry)) result.answer mem.old mem.new out.old out.new × (result.agree ≡ true) }
 {
     let m = cellunion::lesser(q.mem as usize, mem.len());
     let o = cellunion::lesser(q.out as usize, out.len());
-    answer_run(q, list, &mut mem[..m], &mut out[..o])
+    answer_run(q, g, &mut mem[..m], &mut out[..o])
 }
 
 // Writes an answer, with the ids that stand in the output's first places.
@@ -102,7 +102,8 @@ pub fn answer(
     let after = q.after;
     match after {
         Place::At(_) => {
-            let t = answer_in(q, &words[..q.count], mem, out);
+            let shape = q.shape;
+            let t = answer_in(q, region_in(shape, words), mem, out);
             let form = q.form;
             put_tested(form, t, out, page)
         }

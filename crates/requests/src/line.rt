@@ -1,10 +1,11 @@
 // A request of `cover` as a line: `KIND MIN MAX MOD MAX_CELLS REGION [allow=N] [out=N] [mem=N] [tokens=N] [edition=N] [engine=WORD]`, the options in any
 // order. Any numbers and any bits of floats are taken: whoever answers the request tests its domain.
-ghost use Rattle.std.specs.Prelude.{◌≡◌, ◌<◌, length};
+ghost use Rattle.std.specs.Prelude.{◌≡◌, ◌<◌, ◌≤◌, length};
 ghost use Rattle.text.specs.Text.{choice_after};
 ghost use Rattle.text.specs.declared.Fault.{Fault};
+ghost use Rattle.region.specs.Region.{area_of};
 ghost use Rattle.run.specs.Editions.{with_edition};
-ghost use Rattle.requests.specs.Line.{kinds, shapes, kind_of, four_after, coverer_after, point_of, cap_of, cap_after, cell_after, ids_after, area_after, region_part, ReadRegion, most_of, value_or, form_of, engine_in, value_in, bad_option, option_given, option_of, next_option, options_after, wish_of, ReadAsked};
+ghost use Rattle.requests.specs.Line.{kinds, shapes, kind_of, four_after, coverer_after, point_of, cap_of, cap_after, cell_after, ids_after, area_after, held, area_in, region_part, ReadRegion, most_of, value_or, form_of, engine_in, value_in, bad_option, option_given, option_of, next_option, options_after, wish_of, ReadAsked};
 
 use cell::Cap;
 use covering::{Ending, Kind};
@@ -29,11 +30,18 @@ pub struct CovererRead {
     pub after: Place,
 }
 
-// A region, how many ids of a list were read for it, and the place after it.
+// A region as a line names it: a cap, a cell, or a list of so many ids, which were read into the first of the words that are lent.
+#[derive(Clone, Copy)]
+pub enum Shape {
+    Cap(Cap),
+    Cell(u64),
+    List(usize),
+}
+
+// A region, and the place after it.
 #[derive(Clone, Copy)]
 pub struct RegionRead {
-    pub region: Region,
-    pub count: usize,
+    pub shape: Shape,
     pub after: Place,
 }
 
@@ -44,14 +52,13 @@ pub struct Options {
     pub after: Place,
 }
 
-// What a line asks: the kind of answer, of what, how many ids of a list were read for it, with how much, how ids are to be written, and which engines are to
-// answer; and the line's end, or what is wrong with the line.
+// What a line asks: the kind of answer, of what, with how much, how ids are to be written, and which engines are to answer; and the line's end, or what is
+// wrong with the line.
 #[derive(Clone, Copy)]
 pub struct Asked {
     pub kind: Kind,
     pub coverer: RegionCoverer,
-    pub region: Region,
-    pub count: usize,
+    pub shape: Shape,
     pub allowance: u64,
     pub out: u64,
     pub mem: u64,
@@ -138,12 +145,8 @@ fn read_cap(line: &[u8], p: Place) -> RegionRead
     let n = read_four(line, p, Base::Sixteen);
     let v = n.values;
     let after = n.after;
-    let region = Region::Cap(cap_of(v[0], v[1], v[2], v[3]));
-    RegionRead {
-        region,
-        count: 0,
-        after,
-    }
+    let shape = Shape::Cap(cap_of(v[0], v[1], v[2], v[3]));
+    RegionRead { shape, after }
 }
 
 // `ID`.
@@ -152,12 +155,8 @@ fn read_cell(line: &[u8], p: Place) -> RegionRead
 {
     let id = text::read_number(line, p, Base::Sixteen, u64::MAX);
     let after = id.after;
-    let region = Region::Cell(id.value);
-    RegionRead {
-        region,
-        count: 0,
-        after,
-    }
+    let shape = Shape::Cell(id.value);
+    RegionRead { shape, after }
 }
 
 // `COUNT ID...`, the ids into the words that are lent.
@@ -166,11 +165,8 @@ fn read_ids(line: &[u8], p: Place, words: &mut [u64]) -> RegionRead
 {
     let n = text::read_list(line, p, words);
     let after = n.after;
-    RegionRead {
-        region: Region::List,
-        count: n.value as usize,
-        after,
-    }
+    let shape = Shape::List(n.value as usize);
+    RegionRead { shape, after }
 }
 
 // The word for a region, counted from 0.
@@ -193,6 +189,18 @@ pub fn read_region(line: &[u8], p: Place, words: &mut [u64]) -> RegionRead
         return read_cell(line, after);
     }
     read_ids(line, after, words)
+}
+
+// The region of a shape, a list's ids in the first of the words.
+pub fn region_in<'a>(s: Shape, words: &'a [u64]) -> Region<'a>
+    requires { held s ≤ length words.now }
+    ensures { area_of result ≡ area_in s words.now }
+{
+    match s {
+        Shape::Cap(c) => Region::Cap(c),
+        Shape::Cell(id) => Region::Cell(id),
+        Shape::List(n) => Region::List(&words[..n]),
+    }
 }
 
 // The most that the k-th option may be, where it is a number.
@@ -364,7 +372,7 @@ pub fn read_asked(line: &[u8], words: &mut [u64]) -> Asked
     let o = read_options(line, pg);
     let po = o.after;
     let numbers = c.coverer;
-    let region = g.region;
+    let shape = g.shape;
     let values = o.values;
     let after = text::read_end(line, po);
     let coverer = with_edition(numbers, value_or(1, values[4]));
@@ -372,8 +380,7 @@ pub fn read_asked(line: &[u8], words: &mut [u64]) -> Asked
     Asked {
         kind,
         coverer,
-        region,
-        count: g.count,
+        shape,
         allowance: value_or(4294967295, values[0]),
         out: value_or(65536, values[1]),
         mem: value_or(MEMORY_WORDS as u64, values[2]),

@@ -95,18 +95,17 @@ fn hold(out: &mut [u64], count: usize, held: &mut [u64]) -> usize
 fn respond_twice(
     kind: Kind,
     c: RegionCoverer,
-    g: Region,
-    list: &[u64],
+    g: Region<'_>,
     allowance: u32,
     mem: &mut [u64],
     out: &mut [u64],
     held: &mut [u64],
 ) -> Tested
-    ensures { Answered (result_of kind c (area_of g list.now) allowance (length mem.old) (length out.old)) result.answer mem.old mem.new out.old out.new × (result.agree ≡ true) }
+    ensures { Answered (result_of kind c (area_of g.entry) allowance (length mem.old) (length out.old)) result.answer mem.old mem.new out.old out.new × (result.agree ≡ true) }
 {
-    let first = covering::respond(Engine::Plain, kind, c, g, list, allowance, mem, out);
+    let first = covering::respond(Engine::Plain, kind, c, g, allowance, mem, out);
     let n = hold(out, first.count, held);
-    let answer = covering::respond(Engine::Quick, kind, c, g, list, allowance, mem, out);
+    let answer = covering::respond(Engine::Quick, kind, c, g, allowance, mem, out);
     let agree = same_answer(first, answer) && same_words(held, out, n);
     Tested { answer, agree }
 }
@@ -116,24 +115,23 @@ pub fn respond(
     by: Engines,
     kind: Kind,
     c: RegionCoverer,
-    g: Region,
-    list: &[u64],
+    g: Region<'_>,
     allowance: u32,
     mem: &mut [u64],
     out: &mut [u64],
 ) -> Tested
-    ensures { Answered (result_of kind c (area_of g list.now) allowance (length mem.old) (length out.old)) result.answer mem.old mem.new out.old out.new × (result.agree ≡ true) }
+    ensures { Answered (result_of kind c (area_of g.entry) allowance (length mem.old) (length out.old)) result.answer mem.old mem.new out.old out.new × (result.agree ≡ true) }
 {
     match by {
         Engines::Quick => {
-            let answer = covering::respond(Engine::Quick, kind, c, g, list, allowance, mem, out);
+            let answer = covering::respond(Engine::Quick, kind, c, g, allowance, mem, out);
             Tested {
                 answer,
                 agree: true,
             }
         }
         Engines::Plain => {
-            let answer = covering::respond(Engine::Plain, kind, c, g, list, allowance, mem, out);
+            let answer = covering::respond(Engine::Plain, kind, c, g, allowance, mem, out);
             Tested {
                 answer,
                 agree: true,
@@ -141,7 +139,7 @@ pub fn respond(
         }
         Engines::Both => {
             let mut held = list_words();
-            respond_twice(kind, c, g, list, allowance, mem, out, &mut held)
+            respond_twice(kind, c, g, allowance, mem, out, &mut held)
         }
     }
 }

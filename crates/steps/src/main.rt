@@ -168,15 +168,14 @@ fn watch_step(
     streams: Streams,
     inner: bool,
     c: RegionCoverer,
-    g: Region,
-    list: &[u64],
+    g: Region<'_>,
     k: u32,
     taken: Ahead,
     mem: &mut [u64],
     out: &mut Places,
     page: &mut Page,
 ) -> Shown {
-    let s = covering::watch(Engine::Plain, inner, c, g, list, k, mem, out);
+    let s = covering::watch(Engine::Plain, inner, c, g, k, mem, out);
     match s {
         Seen::Refused(n) => Shown::Ended(say_refused(streams, n, page)),
         Seen::Standing {
@@ -193,8 +192,7 @@ fn follow(
     streams: Streams,
     inner: bool,
     c: RegionCoverer,
-    g: Region,
-    list: &[u64],
+    g: Region<'_>,
     allowance: u32,
     mem: &mut [u64],
     out: &mut Places,
@@ -207,7 +205,7 @@ fn follow(
     };
     let mut k: u32 = 0;
     while k < allowance {
-        let s = watch_step(streams, inner, c, g, list, k, taken, mem, out, page);
+        let s = watch_step(streams, inner, c, g, k, taken, mem, out, page);
         match s {
             Shown::Ended(whole) => {
                 return whole;
@@ -218,7 +216,7 @@ fn follow(
             }
         }
     }
-    let last = watch_step(streams, inner, c, g, list, allowance, taken, mem, out, page);
+    let last = watch_step(streams, inner, c, g, allowance, taken, mem, out, page);
     match last {
         Shown::Ended(whole) => whole,
         Shown::Next(_) => say_refused(streams, 9, page),
@@ -230,8 +228,7 @@ fn answer_kind(
     streams: Streams,
     kind: Kind,
     c: RegionCoverer,
-    g: Region,
-    list: &[u64],
+    g: Region<'_>,
     allowance: u32,
     number: u64,
     mem: &mut [u64],
@@ -239,8 +236,8 @@ fn answer_kind(
     page: &mut Page,
 ) -> bool {
     match kind {
-        Kind::Outer(_) => follow(streams, false, c, g, list, allowance, mem, out, page),
-        Kind::Inner(_) => follow(streams, true, c, g, list, allowance, mem, out, page),
+        Kind::Outer(_) => follow(streams, false, c, g, allowance, mem, out, page),
+        Kind::Inner(_) => follow(streams, true, c, g, allowance, mem, out, page),
         Kind::Fast => say_error(streams, number, Fault::OutsideDomain, page),
     }
 }
@@ -249,7 +246,7 @@ fn answer_kind(
 fn answer_asked(
     streams: Streams,
     q: Asked,
-    list: &[u64],
+    g: Region<'_>,
     number: u64,
     mem: &mut [u64],
     out: &mut Places,
@@ -257,14 +254,12 @@ fn answer_asked(
 ) -> bool {
     let kind = q.kind;
     let c = q.coverer;
-    let g = q.region;
     let m = cellunion::lesser(q.mem as usize, mem.len());
     answer_kind(
         streams,
         kind,
         c,
         g,
-        list,
         requests::allowance_of(q.allowance),
         number,
         &mut mem[..m],
@@ -297,7 +292,11 @@ fn answer_line(
     let q = requests::read_asked(line, words);
     let after = q.after;
     match after {
-        Place::At(_) => said(answer_asked(streams, q, &words[..q.count], number, mem, out, page)),
+        Place::At(_) => {
+            let shape = q.shape;
+            let g = requests::region_in(shape, words);
+            said(answer_asked(streams, q, g, number, mem, out, page))
+        }
         Place::Bad(f) => said(say_error(streams, number, f, page)),
     }
 }

@@ -25,7 +25,7 @@ pub record Inv (e : Engine) (q : Request) (a : Area) (b : Brood) (places : ℕ) 
   pub goes : Goes e (task_of q a) b.from (add_all (course_of q a) b.from (children_from b 0)) (add_all (course_of q a) b.from (children_from b j)) m₀ t₀ m t
 
 abbrev pub invariant-loop-j : goal.invariant-loop-j
-invariant-loop-j l = Inv l.e l.q (area_of l.g l.list) l.b l.places l.initial.m l.initial.t l.m l.t l.j
+invariant-loop-j l = Inv l.e l.q (area_of l.g) l.b l.places l.initial.m l.initial.t l.m l.t l.j
 
 abbrev pub decreases-loop-j : goal.decreases-loop-j
 decreases-loop-j l = l.places - l.j

@@ -19,7 +19,7 @@ pub record Inv (e : Engine) (q : Request) (a : Area) (count : ℕ) (ids m₀ m :
   pub starting : Starting e (task_of q a) (take count ids) m₀ m t i
 
 abbrev pub invariant-loop-i : goal.invariant-loop-i
-invariant-loop-i l = Inv l.e l.q (area_of l.g l.list) l.count l.ids l.initial.m l.m l.t l.i
+invariant-loop-i l = Inv l.e l.q (area_of l.g) l.count l.ids l.initial.m l.m l.t l.i
 
 abbrev pub decreases-loop-i : goal.decreases-loop-i
 decreases-loop-i l = l.count - l.i

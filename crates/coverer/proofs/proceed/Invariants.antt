@@ -16,7 +16,7 @@ pub record Inv (e : Engine) (q : Request) (a : Area) (allowance : ℕ) (m₀ : L
   pub going : Going e (task_of q a) allowance m₀ t₀ m t
 
 abbrev pub invariant-loop-t : goal.invariant-loop-t
-invariant-loop-t l = Inv l.e l.q (area_of l.g l.list) l.allowance l.initial.m l.initial.t l.m l.t
+invariant-loop-t l = Inv l.e l.q (area_of l.g) l.allowance l.initial.m l.initial.t l.m l.t
 
 abbrev pub decreases-loop-t : goal.decreases-loop-t
 decreases-loop-t l = l.allowance - l.t.steps

@@ -17,7 +17,7 @@ copy_six-requires-in-Cell c = six_asks _ _ _ c.requires.1 c.cell_bound.ensures
 
 pub copy_list-requires : goal.copy_list-requires
 unfolding area_of in_domain
-copy_list-requires c = omega (arith, c.requires.1, ((pick_is c.args.list.now).0 (rw c.in-List.is at c.requires.0)).0)
+copy_list-requires c = omega (arith, c.requires.1, ((pick_is _).0 (rw c.in-List.is at c.requires.0)).0)
 
 pub returns-in-Cap : goal.returns-in-Cap
 unfolding area_of bound_of
