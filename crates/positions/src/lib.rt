@@ -6,6 +6,7 @@ ghost use Rattle.positions.specs.Table.{steps_word};
 
 // The table of turns turned round, 1,024 entries, four to a word, in read-only memory: two groups of eight digits, eight times the next row, and the four
 // positions; in each group two digits for each row from which the steps begin, the last two for row 0.
+#[tactic(auto, unfolding(crate::specs::Table::steps_word, turns::specs::Table::by_row, crate::specs::Table::steps_from, crate::specs::Table::four_steps, crate::specs::Positions::step_of, crate::specs::Positions::pos_of, crate::specs::Positions::index_in, turns::specs::Turns::row_at))]
 pub fn four_at(ij: u64) -> u64
     requires { ij < 256 }
     ensures { result ≡ steps_word (ij / 16) (ij % 16) }
