@@ -26,17 +26,12 @@ pub const RIGHT: f64 = 2.0;
 
 pub const STRAIGHT: f64 = 4.0;
 
-// The float without its sign; a NaN stays one.
+// The float without its sign, by std's method; a NaN stays one.
+#[tactic(auto, using(crate::proofs::Laws::one_abs))]
 pub fn abs(x: f64) -> f64
     ensures { result ≡ abs_of x }
 {
-    if x < 0.0 {
-        return -x;
-    }
-    if x == 0.0 {
-        return 0.0;
-    }
-    x
+    x.abs()
 }
 
 // The float of a bit pattern. Every pattern of a NaN gives a NaN.
@@ -44,100 +39,102 @@ pub fn float_of_bits(b: u64) -> f64
     ensures { result ≡ of_bits binary64 b }
 {
     if b % 0x8000_0000_0000_0000 > 0x7ff0_0000_0000_0000 {
-        return 0.0 / 0.0;
+        f64::NAN
+    } else {
+        f64::from_bits(b)
     }
-    f64::from_bits(b)
 }
 
 // The bit pattern of a float, 0x7ff8000000000000 for a NaN.
 pub fn bits_of_float(x: f64) -> u64
     ensures { result ≡ to_bits binary64 x }
 {
-    if x != x {
-        return 0x7ff8_0000_0000_0000;
-    }
-    f64::to_bits(x)
-}
-
-fn sub(a: Point, b: Point) -> Point
-    ensures { result ≡ sub_of a b }
-{
-    Point {
-        x: a.x - b.x,
-        y: a.y - b.y,
-        z: a.z - b.z,
+    if x.is_nan() {
+        0x7ff8_0000_0000_0000
+    } else {
+        x.to_bits()
     }
 }
 
-// The vector times a number.
-pub fn mul(a: Point, m: f64) -> Point
-    ensures { result ≡ mul_of a m }
-{
-    Point {
-        x: a.x * m,
-        y: a.y * m,
-        z: a.z * m,
+impl Point {
+    fn sub(self, b: Point) -> Point
+        ensures { result ≡ sub_of self b }
+    {
+        Point {
+            x: self.x - b.x,
+            y: self.y - b.y,
+            z: self.z - b.z,
+        }
     }
-}
 
-// The scalar product.
-pub fn dot(a: Point, b: Point) -> f64
-    ensures { result ≡ dot_of a b }
-{
-    a.x * b.x + a.y * b.y + a.z * b.z
-}
-
-// The vector product.
-pub fn cross(a: Point, b: Point) -> Point
-    ensures { result ≡ cross_of a b }
-{
-    Point {
-        x: a.y * b.z - a.z * b.y,
-        y: a.z * b.x - a.x * b.z,
-        z: a.x * b.y - a.y * b.x,
+    // The vector times a number.
+    pub fn mul(self, m: f64) -> Point
+        ensures { result ≡ mul_of self m }
+    {
+        Point {
+            x: self.x * m,
+            y: self.y * m,
+            z: self.z * m,
+        }
     }
-}
 
-// The square of the vector's length.
-pub fn norm2(a: Point) -> f64
-    ensures { result ≡ norm2_of a }
-{
-    dot(a, a)
-}
-
-// The vector's length, by the software root: one root.
-fn norm(a: Point) -> f64
-    ensures { result ≡ norm_of a }
-{
-    root::root(norm2(a))
-}
-
-// The vector at unit length; the zero vector as it is. One root and one division.
-pub fn normalize(a: Point) -> Point
-    ensures { result ≡ normalize_of a }
-{
-    if a.x == 0.0 && a.y == 0.0 && a.z == 0.0 {
-        return a;
+    // The scalar product.
+    pub fn dot(self, b: Point) -> f64
+        ensures { result ≡ dot_of self b }
+    {
+        self.x * b.x + self.y * b.y + self.z * b.z
     }
-    mul(a, 1.0 / norm(a))
-}
 
-// Whether the vector has about unit length.
-pub fn is_unit(a: Point) -> bool
-    ensures { result ≡ is_unit a }
-{
-    abs(norm2(a) - 1.0) < 5e-14
-}
-
-// The chord angle between two points, at most 4; 4 where the distance is no number.
-pub fn chordangle(a: Point, b: Point) -> f64
-    ensures { result ≡ chord_angle a b }
-{
-    let d = norm2(sub(a, b));
-    if d < 4.0 {
-        return d;
+    // The vector product.
+    pub fn cross(self, b: Point) -> Point
+        ensures { result ≡ cross_of self b }
+    {
+        Point {
+            x: self.y * b.z - self.z * b.y,
+            y: self.z * b.x - self.x * b.z,
+            z: self.x * b.y - self.y * b.x,
+        }
     }
-    4.0
+
+    // The square of the vector's length.
+    pub fn norm2(self) -> f64
+        ensures { result ≡ norm2_of self }
+    {
+        self.dot(self)
+    }
+
+    // The vector's length, by the software root: one root.
+    fn norm(self) -> f64
+        ensures { result ≡ norm_of self }
+    {
+        root::root(self.norm2())
+    }
+
+    // The vector at unit length; the zero vector as it is. One root and one division.
+    pub fn normalize(self) -> Point
+        ensures { result ≡ normalize_of self }
+    {
+        if self.x == 0.0 && self.y == 0.0 && self.z == 0.0 {
+            self
+        } else {
+            self.mul(1.0 / self.norm())
+        }
+    }
+
+    // Whether the vector has about unit length.
+    pub fn is_unit(self) -> bool
+        ensures { result ≡ is_unit self }
+    {
+        abs(self.norm2() - 1.0) < 5e-14
+    }
+
+    // The chord angle between two points, at most 4; 4 where the distance is no number. Not by std's `min`, which leaves open which of two equal floats it is.
+    pub fn chordangle(self, b: Point) -> f64
+        ensures { result ≡ chord_angle self b }
+    {
+        let d = self.sub(b).norm2();
+        if d < 4.0 { d } else { 4.0 }
+    }
 }
 
 // The square of a chord angle's sine.

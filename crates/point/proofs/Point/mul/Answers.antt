@@ -1,7 +1,7 @@
--- `point::mul` meets its contract.
+-- `point::Point::mul` meets its contract.
 use mathlib.Core.Path.{refl}
 use Rattle.point.specs.Vector.{mul_of}
-use Rattle.point.proofs.mul.Goals as goal
+use Rattle.point.proofs.Point.mul.Goals as goal
 
 pub returns : goal.returns
 unfolding mul_of

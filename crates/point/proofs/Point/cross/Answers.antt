@@ -1,7 +1,7 @@
--- `point::cross` meets its contract.
+-- `point::Point::cross` meets its contract.
 use mathlib.Core.Path.{refl}
 use Rattle.point.specs.Vector.{cross_of}
-use Rattle.point.proofs.cross.Goals as goal
+use Rattle.point.proofs.Point.cross.Goals as goal
 
 pub returns : goal.returns
 unfolding cross_of

@@ -1,7 +1,7 @@
--- `point::sub` meets its contract.
+-- `point::Point::sub` meets its contract.
 use mathlib.Core.Path.{refl}
 use Rattle.point.specs.Vector.{sub_of}
-use Rattle.point.proofs.sub.Goals as goal
+use Rattle.point.proofs.Point.sub.Goals as goal
 
 pub returns : goal.returns
 unfolding sub_of

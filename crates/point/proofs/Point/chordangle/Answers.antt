@@ -1,11 +1,11 @@
--- `point::chordangle` meets its contract.
+-- `point::Point::chordangle` meets its contract.
 use Rattle.point.specs.ChordAngle.{chord_angle, at_most4}
-use Rattle.point.proofs.chordangle.Goals as goal
+use Rattle.point.proofs.Point.chordangle.Goals as goal
 
 pub returns-then-d : goal.returns-then-d
 unfolding chord_angle at_most4
 returns-then-d c = rw (← c.sub.ensures, ← c.norm2-d.ensures, c.if-d.true)
 
-pub returns : goal.returns
+pub returns-else-d : goal.returns-else-d
 unfolding chord_angle at_most4
-returns c = rw (← c.sub.ensures, ← c.norm2-d.ensures, c.if-d.false)
+returns-else-d c = rw (← c.sub.ensures, ← c.norm2-d.ensures, c.if-d.false)

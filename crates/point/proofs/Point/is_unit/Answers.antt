@@ -1,6 +1,6 @@
--- `point::is_unit` meets its contract.
+-- `point::Point::is_unit` meets its contract.
 use Rattle.point.specs.Vector.{is_unit}
-use Rattle.point.proofs.is_unit.Goals as goal
+use Rattle.point.proofs.Point.is_unit.Goals as goal
 
 pub returns : goal.returns
 unfolding is_unit

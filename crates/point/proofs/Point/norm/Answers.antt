@@ -1,6 +1,6 @@
--- `point::norm` meets its contract.
+-- `point::Point::norm` meets its contract.
 use Rattle.point.specs.Vector.{norm_of}
-use Rattle.point.proofs.norm.Goals as goal
+use Rattle.point.proofs.Point.norm.Goals as goal
 
 pub returns : goal.returns
 unfolding norm_of
