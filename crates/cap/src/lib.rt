@@ -51,7 +51,7 @@ pub fn is_full(c: Cap) -> bool
 pub fn contains_point(c: Cap, p: Point) -> bool
     ensures { result ≡ cap_holds c p }
 {
-    point::chordangle(c.center, p) <= c.radius
+    c.center.chordangle(p) <= c.radius
 }
 
 // A cap around the x axis.
@@ -77,7 +77,7 @@ pub fn complement(c: Cap) -> Cap
         return around(point::STRAIGHT);
     }
     Cap {
-        center: point::mul(c.center, -1.0),
+        center: c.center.mul(-1.0),
         radius: point::STRAIGHT - c.radius,
     }
 }
@@ -86,16 +86,16 @@ pub fn complement(c: Cap) -> Cap
 fn edge_says(center: Point, sin2: f64, edge: Point, a: Point, b: Point) -> Verdict
     ensures { result ≡ edge_says center sin2 edge a b }
 {
-    let dot = point::dot(center, edge);
+    let dot = center.dot(edge);
     if dot > 0.0 {
         return Verdict::Next;
     }
-    if dot * dot > sin2 * point::norm2(edge) {
+    if dot * dot > sin2 * edge.norm2() {
         return Verdict::No;
     }
-    let dir = point::cross(edge, center);
-    if point::dot(dir, a) < 0.0 {
-        if point::dot(dir, b) > 0.0 {
+    let dir = edge.cross(center);
+    if dir.dot(a) < 0.0 {
+        if dir.dot(b) > 0.0 {
             return Verdict::Yes;
         }
         return Verdict::Next;

@@ -100,7 +100,7 @@ fn unit_at(face: u64, u: f64, v: f64) -> Point
     requires { face < 6 }
     ensures { result ≡ unit_at face u v }
 {
-    point::normalize(stuv::face_uv_to_xyz(face, u, v))
+    stuv::face_uv_to_xyz(face, u, v).normalize()
 }
 
 // The k-th corner, 0 to 3: lower left, lower right, upper right, upper left in (u, v).
@@ -179,7 +179,7 @@ fn add_point(c: Cap, p: Point) -> Cap
     let center = c.center;
     Cap {
         center,
-        radius: max(point::chordangle(center, p), c.radius),
+        radius: max(center.chordangle(p), c.radius),
     }
 }
 
@@ -356,28 +356,28 @@ fn v_edge(face: u64, w: f64, m: f64) -> Point
     requires { (face < 6) × (m ≡ scale_of w) }
     ensures { result ≡ normalize_of (v_norm face w) }
 {
-    point::mul(stuv::vnorm(face, w), m)
+    stuv::vnorm(face, w).mul(m)
 }
 
 fn u_edge(face: u64, w: f64, m: f64) -> Point
     requires { (face < 6) × (m ≡ scale_of w) }
     ensures { result ≡ normalize_of (u_norm face w) }
 {
-    point::mul(stuv::unorm(face, w), m)
+    stuv::unorm(face, w).mul(m)
 }
 
 fn v_back(face: u64, w: f64, m: f64) -> Point
     requires { (face < 6) × (m ≡ scale_of w) }
     ensures { result ≡ normalize_of (mul_of (v_norm face w) (neg one_f)) }
 {
-    point::mul(point::mul(stuv::vnorm(face, w), -1.0), m)
+    stuv::vnorm(face, w).mul(-1.0).mul(m)
 }
 
 fn u_back(face: u64, w: f64, m: f64) -> Point
     requires { (face < 6) × (m ≡ scale_of w) }
     ensures { result ≡ normalize_of (mul_of (u_norm face w) (neg one_f)) }
 {
-    point::mul(point::mul(stuv::unorm(face, w), -1.0), m)
+    stuv::unorm(face, w).mul(-1.0).mul(m)
 }
 
 // The k-th edge's inward normal, at unit length, where the scales of the cell's lines are known.

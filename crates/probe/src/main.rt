@@ -57,11 +57,11 @@ fn in_domain(k: u64, a: u64, g: Cap) -> bool {
     match k {
         1 => region::is_finite(g.center.x),
         2 => region::is_finite(g.center.x),
-        3 => point::is_unit(g.center),
+        3 => g.center.is_unit(),
         5 => region::cap_in_domain(requests::cap_of(0x3ff0_0000_0000_0000, 0, 0, a)),
-        6 => region::is_finite(point::norm2(point::mul(g.center, 0.0))),
+        6 => region::is_finite(g.center.mul(0.0).norm2()),
         7 => cellid::is_valid(a),
-        8 => point::is_unit(g.center),
+        8 => g.center.is_unit(),
         9 => region::cap_in_domain(g),
         10 => region::cap_in_domain(g),
         _ => true,
@@ -76,7 +76,7 @@ fn of_numbers(k: u64, a: u64, g: Cap) -> u64 {
         3 => neighbors::cellid_from_point(g.center),
         4 => cellid::is_valid(a) as u64,
         5 => cap::level_for(g.center.x),
-        _ => point::is_unit(g.center) as u64,
+        _ => g.center.is_unit() as u64,
     }
 }
 

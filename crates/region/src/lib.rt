@@ -47,7 +47,7 @@ pub fn cap_in_domain(c: Cap) -> bool
     if !is_finite(c.center.z) {
         return false;
     }
-    if !point::is_unit(c.center) {
+    if !c.center.is_unit() {
         return false;
     }
     if !is_finite(c.radius) {
