@@ -6,12 +6,10 @@ use Prim.Native.Nat.{ℕ}
 use mir.Val.{bool_byte}
 use Rattle.covering.specs.declared.Answer.{Answer}
 use Rattle.covering.specs.Covering.{Result, answer_of, Answered}
-use Rattle.ranges.specs.declared.Answer as ListAnswer
 use Rattle.ranges.specs.Ranges as Ranges
 use Rattle.refusal.specs.declared.Refusal.{Refusal}
 use Rattle.std.specs.Prelude as Std
-use Rattle.tokens.specs.Tokens as Names
-use Rattle.capi.specs.Calls.{Told, Called, CalledBy, CalledOf, NamesTold, NamesCalled}
+use Rattle.capi.specs.Calls.{Told, Called, CalledBy, CalledOf, NamesCalled}
 
 module _ {R : Result} {number count steps : ℕ} {mem mem' out out' aside : List ℕ} where
   -- an answer that is told is all that a call leaves
@@ -47,16 +45,10 @@ by_determined R n n' m m₁ m₂ o o₁ o₂ k k' s s' t t' g g' a b = (determin
 
 -- ---- lists: as pairs and back, and two as one
 
-pub words_called : (R : Ranges.Result) (a : ListAnswer.Answer) (number count : ℕ) (o o' : List ℕ) → Ranges.Answered R a o o' → (number ≡ Ranges.number_of a) × (count ≡ Ranges.words_of a) → CalledOf R number o o' count
-words_called R a number count o o' A t = record { is = t.0 ∙ ap Ranges.number_of A.answer; counted = t.1 ∙ ap Ranges.words_of A.answer; output = A.output }
-
 pub words_determined : (R : Ranges.Result) (n n' : ℕ) (o o₁ o₂ : List ℕ) (k k' : ℕ) → CalledOf R n o o₁ k → CalledOf R n' o o₂ k' → (n ≡ n') × (o₁ ≡ o₂) × (k ≡ k')
 words_determined R n n' o o₁ o₂ k k' a b = (a.is ∙ sym b.is, a.output ∙ sym b.output, a.counted ∙ sym b.counted)
 
 -- ---- tokens
-
-pub names_called : (R : Std.Result (List ℕ) Refusal) (a : Std.Result ℕ Refusal) (number count first : ℕ) (o o' : List ℕ) → Names.Answered R a o o' → NamesTold a number count first → NamesCalled R number o o' count first
-names_called R a number count first o o' A t = record { told = subst (λ (x : Std.Result ℕ Refusal). NamesTold x number count first) A.answer t; output = A.output }
 
 pub names_determined : (R : Std.Result (List ℕ) Refusal) (n n' : ℕ) (o o₁ o₂ : List ℕ) (k k' f f' : ℕ) → NamesCalled R n o o₁ k f → NamesCalled R n' o o₂ k' f' → (n ≡ n') × (o₁ ≡ o₂) × (k ≡ k') × (f ≡ f')
 names_determined R n n' o o₁ o₂ k k' f f' a b =

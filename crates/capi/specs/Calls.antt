@@ -1,13 +1,17 @@
 -- What a call from C comes to: the request and the region made of its numbers, and the papers' number and values in the places that the caller lent.
 use Rattle.std.specs.Prelude.{◌≡◌, List, ℕ, Float}
 use Rattle.std.specs.Prelude as Std
+use Rattle.refusal.specs.Refusal.{number_told}
 use Rattle.ranges.specs.Ranges as Ranges
 use Rattle.refusal.specs.declared.Refusal.{Refusal}
 use Rattle.tokens.specs.Tokens as Names
+use Rattle.cell.specs.declared.Cap.{Cap}
 use Rattle.region.specs.Region.{Area, cap_area}
 use Rattle.run.specs.declared.RegionCoverer.{RegionCoverer}
 use Rattle.totals.specs.Totals.{six_of}
 use Rattle.covering.specs.declared.Answer.{Answer}
+use Rattle.orders.specs.declared.Order.{Order}
+use Rattle.orders.specs.Orders.{NightOver, night_answer}
 use Rattle.covering.specs.Covering.{Result, answer_of, memory_after, output_after}
 
 -- the numbers of a request
@@ -15,8 +19,11 @@ abbrev pub region_coverer : ℕ → ℕ → ℕ → ℕ → ℕ → RegionCovere
 region_coverer low top step cells edition = record { min_level = low; max_level = top; level_mod = step; max_cells = cells; edition = edition }
 
 -- "a cap is a centre of three 64-bit floats and a squared chord radius"
+abbrev pub cap_of : Float → Float → Float → Float → Cap
+cap_of x y z radius = record { center = record { x = x; y = y; z = z }; radius = radius }
+
 abbrev pub cap_given : Float → Float → Float → Float → Area
-cap_given x y z radius = cap_area (record { center = record { x = x; y = y; z = z }; radius = radius })
+cap_given x y z radius = cap_area (cap_of x y z radius)
 
 -- an answer's number and values
 pub record Told (a : Answer) (number count steps : ℕ) (aside : List ℕ) : Type 0 where
@@ -58,3 +65,10 @@ pub record NamesTold (a : Std.Result ℕ Refusal) (number count first : ℕ) : T
 pub record NamesCalled (R : Std.Result (List ℕ) Refusal) (number : ℕ) (out out' : List ℕ) (count first : ℕ) : Type 0 where
   pub told : NamesTold (Names.length_of R) number count first
   pub output : out' ≡ Names.output_after R out
+
+-- ---- a night
+
+-- all that such a call leaves: the number, and what the night leaves
+pub record NightCalled (os os' : List Order) (number : ℕ) (mem mem' out out' : List ℕ) : Type 0 where
+  pub is : number ≡ number_told (night_answer os)
+  pub over : NightOver os os' mem mem' out out' (night_answer os)

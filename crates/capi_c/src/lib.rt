@@ -1,21 +1,30 @@
-// The functions of `capi` under the same names and with the same contracts, as a static library for programs in C or Rust: include/flaxbadger.h declares them.
-#![tactic(auto)]
+// The functions for programs in C or Rust, as a static library: include/flaxbadger.h declares them. They take numbers and slices, and require nothing of the
+// caller. Each returns the papers' number, 0 for success, and writes the values of the answer through `count`, `steps` and `aside`, which takes six totals. Their
+// runs are of edition 1. Those whose names end in `_by` do the same in either edition, by the quick engine, by the plain one, or by both, and write through
+// `agree` whether they agree.
+#![tactic(auto, unfolding(region::specs::Region::area_of))]
 
 ghost use Rattle.std.specs.Prelude.{◌≡◌, length};
 ghost use Rattle.covering.specs.declared.Ending.{Ending};
 ghost use Rattle.covering.specs.declared.Kind.{Kind};
 ghost use Rattle.covering.specs.Covering.{result_of};
-ghost use Rattle.region.specs.Region.{area_of, cell_area, list_area};
-ghost use Rattle.ranges.specs.Ranges.{pairs_result, cells_result, number_of, words_of};
+ghost use Rattle.region.specs.Region.{cell_area, list_area};
+ghost use Rattle.ranges.specs.Ranges.{pairs_result, cells_result};
 ghost use Rattle.sets.specs.declared.Op.{Op};
 ghost use Rattle.sets.specs.Sets.{set_result};
-ghost use Rattle.orders.specs.Orders.{NightOver};
 ghost use Rattle.tokens.specs.declared.Form.{Form};
 ghost use Rattle.tokens.specs.Tokens.{write_result, read_result};
-ghost use Rattle.capi.specs.Calls.{region_coverer, cap_given, Told, Called, CalledBy, CalledOf, NamesTold, NamesCalled};
+ghost use Rattle.capi.specs.Calls.{region_coverer, cap_given, Called, CalledBy, CalledOf, NamesCalled, NightCalled};
 
+use covering::{Ending, Kind};
 use orders::Order;
+use region::Region;
+use sets::Op;
+use tokens::Form;
 
+// The functions from here to the lists' are alike but for their kind, their region and `_by`: the C interface names each, with these parameters.
+
+// The covering: cells of levels min_level to max_level, in whole steps of level_mod, that cover the region as the outer run does. Of a cap, a cell, a list.
 #[unsafe(no_mangle)]
 pub extern "C" fn flaxbadger_covering_cap(
     x: f64,
@@ -35,10 +44,10 @@ pub extern "C" fn flaxbadger_covering_cap(
 ) -> u64
     ensures { Called (result_of (Kind.Outer Ending.Covering) (region_coverer min_level max_level level_mod max_cells 1) (cap_given x y z radius) allowance (length mem.old) (length out.old)) result mem.old mem.new out.old out.new count.new steps.new aside.new }
 {
-    capi::flaxbadger_covering_cap(
-        x, y, z, radius, min_level, max_level, level_mod, max_cells, allowance, mem, out, count,
-        steps, aside,
-    )
+    let kind = Kind::Outer(Ending::Covering);
+    let c = capi::coverer(min_level, max_level, level_mod, max_cells, 1);
+    let g = Region::Cap(capi::cap(x, y, z, radius));
+    capi::call(kind, c, g, allowance, mem, out, count, steps, aside)
 }
 
 #[unsafe(no_mangle)]
@@ -57,9 +66,10 @@ pub extern "C" fn flaxbadger_covering_cell(
 ) -> u64
     ensures { Called (result_of (Kind.Outer Ending.Covering) (region_coverer min_level max_level level_mod max_cells 1) (cell_area id) allowance (length mem.old) (length out.old)) result mem.old mem.new out.old out.new count.new steps.new aside.new }
 {
-    capi::flaxbadger_covering_cell(
-        id, min_level, max_level, level_mod, max_cells, allowance, mem, out, count, steps, aside,
-    )
+    let kind = Kind::Outer(Ending::Covering);
+    let c = capi::coverer(min_level, max_level, level_mod, max_cells, 1);
+    let g = Region::Cell(id);
+    capi::call(kind, c, g, allowance, mem, out, count, steps, aside)
 }
 
 #[unsafe(no_mangle)]
@@ -78,11 +88,13 @@ pub extern "C" fn flaxbadger_covering_list(
 ) -> u64
     ensures { Called (result_of (Kind.Outer Ending.Covering) (region_coverer min_level max_level level_mod max_cells 1) (list_area list.now) allowance (length mem.old) (length out.old)) result mem.old mem.new out.old out.new count.new steps.new aside.new }
 {
-    capi::flaxbadger_covering_list(
-        list, min_level, max_level, level_mod, max_cells, allowance, mem, out, count, steps, aside,
-    )
+    let kind = Kind::Outer(Ending::Covering);
+    let c = capi::coverer(min_level, max_level, level_mod, max_cells, 1);
+    let g = Region::List(list);
+    capi::call(kind, c, g, allowance, mem, out, count, steps, aside)
 }
 
+// The outer run's raw list, normalised; nothing is promised of levels. Of a cap, a cell, a list.
 #[unsafe(no_mangle)]
 pub extern "C" fn flaxbadger_cellunion_cap(
     x: f64,
@@ -102,10 +114,10 @@ pub extern "C" fn flaxbadger_cellunion_cap(
 ) -> u64
     ensures { Called (result_of (Kind.Outer Ending.CellUnion) (region_coverer min_level max_level level_mod max_cells 1) (cap_given x y z radius) allowance (length mem.old) (length out.old)) result mem.old mem.new out.old out.new count.new steps.new aside.new }
 {
-    capi::flaxbadger_cellunion_cap(
-        x, y, z, radius, min_level, max_level, level_mod, max_cells, allowance, mem, out, count,
-        steps, aside,
-    )
+    let kind = Kind::Outer(Ending::CellUnion);
+    let c = capi::coverer(min_level, max_level, level_mod, max_cells, 1);
+    let g = Region::Cap(capi::cap(x, y, z, radius));
+    capi::call(kind, c, g, allowance, mem, out, count, steps, aside)
 }
 
 #[unsafe(no_mangle)]
@@ -124,9 +136,10 @@ pub extern "C" fn flaxbadger_cellunion_cell(
 ) -> u64
     ensures { Called (result_of (Kind.Outer Ending.CellUnion) (region_coverer min_level max_level level_mod max_cells 1) (cell_area id) allowance (length mem.old) (length out.old)) result mem.old mem.new out.old out.new count.new steps.new aside.new }
 {
-    capi::flaxbadger_cellunion_cell(
-        id, min_level, max_level, level_mod, max_cells, allowance, mem, out, count, steps, aside,
-    )
+    let kind = Kind::Outer(Ending::CellUnion);
+    let c = capi::coverer(min_level, max_level, level_mod, max_cells, 1);
+    let g = Region::Cell(id);
+    capi::call(kind, c, g, allowance, mem, out, count, steps, aside)
 }
 
 #[unsafe(no_mangle)]
@@ -145,11 +158,13 @@ pub extern "C" fn flaxbadger_cellunion_list(
 ) -> u64
     ensures { Called (result_of (Kind.Outer Ending.CellUnion) (region_coverer min_level max_level level_mod max_cells 1) (list_area list.now) allowance (length mem.old) (length out.old)) result mem.old mem.new out.old out.new count.new steps.new aside.new }
 {
-    capi::flaxbadger_cellunion_list(
-        list, min_level, max_level, level_mod, max_cells, allowance, mem, out, count, steps, aside,
-    )
+    let kind = Kind::Outer(Ending::CellUnion);
+    let c = capi::coverer(min_level, max_level, level_mod, max_cells, 1);
+    let g = Region::List(list);
+    capi::call(kind, c, g, allowance, mem, out, count, steps, aside)
 }
 
+// The outer run's raw list, in the order kept. Of a cap, a cell, a list.
 #[unsafe(no_mangle)]
 pub extern "C" fn flaxbadger_raw_cap(
     x: f64,
@@ -169,10 +184,10 @@ pub extern "C" fn flaxbadger_raw_cap(
 ) -> u64
     ensures { Called (result_of (Kind.Outer Ending.Raw) (region_coverer min_level max_level level_mod max_cells 1) (cap_given x y z radius) allowance (length mem.old) (length out.old)) result mem.old mem.new out.old out.new count.new steps.new aside.new }
 {
-    capi::flaxbadger_raw_cap(
-        x, y, z, radius, min_level, max_level, level_mod, max_cells, allowance, mem, out, count,
-        steps, aside,
-    )
+    let kind = Kind::Outer(Ending::Raw);
+    let c = capi::coverer(min_level, max_level, level_mod, max_cells, 1);
+    let g = Region::Cap(capi::cap(x, y, z, radius));
+    capi::call(kind, c, g, allowance, mem, out, count, steps, aside)
 }
 
 #[unsafe(no_mangle)]
@@ -191,9 +206,10 @@ pub extern "C" fn flaxbadger_raw_cell(
 ) -> u64
     ensures { Called (result_of (Kind.Outer Ending.Raw) (region_coverer min_level max_level level_mod max_cells 1) (cell_area id) allowance (length mem.old) (length out.old)) result mem.old mem.new out.old out.new count.new steps.new aside.new }
 {
-    capi::flaxbadger_raw_cell(
-        id, min_level, max_level, level_mod, max_cells, allowance, mem, out, count, steps, aside,
-    )
+    let kind = Kind::Outer(Ending::Raw);
+    let c = capi::coverer(min_level, max_level, level_mod, max_cells, 1);
+    let g = Region::Cell(id);
+    capi::call(kind, c, g, allowance, mem, out, count, steps, aside)
 }
 
 #[unsafe(no_mangle)]
@@ -212,11 +228,13 @@ pub extern "C" fn flaxbadger_raw_list(
 ) -> u64
     ensures { Called (result_of (Kind.Outer Ending.Raw) (region_coverer min_level max_level level_mod max_cells 1) (list_area list.now) allowance (length mem.old) (length out.old)) result mem.old mem.new out.old out.new count.new steps.new aside.new }
 {
-    capi::flaxbadger_raw_list(
-        list, min_level, max_level, level_mod, max_cells, allowance, mem, out, count, steps, aside,
-    )
+    let kind = Kind::Outer(Ending::Raw);
+    let c = capi::coverer(min_level, max_level, level_mod, max_cells, 1);
+    let g = Region::List(list);
+    capi::call(kind, c, g, allowance, mem, out, count, steps, aside)
 }
 
+// Cells inside the region, of levels min_level to max_level in whole steps of level_mod. Of a cap, a cell, a list.
 #[unsafe(no_mangle)]
 pub extern "C" fn flaxbadger_interior_covering_cap(
     x: f64,
@@ -236,10 +254,10 @@ pub extern "C" fn flaxbadger_interior_covering_cap(
 ) -> u64
     ensures { Called (result_of (Kind.Inner Ending.Covering) (region_coverer min_level max_level level_mod max_cells 1) (cap_given x y z radius) allowance (length mem.old) (length out.old)) result mem.old mem.new out.old out.new count.new steps.new aside.new }
 {
-    capi::flaxbadger_interior_covering_cap(
-        x, y, z, radius, min_level, max_level, level_mod, max_cells, allowance, mem, out, count,
-        steps, aside,
-    )
+    let kind = Kind::Inner(Ending::Covering);
+    let c = capi::coverer(min_level, max_level, level_mod, max_cells, 1);
+    let g = Region::Cap(capi::cap(x, y, z, radius));
+    capi::call(kind, c, g, allowance, mem, out, count, steps, aside)
 }
 
 #[unsafe(no_mangle)]
@@ -258,9 +276,10 @@ pub extern "C" fn flaxbadger_interior_covering_cell(
 ) -> u64
     ensures { Called (result_of (Kind.Inner Ending.Covering) (region_coverer min_level max_level level_mod max_cells 1) (cell_area id) allowance (length mem.old) (length out.old)) result mem.old mem.new out.old out.new count.new steps.new aside.new }
 {
-    capi::flaxbadger_interior_covering_cell(
-        id, min_level, max_level, level_mod, max_cells, allowance, mem, out, count, steps, aside,
-    )
+    let kind = Kind::Inner(Ending::Covering);
+    let c = capi::coverer(min_level, max_level, level_mod, max_cells, 1);
+    let g = Region::Cell(id);
+    capi::call(kind, c, g, allowance, mem, out, count, steps, aside)
 }
 
 #[unsafe(no_mangle)]
@@ -279,11 +298,13 @@ pub extern "C" fn flaxbadger_interior_covering_list(
 ) -> u64
     ensures { Called (result_of (Kind.Inner Ending.Covering) (region_coverer min_level max_level level_mod max_cells 1) (list_area list.now) allowance (length mem.old) (length out.old)) result mem.old mem.new out.old out.new count.new steps.new aside.new }
 {
-    capi::flaxbadger_interior_covering_list(
-        list, min_level, max_level, level_mod, max_cells, allowance, mem, out, count, steps, aside,
-    )
+    let kind = Kind::Inner(Ending::Covering);
+    let c = capi::coverer(min_level, max_level, level_mod, max_cells, 1);
+    let g = Region::List(list);
+    capi::call(kind, c, g, allowance, mem, out, count, steps, aside)
 }
 
+// The inner run's raw list, normalised; nothing is promised of levels. Of a cap, a cell, a list.
 #[unsafe(no_mangle)]
 pub extern "C" fn flaxbadger_interior_cellunion_cap(
     x: f64,
@@ -303,10 +324,10 @@ pub extern "C" fn flaxbadger_interior_cellunion_cap(
 ) -> u64
     ensures { Called (result_of (Kind.Inner Ending.CellUnion) (region_coverer min_level max_level level_mod max_cells 1) (cap_given x y z radius) allowance (length mem.old) (length out.old)) result mem.old mem.new out.old out.new count.new steps.new aside.new }
 {
-    capi::flaxbadger_interior_cellunion_cap(
-        x, y, z, radius, min_level, max_level, level_mod, max_cells, allowance, mem, out, count,
-        steps, aside,
-    )
+    let kind = Kind::Inner(Ending::CellUnion);
+    let c = capi::coverer(min_level, max_level, level_mod, max_cells, 1);
+    let g = Region::Cap(capi::cap(x, y, z, radius));
+    capi::call(kind, c, g, allowance, mem, out, count, steps, aside)
 }
 
 #[unsafe(no_mangle)]
@@ -325,9 +346,10 @@ pub extern "C" fn flaxbadger_interior_cellunion_cell(
 ) -> u64
     ensures { Called (result_of (Kind.Inner Ending.CellUnion) (region_coverer min_level max_level level_mod max_cells 1) (cell_area id) allowance (length mem.old) (length out.old)) result mem.old mem.new out.old out.new count.new steps.new aside.new }
 {
-    capi::flaxbadger_interior_cellunion_cell(
-        id, min_level, max_level, level_mod, max_cells, allowance, mem, out, count, steps, aside,
-    )
+    let kind = Kind::Inner(Ending::CellUnion);
+    let c = capi::coverer(min_level, max_level, level_mod, max_cells, 1);
+    let g = Region::Cell(id);
+    capi::call(kind, c, g, allowance, mem, out, count, steps, aside)
 }
 
 #[unsafe(no_mangle)]
@@ -346,11 +368,13 @@ pub extern "C" fn flaxbadger_interior_cellunion_list(
 ) -> u64
     ensures { Called (result_of (Kind.Inner Ending.CellUnion) (region_coverer min_level max_level level_mod max_cells 1) (list_area list.now) allowance (length mem.old) (length out.old)) result mem.old mem.new out.old out.new count.new steps.new aside.new }
 {
-    capi::flaxbadger_interior_cellunion_list(
-        list, min_level, max_level, level_mod, max_cells, allowance, mem, out, count, steps, aside,
-    )
+    let kind = Kind::Inner(Ending::CellUnion);
+    let c = capi::coverer(min_level, max_level, level_mod, max_cells, 1);
+    let g = Region::List(list);
+    capi::call(kind, c, g, allowance, mem, out, count, steps, aside)
 }
 
+// The inner run's raw list, in the order kept. Of a cap, a cell, a list.
 #[unsafe(no_mangle)]
 pub extern "C" fn flaxbadger_interior_raw_cap(
     x: f64,
@@ -370,10 +394,10 @@ pub extern "C" fn flaxbadger_interior_raw_cap(
 ) -> u64
     ensures { Called (result_of (Kind.Inner Ending.Raw) (region_coverer min_level max_level level_mod max_cells 1) (cap_given x y z radius) allowance (length mem.old) (length out.old)) result mem.old mem.new out.old out.new count.new steps.new aside.new }
 {
-    capi::flaxbadger_interior_raw_cap(
-        x, y, z, radius, min_level, max_level, level_mod, max_cells, allowance, mem, out, count,
-        steps, aside,
-    )
+    let kind = Kind::Inner(Ending::Raw);
+    let c = capi::coverer(min_level, max_level, level_mod, max_cells, 1);
+    let g = Region::Cap(capi::cap(x, y, z, radius));
+    capi::call(kind, c, g, allowance, mem, out, count, steps, aside)
 }
 
 #[unsafe(no_mangle)]
@@ -392,9 +416,10 @@ pub extern "C" fn flaxbadger_interior_raw_cell(
 ) -> u64
     ensures { Called (result_of (Kind.Inner Ending.Raw) (region_coverer min_level max_level level_mod max_cells 1) (cell_area id) allowance (length mem.old) (length out.old)) result mem.old mem.new out.old out.new count.new steps.new aside.new }
 {
-    capi::flaxbadger_interior_raw_cell(
-        id, min_level, max_level, level_mod, max_cells, allowance, mem, out, count, steps, aside,
-    )
+    let kind = Kind::Inner(Ending::Raw);
+    let c = capi::coverer(min_level, max_level, level_mod, max_cells, 1);
+    let g = Region::Cell(id);
+    capi::call(kind, c, g, allowance, mem, out, count, steps, aside)
 }
 
 #[unsafe(no_mangle)]
@@ -413,11 +438,13 @@ pub extern "C" fn flaxbadger_interior_raw_list(
 ) -> u64
     ensures { Called (result_of (Kind.Inner Ending.Raw) (region_coverer min_level max_level level_mod max_cells 1) (list_area list.now) allowance (length mem.old) (length out.old)) result mem.old mem.new out.old out.new count.new steps.new aside.new }
 {
-    capi::flaxbadger_interior_raw_list(
-        list, min_level, max_level, level_mod, max_cells, allowance, mem, out, count, steps, aside,
-    )
+    let kind = Kind::Inner(Ending::Raw);
+    let c = capi::coverer(min_level, max_level, level_mod, max_cells, 1);
+    let g = Region::List(list);
+    capi::call(kind, c, g, allowance, mem, out, count, steps, aside)
 }
 
+// The quick, coarse covering of the region's bound, with no run and 0 steps. Of a cap, a cell, a list.
 #[unsafe(no_mangle)]
 pub extern "C" fn flaxbadger_fast_covering_cap(
     x: f64,
@@ -436,9 +463,10 @@ pub extern "C" fn flaxbadger_fast_covering_cap(
 ) -> u64
     ensures { Called (result_of Kind.Fast (region_coverer min_level max_level level_mod max_cells 1) (cap_given x y z radius) 0 (length mem.old) (length out.old)) result mem.old mem.new out.old out.new count.new steps.new aside.new }
 {
-    capi::flaxbadger_fast_covering_cap(
-        x, y, z, radius, min_level, max_level, level_mod, max_cells, mem, out, count, steps, aside,
-    )
+    let kind = Kind::Fast;
+    let c = capi::coverer(min_level, max_level, level_mod, max_cells, 1);
+    let g = Region::Cap(capi::cap(x, y, z, radius));
+    capi::call(kind, c, g, 0, mem, out, count, steps, aside)
 }
 
 #[unsafe(no_mangle)]
@@ -456,9 +484,10 @@ pub extern "C" fn flaxbadger_fast_covering_cell(
 ) -> u64
     ensures { Called (result_of Kind.Fast (region_coverer min_level max_level level_mod max_cells 1) (cell_area id) 0 (length mem.old) (length out.old)) result mem.old mem.new out.old out.new count.new steps.new aside.new }
 {
-    capi::flaxbadger_fast_covering_cell(
-        id, min_level, max_level, level_mod, max_cells, mem, out, count, steps, aside,
-    )
+    let kind = Kind::Fast;
+    let c = capi::coverer(min_level, max_level, level_mod, max_cells, 1);
+    let g = Region::Cell(id);
+    capi::call(kind, c, g, 0, mem, out, count, steps, aside)
 }
 
 #[unsafe(no_mangle)]
@@ -476,11 +505,13 @@ pub extern "C" fn flaxbadger_fast_covering_list(
 ) -> u64
     ensures { Called (result_of Kind.Fast (region_coverer min_level max_level level_mod max_cells 1) (list_area list.now) 0 (length mem.old) (length out.old)) result mem.old mem.new out.old out.new count.new steps.new aside.new }
 {
-    capi::flaxbadger_fast_covering_list(
-        list, min_level, max_level, level_mod, max_cells, mem, out, count, steps, aside,
-    )
+    let kind = Kind::Fast;
+    let c = capi::coverer(min_level, max_level, level_mod, max_cells, 1);
+    let g = Region::List(list);
+    capi::call(kind, c, g, 0, mem, out, count, steps, aside)
 }
 
+// The covering, by the engines asked for. Of a cap, a cell, a list.
 #[unsafe(no_mangle)]
 pub extern "C" fn flaxbadger_covering_cap_by(
     engines: u64,
@@ -503,9 +534,11 @@ pub extern "C" fn flaxbadger_covering_cap_by(
 ) -> u64
     ensures { CalledBy (result_of (Kind.Outer Ending.Covering) (region_coverer min_level max_level level_mod max_cells edition) (cap_given x y z radius) allowance (length mem.old) (length out.old)) result mem.old mem.new out.old out.new count.new steps.new aside.new agree.new }
 {
-    capi::flaxbadger_covering_cap_by(
-        engines, x, y, z, radius, min_level, max_level, level_mod, max_cells, edition, allowance,
-        mem, out, count, steps, aside, agree,
+    let kind = Kind::Outer(Ending::Covering);
+    let c = capi::coverer(min_level, max_level, level_mod, max_cells, edition);
+    let g = Region::Cap(capi::cap(x, y, z, radius));
+    capi::call_by(
+        engines, kind, c, g, allowance, mem, out, count, steps, aside, agree,
     )
 }
 
@@ -528,9 +561,11 @@ pub extern "C" fn flaxbadger_covering_cell_by(
 ) -> u64
     ensures { CalledBy (result_of (Kind.Outer Ending.Covering) (region_coverer min_level max_level level_mod max_cells edition) (cell_area id) allowance (length mem.old) (length out.old)) result mem.old mem.new out.old out.new count.new steps.new aside.new agree.new }
 {
-    capi::flaxbadger_covering_cell_by(
-        engines, id, min_level, max_level, level_mod, max_cells, edition, allowance, mem, out,
-        count, steps, aside, agree,
+    let kind = Kind::Outer(Ending::Covering);
+    let c = capi::coverer(min_level, max_level, level_mod, max_cells, edition);
+    let g = Region::Cell(id);
+    capi::call_by(
+        engines, kind, c, g, allowance, mem, out, count, steps, aside, agree,
     )
 }
 
@@ -553,12 +588,15 @@ pub extern "C" fn flaxbadger_covering_list_by(
 ) -> u64
     ensures { CalledBy (result_of (Kind.Outer Ending.Covering) (region_coverer min_level max_level level_mod max_cells edition) (list_area list.now) allowance (length mem.old) (length out.old)) result mem.old mem.new out.old out.new count.new steps.new aside.new agree.new }
 {
-    capi::flaxbadger_covering_list_by(
-        engines, list, min_level, max_level, level_mod, max_cells, edition, allowance, mem, out,
-        count, steps, aside, agree,
+    let kind = Kind::Outer(Ending::Covering);
+    let c = capi::coverer(min_level, max_level, level_mod, max_cells, edition);
+    let g = Region::List(list);
+    capi::call_by(
+        engines, kind, c, g, allowance, mem, out, count, steps, aside, agree,
     )
 }
 
+// The outer run's raw list, normalised, by the engines asked for. Of a cap, a cell, a list.
 #[unsafe(no_mangle)]
 pub extern "C" fn flaxbadger_cellunion_cap_by(
     engines: u64,
@@ -581,9 +619,11 @@ pub extern "C" fn flaxbadger_cellunion_cap_by(
 ) -> u64
     ensures { CalledBy (result_of (Kind.Outer Ending.CellUnion) (region_coverer min_level max_level level_mod max_cells edition) (cap_given x y z radius) allowance (length mem.old) (length out.old)) result mem.old mem.new out.old out.new count.new steps.new aside.new agree.new }
 {
-    capi::flaxbadger_cellunion_cap_by(
-        engines, x, y, z, radius, min_level, max_level, level_mod, max_cells, edition, allowance,
-        mem, out, count, steps, aside, agree,
+    let kind = Kind::Outer(Ending::CellUnion);
+    let c = capi::coverer(min_level, max_level, level_mod, max_cells, edition);
+    let g = Region::Cap(capi::cap(x, y, z, radius));
+    capi::call_by(
+        engines, kind, c, g, allowance, mem, out, count, steps, aside, agree,
     )
 }
 
@@ -606,9 +646,11 @@ pub extern "C" fn flaxbadger_cellunion_cell_by(
 ) -> u64
     ensures { CalledBy (result_of (Kind.Outer Ending.CellUnion) (region_coverer min_level max_level level_mod max_cells edition) (cell_area id) allowance (length mem.old) (length out.old)) result mem.old mem.new out.old out.new count.new steps.new aside.new agree.new }
 {
-    capi::flaxbadger_cellunion_cell_by(
-        engines, id, min_level, max_level, level_mod, max_cells, edition, allowance, mem, out,
-        count, steps, aside, agree,
+    let kind = Kind::Outer(Ending::CellUnion);
+    let c = capi::coverer(min_level, max_level, level_mod, max_cells, edition);
+    let g = Region::Cell(id);
+    capi::call_by(
+        engines, kind, c, g, allowance, mem, out, count, steps, aside, agree,
     )
 }
 
@@ -631,12 +673,15 @@ pub extern "C" fn flaxbadger_cellunion_list_by(
 ) -> u64
     ensures { CalledBy (result_of (Kind.Outer Ending.CellUnion) (region_coverer min_level max_level level_mod max_cells edition) (list_area list.now) allowance (length mem.old) (length out.old)) result mem.old mem.new out.old out.new count.new steps.new aside.new agree.new }
 {
-    capi::flaxbadger_cellunion_list_by(
-        engines, list, min_level, max_level, level_mod, max_cells, edition, allowance, mem, out,
-        count, steps, aside, agree,
+    let kind = Kind::Outer(Ending::CellUnion);
+    let c = capi::coverer(min_level, max_level, level_mod, max_cells, edition);
+    let g = Region::List(list);
+    capi::call_by(
+        engines, kind, c, g, allowance, mem, out, count, steps, aside, agree,
     )
 }
 
+// The outer run's raw list, in the order kept, by the engines asked for. Of a cap, a cell, a list.
 #[unsafe(no_mangle)]
 pub extern "C" fn flaxbadger_raw_cap_by(
     engines: u64,
@@ -659,9 +704,11 @@ pub extern "C" fn flaxbadger_raw_cap_by(
 ) -> u64
     ensures { CalledBy (result_of (Kind.Outer Ending.Raw) (region_coverer min_level max_level level_mod max_cells edition) (cap_given x y z radius) allowance (length mem.old) (length out.old)) result mem.old mem.new out.old out.new count.new steps.new aside.new agree.new }
 {
-    capi::flaxbadger_raw_cap_by(
-        engines, x, y, z, radius, min_level, max_level, level_mod, max_cells, edition, allowance,
-        mem, out, count, steps, aside, agree,
+    let kind = Kind::Outer(Ending::Raw);
+    let c = capi::coverer(min_level, max_level, level_mod, max_cells, edition);
+    let g = Region::Cap(capi::cap(x, y, z, radius));
+    capi::call_by(
+        engines, kind, c, g, allowance, mem, out, count, steps, aside, agree,
     )
 }
 
@@ -684,9 +731,11 @@ pub extern "C" fn flaxbadger_raw_cell_by(
 ) -> u64
     ensures { CalledBy (result_of (Kind.Outer Ending.Raw) (region_coverer min_level max_level level_mod max_cells edition) (cell_area id) allowance (length mem.old) (length out.old)) result mem.old mem.new out.old out.new count.new steps.new aside.new agree.new }
 {
-    capi::flaxbadger_raw_cell_by(
-        engines, id, min_level, max_level, level_mod, max_cells, edition, allowance, mem, out,
-        count, steps, aside, agree,
+    let kind = Kind::Outer(Ending::Raw);
+    let c = capi::coverer(min_level, max_level, level_mod, max_cells, edition);
+    let g = Region::Cell(id);
+    capi::call_by(
+        engines, kind, c, g, allowance, mem, out, count, steps, aside, agree,
     )
 }
 
@@ -709,12 +758,15 @@ pub extern "C" fn flaxbadger_raw_list_by(
 ) -> u64
     ensures { CalledBy (result_of (Kind.Outer Ending.Raw) (region_coverer min_level max_level level_mod max_cells edition) (list_area list.now) allowance (length mem.old) (length out.old)) result mem.old mem.new out.old out.new count.new steps.new aside.new agree.new }
 {
-    capi::flaxbadger_raw_list_by(
-        engines, list, min_level, max_level, level_mod, max_cells, edition, allowance, mem, out,
-        count, steps, aside, agree,
+    let kind = Kind::Outer(Ending::Raw);
+    let c = capi::coverer(min_level, max_level, level_mod, max_cells, edition);
+    let g = Region::List(list);
+    capi::call_by(
+        engines, kind, c, g, allowance, mem, out, count, steps, aside, agree,
     )
 }
 
+// Cells inside the region, by the engines asked for. Of a cap, a cell, a list.
 #[unsafe(no_mangle)]
 pub extern "C" fn flaxbadger_interior_covering_cap_by(
     engines: u64,
@@ -737,9 +789,11 @@ pub extern "C" fn flaxbadger_interior_covering_cap_by(
 ) -> u64
     ensures { CalledBy (result_of (Kind.Inner Ending.Covering) (region_coverer min_level max_level level_mod max_cells edition) (cap_given x y z radius) allowance (length mem.old) (length out.old)) result mem.old mem.new out.old out.new count.new steps.new aside.new agree.new }
 {
-    capi::flaxbadger_interior_covering_cap_by(
-        engines, x, y, z, radius, min_level, max_level, level_mod, max_cells, edition, allowance,
-        mem, out, count, steps, aside, agree,
+    let kind = Kind::Inner(Ending::Covering);
+    let c = capi::coverer(min_level, max_level, level_mod, max_cells, edition);
+    let g = Region::Cap(capi::cap(x, y, z, radius));
+    capi::call_by(
+        engines, kind, c, g, allowance, mem, out, count, steps, aside, agree,
     )
 }
 
@@ -762,9 +816,11 @@ pub extern "C" fn flaxbadger_interior_covering_cell_by(
 ) -> u64
     ensures { CalledBy (result_of (Kind.Inner Ending.Covering) (region_coverer min_level max_level level_mod max_cells edition) (cell_area id) allowance (length mem.old) (length out.old)) result mem.old mem.new out.old out.new count.new steps.new aside.new agree.new }
 {
-    capi::flaxbadger_interior_covering_cell_by(
-        engines, id, min_level, max_level, level_mod, max_cells, edition, allowance, mem, out,
-        count, steps, aside, agree,
+    let kind = Kind::Inner(Ending::Covering);
+    let c = capi::coverer(min_level, max_level, level_mod, max_cells, edition);
+    let g = Region::Cell(id);
+    capi::call_by(
+        engines, kind, c, g, allowance, mem, out, count, steps, aside, agree,
     )
 }
 
@@ -787,12 +843,15 @@ pub extern "C" fn flaxbadger_interior_covering_list_by(
 ) -> u64
     ensures { CalledBy (result_of (Kind.Inner Ending.Covering) (region_coverer min_level max_level level_mod max_cells edition) (list_area list.now) allowance (length mem.old) (length out.old)) result mem.old mem.new out.old out.new count.new steps.new aside.new agree.new }
 {
-    capi::flaxbadger_interior_covering_list_by(
-        engines, list, min_level, max_level, level_mod, max_cells, edition, allowance, mem, out,
-        count, steps, aside, agree,
+    let kind = Kind::Inner(Ending::Covering);
+    let c = capi::coverer(min_level, max_level, level_mod, max_cells, edition);
+    let g = Region::List(list);
+    capi::call_by(
+        engines, kind, c, g, allowance, mem, out, count, steps, aside, agree,
     )
 }
 
+// The inner run's raw list, normalised, by the engines asked for. Of a cap, a cell, a list.
 #[unsafe(no_mangle)]
 pub extern "C" fn flaxbadger_interior_cellunion_cap_by(
     engines: u64,
@@ -815,9 +874,11 @@ pub extern "C" fn flaxbadger_interior_cellunion_cap_by(
 ) -> u64
     ensures { CalledBy (result_of (Kind.Inner Ending.CellUnion) (region_coverer min_level max_level level_mod max_cells edition) (cap_given x y z radius) allowance (length mem.old) (length out.old)) result mem.old mem.new out.old out.new count.new steps.new aside.new agree.new }
 {
-    capi::flaxbadger_interior_cellunion_cap_by(
-        engines, x, y, z, radius, min_level, max_level, level_mod, max_cells, edition, allowance,
-        mem, out, count, steps, aside, agree,
+    let kind = Kind::Inner(Ending::CellUnion);
+    let c = capi::coverer(min_level, max_level, level_mod, max_cells, edition);
+    let g = Region::Cap(capi::cap(x, y, z, radius));
+    capi::call_by(
+        engines, kind, c, g, allowance, mem, out, count, steps, aside, agree,
     )
 }
 
@@ -840,9 +901,11 @@ pub extern "C" fn flaxbadger_interior_cellunion_cell_by(
 ) -> u64
     ensures { CalledBy (result_of (Kind.Inner Ending.CellUnion) (region_coverer min_level max_level level_mod max_cells edition) (cell_area id) allowance (length mem.old) (length out.old)) result mem.old mem.new out.old out.new count.new steps.new aside.new agree.new }
 {
-    capi::flaxbadger_interior_cellunion_cell_by(
-        engines, id, min_level, max_level, level_mod, max_cells, edition, allowance, mem, out,
-        count, steps, aside, agree,
+    let kind = Kind::Inner(Ending::CellUnion);
+    let c = capi::coverer(min_level, max_level, level_mod, max_cells, edition);
+    let g = Region::Cell(id);
+    capi::call_by(
+        engines, kind, c, g, allowance, mem, out, count, steps, aside, agree,
     )
 }
 
@@ -865,12 +928,15 @@ pub extern "C" fn flaxbadger_interior_cellunion_list_by(
 ) -> u64
     ensures { CalledBy (result_of (Kind.Inner Ending.CellUnion) (region_coverer min_level max_level level_mod max_cells edition) (list_area list.now) allowance (length mem.old) (length out.old)) result mem.old mem.new out.old out.new count.new steps.new aside.new agree.new }
 {
-    capi::flaxbadger_interior_cellunion_list_by(
-        engines, list, min_level, max_level, level_mod, max_cells, edition, allowance, mem, out,
-        count, steps, aside, agree,
+    let kind = Kind::Inner(Ending::CellUnion);
+    let c = capi::coverer(min_level, max_level, level_mod, max_cells, edition);
+    let g = Region::List(list);
+    capi::call_by(
+        engines, kind, c, g, allowance, mem, out, count, steps, aside, agree,
     )
 }
 
+// The inner run's raw list, in the order kept, by the engines asked for. Of a cap, a cell, a list.
 #[unsafe(no_mangle)]
 pub extern "C" fn flaxbadger_interior_raw_cap_by(
     engines: u64,
@@ -893,9 +959,11 @@ pub extern "C" fn flaxbadger_interior_raw_cap_by(
 ) -> u64
     ensures { CalledBy (result_of (Kind.Inner Ending.Raw) (region_coverer min_level max_level level_mod max_cells edition) (cap_given x y z radius) allowance (length mem.old) (length out.old)) result mem.old mem.new out.old out.new count.new steps.new aside.new agree.new }
 {
-    capi::flaxbadger_interior_raw_cap_by(
-        engines, x, y, z, radius, min_level, max_level, level_mod, max_cells, edition, allowance,
-        mem, out, count, steps, aside, agree,
+    let kind = Kind::Inner(Ending::Raw);
+    let c = capi::coverer(min_level, max_level, level_mod, max_cells, edition);
+    let g = Region::Cap(capi::cap(x, y, z, radius));
+    capi::call_by(
+        engines, kind, c, g, allowance, mem, out, count, steps, aside, agree,
     )
 }
 
@@ -918,9 +986,11 @@ pub extern "C" fn flaxbadger_interior_raw_cell_by(
 ) -> u64
     ensures { CalledBy (result_of (Kind.Inner Ending.Raw) (region_coverer min_level max_level level_mod max_cells edition) (cell_area id) allowance (length mem.old) (length out.old)) result mem.old mem.new out.old out.new count.new steps.new aside.new agree.new }
 {
-    capi::flaxbadger_interior_raw_cell_by(
-        engines, id, min_level, max_level, level_mod, max_cells, edition, allowance, mem, out,
-        count, steps, aside, agree,
+    let kind = Kind::Inner(Ending::Raw);
+    let c = capi::coverer(min_level, max_level, level_mod, max_cells, edition);
+    let g = Region::Cell(id);
+    capi::call_by(
+        engines, kind, c, g, allowance, mem, out, count, steps, aside, agree,
     )
 }
 
@@ -943,26 +1013,31 @@ pub extern "C" fn flaxbadger_interior_raw_list_by(
 ) -> u64
     ensures { CalledBy (result_of (Kind.Inner Ending.Raw) (region_coverer min_level max_level level_mod max_cells edition) (list_area list.now) allowance (length mem.old) (length out.old)) result mem.old mem.new out.old out.new count.new steps.new aside.new agree.new }
 {
-    capi::flaxbadger_interior_raw_list_by(
-        engines, list, min_level, max_level, level_mod, max_cells, edition, allowance, mem, out,
-        count, steps, aside, agree,
+    let kind = Kind::Inner(Ending::Raw);
+    let c = capi::coverer(min_level, max_level, level_mod, max_cells, edition);
+    let g = Region::List(list);
+    capi::call_by(
+        engines, kind, c, g, allowance, mem, out, count, steps, aside, agree,
     )
 }
 
+// A list as pairs of first and last leaf, neighbouring pairs joined.
 #[unsafe(no_mangle)]
 pub extern "C" fn flaxbadger_ranges(ids: &[u64], out: &mut [u64], count: &mut u64) -> u64
     ensures { CalledOf (pairs_result ids.now (length out.old)) result out.old out.new count.new }
 {
-    capi::flaxbadger_ranges(ids, out, count)
+    capi::tell_words(ranges::pairs(ids, out), count)
 }
 
+// Such pairs as the normalised list of their leaves.
 #[unsafe(no_mangle)]
 pub extern "C" fn flaxbadger_cells(pairs: &[u64], out: &mut [u64], count: &mut u64) -> u64
     ensures { CalledOf (cells_result pairs.now (length out.old)) result out.old out.new count.new }
 {
-    capi::flaxbadger_cells(pairs, out, count)
+    capi::tell_words(ranges::cells(pairs, out), count)
 }
 
+// The leaves of either list, normalised.
 #[unsafe(no_mangle)]
 pub extern "C" fn flaxbadger_union(
     first: &[u64],
@@ -972,9 +1047,10 @@ pub extern "C" fn flaxbadger_union(
 ) -> u64
     ensures { CalledOf (set_result Op.Union first.now second.now (length out.old)) result out.old out.new count.new }
 {
-    capi::flaxbadger_union(first, second, out, count)
+    capi::tell_words(sets::combine(Op::Union, first, second, out), count)
 }
 
+// The leaves of both lists, normalised.
 #[unsafe(no_mangle)]
 pub extern "C" fn flaxbadger_common(
     first: &[u64],
@@ -984,9 +1060,10 @@ pub extern "C" fn flaxbadger_common(
 ) -> u64
     ensures { CalledOf (set_result Op.Common first.now second.now (length out.old)) result out.old out.new count.new }
 {
-    capi::flaxbadger_common(first, second, out, count)
+    capi::tell_words(sets::combine(Op::Common, first, second, out), count)
 }
 
+// The leaves of the first list alone, normalised.
 #[unsafe(no_mangle)]
 pub extern "C" fn flaxbadger_difference(
     first: &[u64],
@@ -996,9 +1073,10 @@ pub extern "C" fn flaxbadger_difference(
 ) -> u64
     ensures { CalledOf (set_result Op.Difference first.now second.now (length out.old)) result out.old out.new count.new }
 {
-    capi::flaxbadger_difference(first, second, out, count)
+    capi::tell_words(sets::combine(Op::Difference, first, second, out), count)
 }
 
+// A list as a text, a token a line.
 #[unsafe(no_mangle)]
 pub extern "C" fn flaxbadger_write_tokens(
     ids: &[u64],
@@ -1008,9 +1086,10 @@ pub extern "C" fn flaxbadger_write_tokens(
 ) -> u64
     ensures { NamesCalled (write_result Form.Token ids.now (length text.old)) result text.old text.new count.new first.new }
 {
-    capi::flaxbadger_write_tokens(ids, text, count, first)
+    capi::tell_names(tokens::write(Form::Token, ids, text), count, first)
 }
 
+// Such a text as the list.
 #[unsafe(no_mangle)]
 pub extern "C" fn flaxbadger_read_tokens(
     text: &[u8],
@@ -1020,12 +1099,13 @@ pub extern "C" fn flaxbadger_read_tokens(
 ) -> u64
     ensures { NamesCalled (read_result Form.Token text.now (length ids.old)) result ids.old ids.new count.new first.new }
 {
-    capi::flaxbadger_read_tokens(text, ids, count, first)
+    capi::tell_names(tokens::read(Form::Token, text, ids), count, first)
 }
 
+// A night's orders, one after another: each record is answered as the functions above answer it alone, with the room that the orders before it left.
 #[unsafe(no_mangle)]
 pub extern "C" fn flaxbadger_night(orders: &mut [Order], mem: &mut [u64], out: &mut [u64]) -> u64
-    ensures { NightOver orders.old orders.new mem.old mem.new out.old out.new result }
+    ensures { NightCalled orders.old orders.new result mem.old mem.new out.old out.new }
 {
-    capi::flaxbadger_night(orders, mem, out)
+    refusal::number(orders::night(orders, mem, out))
 }

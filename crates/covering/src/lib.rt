@@ -29,7 +29,7 @@ use totals::Totals;
 
 // The answer's number and values: 0 for a success, else paper 01's number of the refusal; how many ids stand in the output's first places, how many steps the
 // run took, how many leaves it set aside under each start cell. A refusal has zeros there.
-#[derive(Clone, Copy)]
+#[derive(Clone, Copy, PartialEq)]
 pub struct Answer {
     pub number: u64,
     pub count: usize,

@@ -128,7 +128,7 @@ fn serve_first(orders: [Order; 256], n: usize, mem: &mut [u64], out: &mut [u64])
     ensures { ServedFirst n orders result mem.old mem.new out.old out.new }
 {
     let mut served = orders;
-    orders::night(&mut served[..n], mem, out);
+    let _ = orders::night(&mut served[..n], mem, out);
     served
 }
 

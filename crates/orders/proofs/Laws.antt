@@ -1,24 +1,24 @@
 -- Laws of the definitions: an order takes no more than the room that it is given; one order served; the orders before place i are served and the rest are to come. Assumes nothing.
+use Rattle.std.specs.Prelude.{Ok, Err}
 use mathlib.Core.Path.{◌≡◌, refl, ap, ◌∙◌}
 use mathlib.Core.List.{List, [], ◌∷◌, ◌++◌, append_assoc, append-nil}
 use Prim.Native.Nat.{ℕ, suc, ◌+◌, ◌-◌, ◌≤◌, ◌<◌}
 use native.Mathlib.Omega.{arith}
 use native.Mathlib.Numerals.{add-one}
 use lib.ListN.{length, take, drop, set, get_or, length-append, length-drop, length-set}
-use Rattle.std.proofs.lemmas.List.{get_or-set_same, set-set}
 use lib.Seq.{take-length, drop-length, drop-cons, take-suc-set, drop-set-lt, length-take-le}
 use borrow.Author.Tests.{lt-ltb, le-ltb}
 use borrow.Author.Rules.{part_to_end}
 use borrow.Rule.Slice.PartMut.{mid_of, put_mid}
+use Rattle.refusal.specs.declared.Refusal.{Refusal}
 use Rattle.cellunion.proofs.Memory.{past_end}
 use Rattle.region.specs.Region.{Area}
-use Rattle.totals.specs.declared.Totals.{Totals}
 use Rattle.covering.specs.declared.Answer.{Answer}
 use Rattle.covering.specs.declared.Kind.{Kind}
 use Rattle.covering.specs.Covering.{Result, barred, refused, done, result_of, answer_of, memory_after, output_after, Answered}
 use Rattle.covering.proofs.Table.{Sound, result_sound}
 use Rattle.orders.specs.declared.Order.{Order}
-use Rattle.orders.specs.Orders.{kind_of, area_for, result_for, result_at, with_answer, list_in, laid_from, After, before, serve_all, night_number, night_of, NightOver, Served}
+use Rattle.orders.specs.Orders.{kind_of, area_for, result_for, result_at, with_answer, list_in, laid_from, After, before, serve_all, night_answer, night_of, NightOver, Served}
 
 -- ---- one order
 
@@ -94,39 +94,6 @@ module _ (night : After) (i used : ℕ) (os : List Order) (mem out : List ℕ) (
   pub going_more : Going night (i + 1) (used + r.count) (set os i (with_answer (get_or os i d) r)) mem' out'
   going_more = record { same = g.same ∙ step_is; room = room_after }
 
--- ---- the four answers are written into the record at place i, one after another
-
-abbrev pub with_number : Order → ℕ → Order
-with_number o n = record { number = n; count = o.count; steps = o.steps; aside = o.aside; fast = o.fast; inner = o.inner; cell = o.cell; id = o.id; cap = o.cap; coverer = o.coverer; allowance = o.allowance }
-
-abbrev pub with_count : Order → ℕ → Order
-with_count o n = record { number = o.number; count = n; steps = o.steps; aside = o.aside; fast = o.fast; inner = o.inner; cell = o.cell; id = o.id; cap = o.cap; coverer = o.coverer; allowance = o.allowance }
-
-abbrev pub with_steps : Order → ℕ → Order
-with_steps o n = record { number = o.number; count = o.count; steps = n; aside = o.aside; fast = o.fast; inner = o.inner; cell = o.cell; id = o.id; cap = o.cap; coverer = o.coverer; allowance = o.allowance }
-
-abbrev pub with_aside : Order → Totals → Order
-with_aside o t = record { number = o.number; count = o.count; steps = o.steps; aside = t; fast = o.fast; inner = o.inner; cell = o.cell; id = o.id; cap = o.cap; coverer = o.coverer; allowance = o.allowance }
-
--- what stands at a place is changed by f
-abbrev pub changed : (Order → Order) → Order → ℕ → List Order → List Order
-changed f d i os = set os i (f (get_or os i d))
-
-changed_twice : (f g : Order → Order) (d : Order) (i : ℕ) (os : List Order) → i < length os → changed g d i (changed f d i os) ≡ changed (λ (o : Order). g (f o)) d i os
-changed_twice f g d i os h = rw (set-set os i (f (get_or os i d)) (g (get_or (set os i (f (get_or os i d))) i d))) (ap (λ (o : Order). set os i (g o)) (get_or-set_same os i (f (get_or os i d)) d h))
-
-pub four_written : (r : Answer) (d : Order) (i : ℕ) (os : List Order) → i < length os
-    → changed (λ (o : Order). with_aside o r.aside) d i (changed (λ (o : Order). with_steps o r.steps) d i (changed (λ (o : Order). with_count o r.count) d i (changed (λ (o : Order). with_number o r.number) d i os)))
-    ≡ set os i (with_answer (get_or os i d) r)
-four_written r d i os h =
-    let n = λ (o : Order). with_number o r.number in
-    let c = λ (o : Order). with_count o r.count in
-    let s = λ (o : Order). with_steps o r.steps in
-    let a = λ (o : Order). with_aside o r.aside in
-    ap (λ (l : List Order). changed a d i (changed s d i l)) (changed_twice n c d i os h)
-    ∙ ap (changed a d i) (changed_twice (λ (o : Order). c (n o)) s d i os h)
-    ∙ changed_twice (λ (o : Order). s (c (n o))) a d i os h
-
 -- ---- where the loop stands: of the orders ys the first i are served
 
 pub record Turn (ys : List Order) (ms os : List ℕ) (i used : ℕ) (orders : List Order) (memory output : List ℕ) : Type 0 where
@@ -157,23 +124,23 @@ module _ {ys : List Order} {ms os : List ℕ} {i used : ℕ} {orders : List Orde
 
 -- ---- the whole night
 
-pub night_refused : (os : List Order) (mem out : List ℕ) → 256 < length os → NightOver os os mem mem out out 13
-unfolding night_number night_of
+pub night_refused : (os : List Order) (mem out : List ℕ) → 256 < length os → NightOver os os mem mem out out (Err Refusal.TooManyOrders)
+unfolding night_answer night_of
 night_refused os mem out h =
     let e = lt-ltb 256 (length os) h in
-    record { number = rw (night_number, e); orders = rw (night_of, e); memory = rw (night_of, e); output = rw (night_of, e) }
+    record { answer = rw (night_answer, e); orders = rw (night_of, e); memory = rw (night_of, e); output = rw (night_of, e) }
 
 pub night_serves : (os : List Order) (mem out : List ℕ) → length os ≤ 256 → night_of os mem out ≡ serve_all os mem out 0
 unfolding night_of
 night_serves os mem out h = rw (night_of, le-ltb 256 (length os) h)
 
-pub night_all : (os : List Order) (mem out : List ℕ) → length os ≤ 256 → let a = serve_all os mem out 0 in NightOver os a.orders mem a.memory out a.output 0
-unfolding night_number
+pub night_all : (os : List Order) (mem out : List ℕ) → length os ≤ 256 → let a = serve_all os mem out 0 in NightOver os a.orders mem a.memory out a.output (Ok tt)
+unfolding night_answer
 night_all os mem out h =
     let e = night_serves os mem out h in
-    record { number = rw (night_number, le-ltb 256 (length os) h); orders = rw e; memory = rw e; output = rw e }
+    record { answer = rw (night_answer, le-ltb 256 (length os) h); orders = rw e; memory = rw e; output = rw e }
 
-pub ending : {ys : List Order} {ms os : List ℕ} {i used : ℕ} {orders : List Order} {memory output : List ℕ} → Turn ys ms os i used orders memory output → length ys ≤ 256 → length ys ≤ i → NightOver ys orders ms memory os output 0
+pub ending : {ys : List Order} {ms os : List ℕ} {i used : ℕ} {orders : List Order} {memory output : List ℕ} → Turn ys ms os i used orders memory output → length ys ≤ 256 → length ys ≤ i → NightOver ys orders ms memory os output (Ok tt)
 unfolding serve_all
 ending {ys} {ms} {os} {i} {used} {orders} {memory} {output} t few over =
     let e : i ≡ length orders = omega (arith, t.long, t.within, over) in

@@ -1,4 +1,6 @@
 -- What a night leaves, order by order (specs/Nights), from its definitions. Assumes nothing.
+use Rattle.std.specs.Prelude.{Err}
+use Rattle.std.specs.Prelude as Std
 use mathlib.Core.Path.{◌≡◌, refl, sym, ap, ap₂, ◌∙◌}
 use mathlib.Core.List.{List, [], ◌∷◌, ◌++◌}
 use Prim.Native.Nat.{ℕ, zero, suc, ◌+◌, ◌-◌, ◌≤◌, ◌<◌}
@@ -8,6 +10,7 @@ use lib.Dec.{ltb}
 use lib.ListN.{length, take, drop, get_or, length-append, length-drop, take-append-drop}
 use lib.Seq.{take_at, drop_at, drop-drop, length-take-le, take-add, append_snoc}
 use borrow.Author.Tests.{ltb-true}
+use Rattle.refusal.specs.declared.Refusal.{Refusal}
 use Rattle.cellunion.specs.Memory.{zeros, laid}
 use Rattle.cellunion.proofs.Memory.{laid_nil, length_laid, laid_append, laid_start, length_zeros}
 use Rattle.bars.specs.declared.Bar.{Bar}
@@ -21,7 +24,7 @@ use Rattle.covering.specs.declared.Answer.{Answer}
 use Rattle.covering.specs.Covering.{Result, barred, refused, done, checked, result_of, answer_of, memory_after, output_after}
 use Rattle.covering.proofs.Table.{refusal_values}
 use Rattle.orders.specs.declared.Order.{Order}
-use Rattle.orders.specs.Orders.{area_for, result_for, result_at, with_answer, list_in, laid_from, After, before, serve_all, night_number, night_of, NightOver}
+use Rattle.orders.specs.Orders.{area_for, result_for, result_at, with_answer, list_in, laid_from, After, before, serve_all, night_answer, night_of, NightOver}
 use Rattle.orders.specs.Nights.{places_of, ahead, begins, Alone, NoneTaken, Stands, Kept, OnlyAnswered, Thirteen, lists_of}
 use Rattle.orders.proofs.Laws.{count_is, takes_room, laid_long, serve_one, night_refused, night_all}
 
@@ -249,17 +252,17 @@ rest_kept os mem out = if_ok (λ (a : After). OnlyAnswered os a.orders) (ltb 256
 -- ---- the contract of a night
 
 -- any two results that it allows are one
-pub contract_once : {os os₁ os₂ : List Order} {mem m₁ m₂ out o₁ o₂ : List ℕ} {r r' : ℕ} → NightOver os os₁ mem m₁ out o₁ r → NightOver os os₂ mem m₂ out o₂ r'
+pub contract_once : {os os₁ os₂ : List Order} {mem m₁ m₂ out o₁ o₂ : List ℕ} {r r' : Std.Result Unit Refusal} → NightOver os os₁ mem m₁ out o₁ r → NightOver os os₂ mem m₂ out o₂ r'
     → (r ≡ r') × (os₁ ≡ os₂) × (m₁ ≡ m₂) × (o₁ ≡ o₂)
-contract_once N M = (N.number ∙ sym M.number, N.orders ∙ sym M.orders, N.memory ∙ sym M.memory, N.output ∙ sym M.output)
+contract_once N M = (N.answer ∙ sym M.answer, N.orders ∙ sym M.orders, N.memory ∙ sym M.memory, N.output ∙ sym M.output)
 
-only_many : (os : List Order) → night_number os ≡ 13 → 256 < length os
-unfolding night_number
-only_many os = if_ok (λ (n : ℕ). n ≡ 13 → 256 < length os) (ltb 256 (length os)) 13 0 (λ t e. ltb-true 256 (length os) t) (λ t e. absurd (omega arith))
+only_many : (os : List Order) → night_answer os ≡ Err Refusal.TooManyOrders → 256 < length os
+unfolding night_answer
+only_many os = if_ok (λ (r : Std.Result Unit Refusal). r ≡ Err Refusal.TooManyOrders → 256 < length os) (ltb 256 (length os)) _ _ (λ t e. ltb-true 256 (length os) t) (λ t e. cc)
 
-pub thirteen : {os os' : List Order} {mem mem' out out' : List ℕ} {r : ℕ} → NightOver os os' mem mem' out out' r → Thirteen os os' mem mem' out out' r
+pub thirteen : {os os' : List Order} {mem mem' out out' : List ℕ} {r : Std.Result Unit Refusal} → NightOver os os' mem mem' out out' r → Thirteen os os' mem mem' out out' r
 thirteen {os} {mem = mem} {out = out} N = record {
-  exactly = (λ e. only_many os (sym N.number ∙ e), λ h. (contract_once N (night_refused os mem out h)).0);
-  unchanged = λ e. let n = contract_once N (night_refused os mem out (only_many os (sym N.number ∙ e))) in (n.1, n.2, n.3);
+  exactly = (λ e. only_many os (sym N.answer ∙ e), λ h. (contract_once N (night_refused os mem out h)).0);
+  unchanged = λ e. let n = contract_once N (night_refused os mem out (only_many os (sym N.answer ∙ e))) in (n.1, n.2, n.3);
   served = λ h. contract_once N (night_all os mem out h);
 }

@@ -1,5 +1,7 @@
 -- What a night that is served leaves, order by order: what paper 02, e, asks, stated about the definitions. Quoted lines are the paper's words.
-use Rattle.std.specs.Prelude.{◌≡◌, List, [], ◌∷◌, ◌++◌, ◌↔◌, ℕ, ◌+◌, ◌-◌, ◌≤◌, ◌<◌, length, get_or, take, drop}
+use Rattle.std.specs.Prelude.{◌≡◌, List, [], ◌∷◌, ◌++◌, ◌↔◌, ℕ, ◌+◌, ◌-◌, ◌≤◌, ◌<◌, length, get_or, take, drop, Ok, Err}
+use Rattle.std.specs.Prelude as Std
+use Rattle.refusal.specs.declared.Refusal.{Refusal}
 use Rattle.totals.specs.Totals.{no_totals}
 use Rattle.covering.specs.declared.Answer.{Answer}
 use Rattle.covering.specs.Covering.{Answered}
@@ -73,13 +75,13 @@ pub record OnlyAnswered (os os' : List Order) : Type 0 where
   pub long : length os' ≡ length os
   pub each : (d : Order) (k : ℕ) → Kept (get_or os k d) (get_or os' k d)
 
--- ---- the number
+-- ---- the night's refusal
 
 -- "13 for more than 256 records, nothing changed": then and only then; else all are served
-pub record Thirteen (os os' : List Order) (mem mem' out out' : List ℕ) (r : ℕ) : Type 0 where
-  pub exactly : (r ≡ 13) ↔ (256 < length os)
-  pub unchanged : r ≡ 13 → (os' ≡ os) × (mem' ≡ mem) × (out' ≡ out)
-  pub served : length os ≤ 256 → (r ≡ 0) × (os' ≡ (serve_all os mem out 0).orders) × (mem' ≡ (serve_all os mem out 0).memory) × (out' ≡ (serve_all os mem out 0).output)
+pub record Thirteen (os os' : List Order) (mem mem' out out' : List ℕ) (r : Std.Result Unit Refusal) : Type 0 where
+  pub exactly : (r ≡ Err Refusal.TooManyOrders) ↔ (256 < length os)
+  pub unchanged : r ≡ Err Refusal.TooManyOrders → (os' ≡ os) × (mem' ≡ mem) × (out' ≡ out)
+  pub served : length os ≤ 256 → (r ≡ Ok tt) × (os' ≡ (serve_all os mem out 0).orders) × (mem' ≡ (serve_all os mem out 0).memory) × (out' ≡ (serve_all os mem out 0).output)
 
 -- ---- the whole output
 

@@ -1,5 +1,7 @@
 -- A night's orders (paper 02, e): what each record, the working memory, the output and the number are afterwards. Quoted lines are the paper's words.
-use Rattle.std.specs.Prelude.{◌≡◌, Bool, true, false, List, [], ◌∷◌, ◌++◌, ℕ, ◌+◌, ◌-◌, ltb, length, take, drop}
+use Rattle.std.specs.Prelude.{◌≡◌, Bool, true, false, List, [], ◌∷◌, ◌++◌, ℕ, ◌+◌, ◌-◌, ltb, length, take, drop, Ok, Err}
+use Rattle.std.specs.Prelude as Std
+use Rattle.refusal.specs.declared.Refusal.{Refusal}
 use Rattle.cell.specs.declared.Cap.{Cap}
 use Rattle.region.specs.Region.{Area, cap_area, cell_area}
 use Rattle.covering.specs.declared.Answer.{Answer}
@@ -11,13 +13,13 @@ use Rattle.orders.specs.declared.Order.{Order}
 -- ---- one order
 
 -- "its kind (outer, inner or fast)": of an order that says fast, inner says nothing
-unfoldable pub kind_of : Bool → Bool → Kind
+abbrev pub kind_of : Bool → Bool → Kind
 kind_of true inner = Kind.Fast
 kind_of false true = Kind.Inner Ending.Covering
 kind_of false false = Kind.Outer Ending.Covering
 
 -- "region (cap or cell)": the cell of that id, or the cap
-unfoldable pub area_for : Bool → ℕ → Cap → Area
+abbrev pub area_for : Bool → ℕ → Cap → Area
 area_for true id cap = cell_area id
 area_for false id cap = cap_area cap
 
@@ -75,15 +77,15 @@ serve_all (o ∷ os) mem out used =
     before (with_answer o (answer_of R) ∷ []) (serve_all os (memory_after R mem) (laid_from used R out) (used + length (list_in R)))
 
 -- "13 for more than 256 records, nothing changed, checked before any order"
-unfoldable pub night_number : List Order → ℕ
-night_number os = elim (ltb 256 (length os)) [ true ↦ 13 | false ↦ 0 ]
+unfoldable pub night_answer : List Order → Std.Result Unit Refusal
+night_answer os = elim (ltb 256 (length os)) [ true ↦ Err Refusal.TooManyOrders | false ↦ Ok tt ]
 
 unfoldable pub night_of : List Order → List ℕ → List ℕ → After
 night_of os mem out = elim (ltb 256 (length os)) [ true ↦ record { orders = os; memory = mem; output = out } | false ↦ serve_all os mem out 0 ]
 
 -- what is ensured of a night
-pub record NightOver (os os' : List Order) (mem mem' out out' : List ℕ) (r : ℕ) : Type 0 where
-  pub number : r ≡ night_number os
+pub record NightOver (os os' : List Order) (mem mem' out out' : List ℕ) (r : Std.Result Unit Refusal) : Type 0 where
+  pub answer : r ≡ night_answer os
   pub orders : os' ≡ (night_of os mem out).orders
   pub memory : mem' ≡ (night_of os mem out).memory
   pub output : out' ≡ (night_of os mem out).output

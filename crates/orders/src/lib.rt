@@ -1,13 +1,14 @@
 // A night's orders in one call (paper 02, e): each record is answered as its public function answers it alone, with the room that the orders before it left in the output.
 #![tactic(auto)]
 
-ghost use Rattle.std.specs.Prelude.{◌≡◌, [], ◌≤◌, length};
+ghost use Rattle.std.specs.Prelude.{◌≡◌, ◌≤◌, length};
 ghost use Rattle.region.specs.Region.{area_of};
-ghost use Rattle.orders.specs.Orders.{kind_of, area_for, Served, NightOver};
+ghost use Rattle.orders.specs.Orders.{kind_of, area_for, with_answer, Served, NightOver};
 
 use cell::Cap;
 use covering::{Answer, Ending, Kind};
 use queue::Engine;
+use refusal::Refusal;
 use region::Region;
 use run::RegionCoverer;
 use totals::Totals;
@@ -33,67 +34,77 @@ pub struct Order {
     pub allowance: u32,
 }
 
-// The kind of answer that an order asks for.
-fn kind_of(fast: bool, inner: bool) -> Kind
-    ensures { result ≡ kind_of fast inner }
-{
-    if fast {
-        return Kind::Fast;
+impl Order {
+    // The kind of answer that is asked for.
+    fn kind(self) -> Kind
+        ensures { result ≡ kind_of self.fast self.inner }
+    {
+        if self.fast {
+            Kind::Fast
+        } else if self.inner {
+            Kind::Inner(Ending::Covering)
+        } else {
+            Kind::Outer(Ending::Covering)
+        }
     }
-    if inner {
-        return Kind::Inner(Ending::Covering);
+
+    // The region that is asked about.
+    #[tactic(auto, unfolding(region::specs::Region::area_of))]
+    fn region<'a>(self) -> Region<'a>
+        ensures { area_of result ≡ area_for self.cell self.id self.cap }
+    {
+        if self.cell {
+            Region::Cell(self.id)
+        } else {
+            Region::Cap(self.cap)
+        }
     }
-    Kind::Outer(Ending::Covering)
+
+    // Serves the order: its list goes behind the places of the output that are taken.
+    fn serve(self, used: usize, mem: &mut [u64], out: &mut [u64]) -> Answer
+        requires { used ≤ length out.old }
+        ensures { Served self used result mem.old mem.new out.old out.new }
+    {
+        let kind = self.kind();
+        let region = self.region();
+        let free = &mut out[used..];
+        covering::respond(
+            Engine::Quick,
+            kind,
+            self.coverer,
+            region,
+            self.allowance,
+            mem,
+            free,
+        )
+    }
+
+    // With its answer written into it.
+    fn answered(self, a: Answer) -> Order
+        ensures { result ≡ with_answer self a }
+    {
+        Order {
+            number: a.number,
+            count: a.count,
+            steps: a.steps,
+            aside: a.aside,
+            ..self
+        }
+    }
 }
 
-// The region that an order asks about.
-fn region_of<'a>(cell: bool, id: u64, cap: Cap) -> Region<'a>
-    ensures { area_of result ≡ area_for cell id cap }
-{
-    if cell {
-        return Region::Cell(id);
-    }
-    Region::Cap(cap)
-}
-
-// Serves one order: its list goes behind the places of the output that are taken.
-fn serve(o: Order, used: usize, mem: &mut [u64], out: &mut [u64]) -> Answer
-    requires { used ≤ length out.old }
-    ensures { Served o used result mem.old mem.new out.old out.new }
-{
-    let kind = kind_of(o.fast, o.inner);
-    let cap = o.cap;
-    let region = region_of(o.cell, o.id, cap);
-    let coverer = o.coverer;
-    covering::respond(
-        Engine::Quick,
-        kind,
-        coverer,
-        region,
-        o.allowance,
-        mem,
-        &mut out[used..],
-    )
-}
-
-// Serves the orders one after another, and writes into each record how it was answered. The number is 0; or 13, with nothing changed, where there are more than 256.
-pub fn night(orders: &mut [Order], mem: &mut [u64], out: &mut [u64]) -> u64
+// Serves the orders one after another, and writes into each record how it was answered. Refused, with nothing changed, where there are more than 256.
+pub fn night(orders: &mut [Order], mem: &mut [u64], out: &mut [u64]) -> Result<(), Refusal>
     ensures { NightOver orders.old orders.new mem.old mem.new out.old out.new result }
 {
-    let n = orders.len();
-    if n > NIGHT_MOST {
-        return 13;
+    if orders.len() > NIGHT_MOST {
+        return Err(Refusal::TooManyOrders);
     }
     let mut used: usize = 0;
-    let mut i: usize = 0;
-    while i < n {
-        let a = serve(orders[i], used, mem, out);
-        orders[i].number = a.number;
-        orders[i].count = a.count;
-        orders[i].steps = a.steps;
-        orders[i].aside = a.aside;
+    for order in orders.iter_mut() {
+        let a = order.serve(used, mem, out);
+        *order = order.answered(a);
         used += a.count;
-        i += 1;
     }
-    0
+    Ok(())
 }

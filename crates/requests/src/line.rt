@@ -385,7 +385,7 @@ pub fn read_asked(line: &[u8], words: &mut [u64]) -> Asked
         out: value_or(65536, values[1]),
         mem: value_or(MEMORY_WORDS as u64, values[2]),
         form: form_of(values[3]),
-        engines: selftest::engines_of(value_or(0, values[5])),
+        engines: Engines::from(value_or(0, values[5])),
         after,
     }
 }

@@ -9,5 +9,5 @@ use Rattle.selftest.proofs.hold.Goals as goal
 
 pub returns : goal.returns
 returns c =
-    let n = c.lesser-n in
+    let n = c.min-n in
     (n.ensures, held_laid n.result _ _ _ (omega (arith, n.ensures)) c.lay.ensures.1, c.clear.ensures ∙ ap (λ (k : ℕ). laid 0 (zeros k) c.args.out.now) (sub-zero n.result))

@@ -1,29 +1,29 @@
 -- `selftest::respond_twice` meets its contract: the quick engine's answer is that of one call, and what is compared is the same.
-use mathlib.Core.Path.{◌∙◌}
+use mathlib.Core.Path.{sym, ◌∙◌}
+use Prim.Native.Nat.{◌≤◌}
 use native.Mathlib.Omega.{arith}
-use Rattle.selftest.proofs.Laws.{count_within, answered_twice, agrees, never, within_second}
+use lib.Seq.{length-take-le}
+use Rattle.selftest.proofs.Laws.{count_within, answered_twice, agrees, within_second}
 use Rattle.selftest.proofs.respond_twice.Goals as goal
 
 pub hold-n-requires : goal.hold-n-requires
 hold-n-requires c = count_within c.respond-first.ensures
 
-pub same_words-agree-requires : goal.same_words-agree-requires
-same_words-agree-requires c =
-    let first = c.respond-first in
-    let h = c.hold-n in
-    let second = c.respond-answer in
-    (omega (arith, h.ensures.0, h.auto.held), within_second _ _ _ _ _ _ _ _ _ _ _ _ _ h.result first.auto.mem (h.auto.out ∙ first.auto.out) (omega (arith, h.ensures.0)) first.ensures h.ensures.2 second.ensures)
+pub slice_bounds-same-end-3 : goal.slice_bounds-same-end-3
+slice_bounds-same-end-3 c =
+    within_second _ _ _ _ _ _ _ _ _ _ _ _ _ c.hold-n.result c.respond-first.auto.mem (c.hold-n.auto.out ∙ c.respond-first.auto.out) (omega (arith, c.hold-n.ensures.0)) c.respond-first.ensures c.hold-n.ensures.2 c.respond-answer.ensures
 
-pub returns-then-same_answer : goal.returns-then-same_answer
-returns-then-same_answer c =
-    let first = c.respond-first in
-    let h = c.hold-n in
-    let second = c.respond-answer in
-    (answered_twice _ _ _ _ _ _ _ _ _ _ _ _ _ h.result first.auto.mem (h.auto.out ∙ first.auto.out) (omega (arith, h.ensures.0)) first.ensures h.ensures.2 second.ensures, agrees _ _ _ _ _ _ _ _ _ _ _ _ _ h.result first.auto.mem (h.auto.out ∙ first.auto.out) (omega (arith, h.ensures.0)) first.ensures h.ensures.2 second.ensures _ _ _ h.ensures.1 c.same_words-agree.ensures)
+pub slice_bounds-same-end-4 : goal.slice_bounds-same-end-4
+slice_bounds-same-end-4 c =
+    sym (length-take-le c.hold-n.result c.respond-answer.new.out (within_second _ _ _ _ _ _ _ _ _ _ _ _ _ c.hold-n.result c.respond-first.auto.mem (c.hold-n.auto.out ∙ c.respond-first.auto.out) (omega (arith, c.hold-n.ensures.0)) c.respond-first.ensures c.hold-n.ensures.2 c.respond-answer.ensures))
 
-pub returns-else-same_answer : goal.returns-else-same_answer
-returns-else-same_answer c =
+pub returns : goal.returns
+returns c =
     let first = c.respond-first in
     let h = c.hold-n in
     let second = c.respond-answer in
-    absurd (never _ _ _ _ _ _ _ _ _ _ _ _ _ h.result first.auto.mem (h.auto.out ∙ first.auto.out) (omega (arith, h.ensures.0)) first.ensures h.ensures.2 second.ensures _ c.same_answer.ensures c.if-same_answer.false)
+    let e = h.auto.out ∙ first.auto.out in
+    let n : h.result ≤ first.result.count = omega (arith, h.ensures.0) in (
+      answered_twice _ _ _ _ _ _ _ _ _ _ _ _ _ h.result first.auto.mem e n first.ensures h.ensures.2 second.ensures,
+      c.same-agree.ensures.1 (agrees _ _ _ _ _ _ _ _ _ _ _ _ _ h.result first.auto.mem e n first.ensures h.ensures.2 second.ensures _ _ h.ensures.1),
+    )

@@ -1,6 +1,0 @@
--- `orders::serve` meets its contract: the part of the output from `used` on was lent whole, and is laid back. Assumes nothing.
-use Rattle.orders.proofs.Laws.{served_is}
-use Rattle.orders.proofs.serve.Goals as goal
-
-pub returns : goal.returns
-returns c = served_is c.args.o c.args.used _ _ c.args.out.now _ _ _ _ c.kind_of-kind.ensures c.region_of-region.ensures c.respond.ensures
