@@ -6,11 +6,15 @@ use native.Mathlib.Nat.{add-zero}
 use native.Mathlib.Omega.{arith}
 use native.Mathlib.Numerals.{add-one}
 use lib.ListN.{length, get_or, take, drop, set, replicate, length-set, length-drop, take-append-drop, drop_of_length-le}
-use lib.Seq.{take-nil, take-suc-set, drop-set-lt, drop-cons, drop-drop, get_or-take, length-take-le}
+use lib.Seq.{take-nil, take-suc-set, drop-set-lt, drop-cons, drop-drop, get_or-drop, get_or-take, length-take-le}
+use Rattle.std.specs.List.{copy_within}
+use Rattle.std.proofs.lemmas.List.{drop-take}
+use Rattle.std.proofs.lemmas.List.Edits.{paste_all}
+use Rattle.std.proofs.lemmas.Slice.{put_mid-paste}
 use borrow.Author.Tests.{le-leb, lt-leb}
+use borrow.Rule.Slice.PartMut.{put_mid}
 use Rattle.order.specs.Order.{All}
-use Rattle.order.proofs.WordLaws.{same_word}
-use Rattle.cellunion.specs.declared.Laid.{Laid}
+use Rattle.std.specs.Prelude.{Some, None}
 use Rattle.cellunion.specs.Memory.{zeros, laid, room_for, laid_over}
 
 -- ---- walking the list
@@ -19,6 +23,10 @@ pub next_word : (m : List ℕ) (n i : ℕ) → n ≤ length m → i < n → drop
 next_word m n i r h =
     let l : length (take n m) ≡ n = length-take-le n m r in
     drop-cons (take n m) i 0 (omega arith) ∙ ap₂ (λ (x : ℕ) (w : ℕ). x ∷ drop w (take n m)) (get_or-take n m i 0 h) (sym (add-one i))
+
+-- where two lists are the same from a place on, they have the same word there
+same_word : (a b : List ℕ) (i : ℕ) → drop i a ≡ drop i b → get_or a i 0 ≡ get_or b i 0
+same_word a b i e = simp add-zero at (sym (get_or-drop i a 0 0) ∙ ap (λ (l : List ℕ). get_or l 0 0) e ∙ get_or-drop i b 0 0)
 
 -- what a pass that writes behind itself reads next was not yet written
 pub next_read : (m₀ m : List ℕ) (n i : ℕ) → n ≤ length m₀ → i < n → drop i m ≡ drop i m₀ → drop i (take n m₀) ≡ get_or m i 0 ∷ drop (i + 1) (take n m₀)
@@ -81,76 +89,40 @@ laid_start l d = let e : 0 + length l ≡ length l = omega arith in ap (λ (n : 
 
 -- ---- there is room, or there is not
 
-pub room_yes : (l d : List ℕ) → length l ≤ length d → (room_for l d ≡ Laid.Done (length l)) × (laid_over l d ≡ laid 0 l d)
+pub room_yes : (l d : List ℕ) → length l ≤ length d → (room_for l d ≡ Some (length l)) × (laid_over l d ≡ laid 0 l d)
 unfolding room_for laid_over
 room_yes l d h = let e = le-leb (length l) (length d) h in (rw (room_for, e), rw (laid_over, e))
 
-pub room_no : (l d : List ℕ) → length d < length l → (room_for l d ≡ Laid.NoRoom) × (laid_over l d ≡ d)
+pub room_no : (l d : List ℕ) → length d < length l → (room_for l d ≡ None) × (laid_over l d ≡ d)
 unfolding room_for laid_over
 room_no l d h = let e = lt-leb (length l) (length d) h in (rw (room_for, e), rw (laid_over, e))
 
--- ---- a copy: what is left of the words laid over the output as it is now makes the output that is wanted
+-- ---- a copy
 
-pub record Laying (m : List ℕ) (n : ℕ) (out₀ out : List ℕ) (i : ℕ) : Type 0 where
-  pub within : i ≤ n
-  pub have : n ≤ length m
-  pub room : n ≤ length out₀
-  pub len : length out ≡ length out₀
-  pub same : laid i (drop i (take n m)) out ≡ laid 0 (take n m) out₀
+pub copied : (m : List ℕ) (n : ℕ) (out part : List ℕ) → n ≤ length m → part ≡ take n m → part ++ drop n out ≡ laid 0 (take n m) out
+copied m n out part h e = rw e (ap (λ (k : ℕ). take n m ++ drop k out) (sym (length-take-le n m h)) ∙ sym (laid_start (take n m) out))
 
-pub lay_turn : (m : List ℕ) (n : ℕ) (out₀ out : List ℕ) (i : ℕ) → Laying m n out₀ out i → i < n → Laying m n out₀ (set out i (get_or m i 0)) (i + 1)
-lay_turn m n out₀ out i G h = record {
-  within = omega arith;
-  have = G.have;
-  room = G.room;
-  len = length-set out i (get_or m i 0) ∙ G.len;
-  same = sym (laid_cons i (get_or m i 0) (drop (i + 1) (take n m)) out (omega (arith, G.room, G.len))) ∙ sym (ap (λ (l : List ℕ). laid i l out) (next_word m n i G.have h)) ∙ G.same;
-}
-
-pub copy_done : (m : List ℕ) (n : ℕ) (out₀ out : List ℕ) (i : ℕ) → Laying m n out₀ out i → n ≤ i → out ≡ laid 0 (take n m) out₀
-copy_done m n out₀ out i G h = sym (sym G.same ∙ ap (λ (s : List ℕ). laid i s out) (no_more m n i G.have h) ∙ laid_nil i out)
-
-pub lay_done : (m : List ℕ) (n : ℕ) (out₀ out : List ℕ) → n ≤ length m → n ≤ length out₀ → out ≡ laid 0 (take n m) out₀ → (Laid.Done n ≡ room_for (take n m) out₀) × (out ≡ laid_over (take n m) out₀)
+pub lay_done : (m : List ℕ) (n : ℕ) (out₀ out : List ℕ) → n ≤ length m → n ≤ length out₀ → out ≡ laid 0 (take n m) out₀ → (Some n ≡ room_for (take n m) out₀) × (out ≡ laid_over (take n m) out₀)
 lay_done m n out₀ out h g e =
     let l : length (take n m) ≡ n = length-take-le n m h in
     let r = room_yes (take n m) out₀ (omega arith) in
-    (sym (r.0 ∙ ap Laid.Done l), e ∙ sym r.1)
+    (sym (r.0 ∙ ap Some l), e ∙ sym r.1)
 
-pub lay_none : (m : List ℕ) (n : ℕ) (out : List ℕ) → n ≤ length m → length out < n → (Laid.NoRoom ≡ room_for (take n m) out) × (out ≡ laid_over (take n m) out)
+pub lay_none : (m : List ℕ) (n : ℕ) (out : List ℕ) → n ≤ length m → length out < n → (None ≡ room_for (take n m) out) × (out ≡ laid_over (take n m) out)
 lay_none m n out h g =
     let r = room_no (take n m) out (omega (arith, length-take-le n m h)) in
     (sym r.0, sym r.1)
 
--- ---- words moved down: what is left of them, laid over the slice as it is now, makes the slice that is wanted
+-- ---- words moved down
 
-pub record Shifting (m₀ : List ℕ) (to from end : ℕ) (m : List ℕ) (at i : ℕ) : Type 0 where
-  pub behind : at ≤ i
-  pub within : i ≤ end
-  pub place : at + (end - i) ≡ to + (end - from)
-  pub room : end ≤ length m₀
-  pub len : length m ≡ length m₀
-  pub same : laid at (drop i (take end m)) m ≡ laid to (drop from (take end m₀)) m₀
-
-pub shift_turn : (m₀ : List ℕ) (to from end : ℕ) (m : List ℕ) (at i : ℕ) → Shifting m₀ to from end m at i → i < end → Shifting m₀ to from end (set m at (get_or m i 0)) (at + 1) (i + 1)
-shift_turn m₀ to from end m at i G h =
-    let x = get_or m i 0 in
-    let r : end ≤ length m = omega (arith, G.room, G.len) in
-    record {
-      behind = omega (arith, G.behind);
-      within = omega arith;
-      place = omega (arith, G.place);
-      room = G.room;
-      len = length-set m at x ∙ G.len;
-      same = ap (λ (l : List ℕ). laid (at + 1) l (set m at x)) (drop_take_same end (i + 1) (set m at x) m (drop-set-lt (i + 1) m at x (omega (arith, G.behind))))
-          ∙ sym (laid_cons at x (drop (i + 1) (take end m)) m (omega (arith, G.behind)))
-          ∙ sym (ap (λ (l : List ℕ). laid at l m) (next_word m end i r h)) ∙ G.same;
-    }
-
-pub shift_done : (m₀ : List ℕ) (to from end : ℕ) (m : List ℕ) (at i : ℕ) → Shifting m₀ to from end m at i → end ≤ i → (at ≡ to + (end - from)) × (m ≡ laid to (drop from (take end m₀)) m₀)
-shift_done m₀ to from end m at i G h = (
-  omega (arith, G.place),
-  sym (laid_nil at m) ∙ sym (ap (λ (l : List ℕ). laid at l m) (no_more m end i (omega (arith, G.room, G.len)) h)) ∙ G.same,
-)
+pub shifted : (m : List ℕ) (to from end : ℕ) → from ≤ end → end ≤ length m → copy_within m from end to ≡ laid to (drop from (take end m)) m
+unfolding laid
+shifted m to from end h r =
+    let n = end - from in
+    let e : from + n ≡ end = omega arith in
+    let l : length (drop from (take end m)) ≡ n = simp (length-drop, length-take-le end m r) in
+    let t : take n (drop from m) ≡ drop from (take end m) = sym (drop-take from n m) ∙ ap (λ (k : ℕ). drop from (take k m)) e in
+    append_assoc (take to m) (take n (drop from m)) (drop (to + n) m) ∙ ap (λ (w : List ℕ). take to m ++ (w ++ drop (to + n) m)) t ∙ ap (λ (k : ℕ). take to m ++ (drop from (take end m) ++ drop (to + k) m)) (sym l)
 
 -- ---- zeros
 
@@ -175,31 +147,12 @@ zeros_drop zero n = let e : n ≡ n - 0 = omega arith in ap zeros e
 zeros_drop (suc k) zero = let e : 0 ≡ 0 - suc k = omega arith in ap zeros e
 zeros_drop (suc k) (suc n) = let e : suc n - suc k ≡ n - k = omega arith in rw e (zeros_drop k n)
 
-zeros_pop : (n : ℕ) → 0 < n → zeros n ≡ 0 ∷ zeros (n - 1)
-unfolding zeros
-zeros_pop zero h = absurd (omega arith)
-zeros_pop (suc n) h = let e : suc n - 1 ≡ n = omega arith in rw e
-
-pub record Clearing (m₀ : List ℕ) (from to : ℕ) (m : List ℕ) (i : ℕ) : Type 0 where
-  pub within : i ≤ to
-  pub room : to ≤ length m₀
-  pub len : length m ≡ length m₀
-  pub same : laid i (zeros (to - i)) m ≡ laid from (zeros (to - from)) m₀
-
-pub clear_turn : (m₀ : List ℕ) (from to : ℕ) (m : List ℕ) (i : ℕ) → Clearing m₀ from to m i → i < to → Clearing m₀ from to (set m i 0) (i + 1)
-clear_turn m₀ from to m i G h =
-    let e : to - i - 1 ≡ to - (i + 1) = omega arith in
-    record {
-      within = omega arith;
-      room = G.room;
-      len = length-set m i 0 ∙ G.len;
-      same = ap (λ (k : ℕ). laid (i + 1) (zeros k) (set m i 0)) (sym e)
-          ∙ sym (laid_cons i 0 (zeros (to - i - 1)) m (omega (arith, G.room, G.len)))
-          ∙ sym (ap (λ (l : List ℕ). laid i l m) (zeros_pop (to - i) (omega arith))) ∙ G.same;
-    }
-
-pub clear_done : (m₀ : List ℕ) (from to : ℕ) (m : List ℕ) (i : ℕ) → Clearing m₀ from to m i → to ≤ i → m ≡ laid from (zeros (to - from)) m₀
-unfolding zeros
-clear_done m₀ from to m i G h =
-    let e : to - i ≡ 0 = omega arith in
-    sym (laid_nil i m) ∙ ap (λ (k : ℕ). laid i (zeros k) m) (sym e) ∙ G.same
+pub cleared : (m : List ℕ) (from to : ℕ) (part : List ℕ) → from ≤ to → to ≤ length m → part ≡ replicate (length (take (to - from) (drop from m))) 0
+    → put_mid from (to - from) m part ≡ laid from (zeros (to - from)) m
+unfolding laid
+cleared m from to part h r e =
+    let n = to - from in
+    let l : length (take n (drop from m)) ≡ n = length-take-le n (drop from m) (omega (arith, length-drop from m)) in
+    let z : part ≡ zeros n = e ∙ ap (λ (k : ℕ). replicate k 0) l ∙ zeros_replicate n in
+    put_mid-paste from n m part (zeros n) n z refl (sym (length_zeros n)) ∙ paste_all m from (zeros n) n (sym (length_zeros n))
+    ∙ ap (λ (k : ℕ). take from m ++ (zeros n ++ drop (from + k) m)) (sym (length_zeros n))

@@ -260,15 +260,13 @@ pub record SortDone (n : ℕ) (m s : List ℕ) : Type 0 where
   pub front : take n s ≡ sort ltb (take n m)
   pub back : drop n s ≡ drop n m
 
-pub sort_done : (n : ℕ) (m p : List ℕ) → n ≤ length m → p ≡ sort ltb (take (n - 0) m) → SortDone n m (p ++ drop (n - 0) m)
+pub sort_done : (n : ℕ) (m p : List ℕ) → n ≤ length m → p ≡ sort ltb (take n m) → SortDone n m (p ++ drop n m)
 sort_done n m p h e =
-    let z : n - 0 ≡ n = omega arith in
-    let f : p ≡ sort ltb (take n m) = e ∙ ap (λ (k : ℕ). sort ltb (take k m)) z in
-    let l : length p ≡ n = ap length f ∙ length_sort ltb (take n m) ∙ length-take-le n m h in
+    let l : length p ≡ n = ap length e ∙ length_sort ltb (take n m) ∙ length-take-le n m h in
     record {
-      room = omega (arith, length-append p (drop (n - 0) m));
-      front = take_at p (drop (n - 0) m) n l ∙ f;
-      back = drop_at p (drop (n - 0) m) n l ∙ ap (λ (k : ℕ). drop k m) z;
+      room = omega (arith, length-append p (drop n m));
+      front = take_at p (drop n m) n l ∙ e;
+      back = drop_at p (drop n m) n l;
     }
 
 pub pass_asks : (n : ℕ) (m s : List ℕ) → All Cell (take n m) → SortDone n m s → PassAsks n s 0 0

@@ -22,7 +22,7 @@ use Rattle.cellunion.proofs.Unique.{all_at, at_all, Covered, normal_unique, memb
 use Rattle.cellunion.proofs.Stack.{up_kid, next_is}
 use Rattle.cellunion.proofs.Norm.{pass_laws, member_rev→, member_rev←, all_rev, apart_rev, stack_normal, same_covered}
 use Rattle.cellunion.proofs.Lists.{apart_from}
-use Rattle.cellunion.proofs.Memory.{next_word, no_more, drop_more, drop_take_same}
+use Rattle.cellunion.proofs.Memory.{laid_nil, next_word, no_more, drop_more, drop_take_same}
 use Rattle.cellunion.proofs.Runs.{Passing, pass_turn, rev_top, top_pop}
 
 -- ---- the rest of a normal list
@@ -215,3 +215,9 @@ settle_done n m₀ k₀ i₀ m k i m' r G R er em =
           ap (λ (x : ℕ). drop x m') (sym z) ∙ sym (drop-drop (n - r) r m') ∙ ap (drop (n - r)) (ap (drop r) a ∙ drop_at (take k m ++ w) (drop (k + length w) m) r f ∙ ap (λ (x : ℕ). drop x m) j)
           ∙ drop-drop (n - r) r m ∙ ap (λ (x : ℕ). drop x m) z ∙ G.passing.rest;
     }
+
+-- all were near: nothing is left to be moved
+pub settle_through : (n : ℕ) (m₀ : List ℕ) (k₀ i₀ : ℕ) (m : List ℕ) (k i : ℕ) → Settling n m₀ k₀ i₀ m k i → n ≤ i → PassDone n m₀ k₀ i₀ m k
+settle_through n m₀ k₀ i₀ m k i G h =
+    let r = G.passing.asks.room in
+    settle_done n m₀ k₀ i₀ m k i m k G (rests_end n m k i r h) (omega arith) (sym (ap (λ (l : List ℕ). laid k l m) (no_more m n i r h) ∙ laid_nil k m))

@@ -1,6 +1,5 @@
 -- What the functions leave in lent memory and in an output.
-use Rattle.std.specs.Prelude.{true, false, List, [], ◌∷◌, ◌++◌, ℕ, zero, suc, ◌+◌, ◌-◌, length, take, drop, leb}
-use Rattle.cellunion.specs.declared.Laid.{Laid}
+use Rattle.std.specs.Prelude.{true, false, Option, Some, None, List, [], ◌∷◌, ◌++◌, ℕ, zero, suc, ◌+◌, ◌-◌, length, take, drop, leb}
 use Rattle.cellunion.specs.CellUnion.{normalise}
 
 unfoldable pub zeros : ℕ → List ℕ
@@ -16,8 +15,8 @@ unfoldable pub laid : ℕ → List ℕ → List ℕ → List ℕ
 laid at l d = take at d ++ (l ++ drop (at + length l) d)
 
 -- l over the first places of the output d, if it has as many: the answer, and the output afterwards
-unfoldable pub room_for : List ℕ → List ℕ → Laid
-room_for l d = elim (leb (length l) (length d)) [ true ↦ Laid.Done (length l) | false ↦ Laid.NoRoom ]
+unfoldable pub room_for : List ℕ → List ℕ → Option ℕ
+room_for l d = elim (leb (length l) (length d)) [ true ↦ Some (length l) | false ↦ None ]
 
 unfoldable pub laid_over : List ℕ → List ℕ → List ℕ
 laid_over l d = elim (leb (length l) (length d)) [ true ↦ laid 0 l d | false ↦ d ]

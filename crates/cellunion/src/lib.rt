@@ -1,44 +1,30 @@
 // Lists of cells in lent memory: what a list may be, normalising in place, one cell widened, and lists laid over an output.
 #![tactic(auto)]
 
-ghost use Rattle.std.specs.Prelude.{◌≡◌, true, ◌+◌, ◌-◌, ◌*◌, ◌^◌, ◌≤◌, ◌<◌, min, length, get_or, take, drop, set};
+ghost use Rattle.std.specs.Prelude.{◌≡◌, true, ◌+◌, ◌-◌, ◌*◌, ◌^◌, ◌≤◌, ◌<◌, length, get_or, take, drop, set};
 ghost use Rattle.cellid.specs.CellId.{Cell, low_bit, holds};
 ghost use Rattle.order.specs.Order.{All};
 ghost use Rattle.cellunion.specs.CellUnion.{Normal, normalise, listed, is_list, up_one, is_four, clear_of, collapse, keep_cell};
 ghost use Rattle.cellunion.specs.Memory.{zeros, normalised, laid, room_for, laid_over};
 ghost use Rattle.cellunion.specs.Stack.{top_first, Topped, Next, Gives, PassAsks, PassDone, near_top};
 
-// The answer of a function that lays a list over an output: how many words it laid, or that they do not fit and nothing was written.
-#[derive(Clone, Copy)]
-pub enum Laid {
-    Done(usize),
-    NoRoom,
-}
-
 // Whether an id may come next in a list, `last` the last leaf before it.
 fn listed(last: u64, id: u64) -> bool
     ensures { result ≡ listed last id }
 {
-    if cellid::is_valid(id) {
-        last < cellid::range_min(id)
-    } else {
-        false
-    }
+    cellid::is_valid(id) && last < cellid::range_min(id)
 }
 
 // Whether a list is valid, ascending and free of overlap.
 pub fn is_valid(ids: &[u64]) -> bool
     ensures { result ≡ is_list ids.now }
 {
-    let mut last: u64 = 0;
-    let mut i: usize = 0;
-    while i < ids.len() {
-        let id = ids[i];
+    let mut last = 0;
+    for &id in ids {
         if !listed(last, id) {
             return false;
         }
         last = cellid::range_max(id);
-        i += 1;
     }
     true
 }
@@ -62,16 +48,7 @@ fn are_siblings(x: u64, y: u64, z: u64, c: u64) -> bool
     }
     let mask = sibling_mask(c);
     let should = c & mask;
-    if x & mask != should {
-        return false;
-    }
-    if y & mask != should {
-        return false;
-    }
-    if z & mask != should {
-        return false;
-    }
-    0 < cellid::level(c)
+    x & mask == should && y & mask == should && z & mask == should && 0 < cellid::level(c)
 }
 
 // How many of the first k are left without those inside c.
@@ -80,10 +57,7 @@ fn clear_of(mem: &[u64], k: usize, c: u64) -> usize
     ensures { (result ≤ k) × (top_first result mem.now ≡ clear_of c (top_first k mem.now)) }
 {
     let mut left = k;
-    while 0 < left {
-        if !cellid::contains(c, mem[left - 1]) {
-            break;
-        }
+    while 0 < left && cellid::contains(c, mem[left - 1]) {
         left -= 1;
     }
     left
@@ -96,10 +70,7 @@ fn collapse(mem: &mut [u64], k: usize, c: u64) -> usize
 {
     let mut left = k;
     let mut top = c;
-    while 3 <= left {
-        if !are_siblings(mem[left - 3], mem[left - 2], mem[left - 1], top) {
-            break;
-        }
+    while 3 <= left && are_siblings(mem[left - 3], mem[left - 2], mem[left - 1], top) {
         left -= 3;
         top = cellid::immediate_parent(top);
     }
@@ -112,10 +83,8 @@ fn keep(mem: &mut [u64], k: usize, c: u64) -> usize
     requires { (k < length mem.old) × Next (top_first k mem.old) c }
     ensures { Gives (keep_cell (top_first k mem.old) c) k mem.old mem.new result }
 {
-    if 0 < k {
-        if cellid::contains(mem[k - 1], c) {
-            return k;
-        }
+    if 0 < k && cellid::contains(mem[k - 1], c) {
+        return k;
     }
     let left = clear_of(mem, k, c);
     collapse(mem, left, c)
@@ -126,21 +95,13 @@ fn pass(mem: &mut [u64], n: usize) -> usize
     requires { PassAsks n mem.old 0 0 }
     ensures { PassDone n mem.old 0 0 mem.new result }
 {
-    let mut kept: usize = 0;
-    let mut i: usize = 0;
-    while i < n {
+    let mut kept = 0;
+    // An index: the words are moved within the slice.
+    for i in 0..n {
         let c = mem[i];
         kept = keep(mem, kept, c);
-        i += 1;
     }
     kept
-}
-
-// The lesser of two lengths.
-pub fn lesser(a: usize, b: usize) -> usize
-    ensures { result ≡ min a b }
-{
-    if a < b { a } else { b }
 }
 
 // Zeros the words from `from` to before `to`.
@@ -148,11 +109,7 @@ pub fn clear(mem: &mut [u64], from: usize, to: usize)
     requires { (from ≤ to) × (to ≤ length mem.old) }
     ensures { mem.new ≡ laid from (zeros (to - from)) mem.old }
 {
-    let mut i = from;
-    while i < to {
-        mem[i] = 0;
-        i += 1;
-    }
+    mem[from..to].fill(0);
 }
 
 // Normalises the first n words in place: sorts them, then one pass; the words that the normal list leaves over become zero.
@@ -161,7 +118,7 @@ pub fn normalize(mem: &mut [u64], n: usize) -> usize
     requires { (n ≤ length mem.old) × All Cell (take n mem.old) }
     ensures { (result ≡ length (normalise (take n mem.old))) × (mem.new ≡ normalised n mem.old) }
 {
-    order::sort(&mut mem[0..n]);
+    order::sort(&mut mem[..n]);
     let kept = pass(mem, n);
     clear(mem, kept, n);
     kept
@@ -184,11 +141,7 @@ fn near(mem: &[u64], k: usize, id: u64) -> bool
     requires { (k ≤ length mem.now) × All Cell (top_first k mem.now) × (0 < id) }
     ensures { result ≡ near_top (top_first k mem.now) id }
 {
-    if 0 < k {
-        cellid::range_min(id) <= cellid::range_max(above(mem[k - 1]))
-    } else {
-        true
-    }
+    k == 0 || cellid::range_min(id) <= cellid::range_max(above(mem[k - 1]))
 }
 
 // Moves the words from `from` to before `end` down to the place `to`; gives the place after them.
@@ -196,14 +149,8 @@ fn shift(mem: &mut [u64], to: usize, from: usize, end: usize) -> usize
     requires { (to ≤ from) × (from ≤ end) × (end ≤ length mem.old) }
     ensures { (result ≡ to + (end - from)) × (mem.new ≡ laid to (drop from (take end mem.old)) mem.old) }
 {
-    let mut at = to;
-    let mut i = from;
-    while i < end {
-        mem[at] = mem[i];
-        at += 1;
-        i += 1;
-    }
-    at
+    mem.copy_within(from..end, to);
+    to + (end - from)
 }
 
 // The pass over the words from `from` to before n, a normal list, on top of the first k: as soon as one lies behind the parent of the last kept, it and
@@ -213,16 +160,15 @@ fn settle(mem: &mut [u64], k: usize, from: usize, n: usize) -> usize
     ensures { PassDone n mem.old k from mem.new result }
 {
     let mut kept = k;
-    let mut i = from;
-    while i < n {
+    // An index: the words are moved within the slice.
+    for i in from..n {
         let id = mem[i];
         if !near(mem, kept, id) {
-            break;
+            return shift(mem, kept, i, n);
         }
         kept = keep(mem, kept, id);
-        i += 1;
     }
-    shift(mem, kept, i, n)
+    kept
 }
 
 // Puts c, a cell around the one at the place `at`, in its place in the first k words, a normal list, and normalises them again: what `normalize` would
@@ -243,21 +189,17 @@ pub fn copy(ids: &[u64], n: usize, out: &mut [u64])
     requires { (n ≤ length ids.now) × (n ≤ length out.old) }
     ensures { out.new ≡ laid 0 (take n ids.now) out.old }
 {
-    let mut i: usize = 0;
-    while i < n {
-        out[i] = ids[i];
-        i += 1;
-    }
+    out[..n].copy_from_slice(&ids[..n]);
 }
 
 // Lays the first n words of mem over the output's first places, as they are.
-pub fn lay(mem: &[u64], n: usize, out: &mut [u64]) -> Laid
+pub fn lay(mem: &[u64], n: usize, out: &mut [u64]) -> Option<usize>
     requires { n ≤ length mem.now }
     ensures { (result ≡ room_for (take n mem.now) out.old) × (out.new ≡ laid_over (take n mem.now) out.old) }
 {
     if out.len() < n {
-        return Laid::NoRoom;
+        return None;
     }
     copy(mem, n, out);
-    Laid::Done(n)
+    Some(n)
 }

@@ -11,11 +11,11 @@ contains-requires c = c.requires.1
 
 pub loop-left-preserved : goal.loop-left-preserved
 loop-left-preserved c =
-    (omega arith, sym (clear_go _ _ _ _ c.loop-left-test.true c.contains.ensures c.if-not-contains.false) ∙ c.loop-left.invariant.1)
+    (omega arith, sym (clear_go _ _ _ _ c.loop-left-test.true c.contains.ensures c.if-contains.true) ∙ c.loop-left.invariant.1)
 
 pub returns-after-loop-left : goal.returns-after-loop-left
 returns-after-loop-left c = (c.loop-left.invariant.0, sym (clear_end _ _ _ c.loop-left-test.false) ∙ c.loop-left.invariant.1)
 
-pub returns-then-not-contains : goal.returns-then-not-contains
-returns-then-not-contains c =
-    (c.loop-left.invariant.0, sym (clear_stop _ _ _ _ c.loop-left-test.true c.contains.ensures c.if-not-contains.true) ∙ c.loop-left.invariant.1)
+pub returns-else-contains : goal.returns-else-contains
+returns-else-contains c =
+    (c.loop-left.invariant.0, sym (clear_stop _ _ _ _ c.loop-left-test.true c.contains.ensures c.if-contains.false) ∙ c.loop-left.invariant.1)
