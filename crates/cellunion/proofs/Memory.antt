@@ -87,6 +87,11 @@ pub laid_start : (l d : List ℕ) → laid 0 l d ≡ l ++ drop (length l) d
 unfolding laid
 laid_start l d = let e : 0 + length l ≡ length l = omega arith in ap (λ (n : ℕ). l ++ drop n d) e
 
+-- a part that is lent is laid back
+pub put_laid : (m : List ℕ) (at n : ℕ) (part l : List ℕ) → part ≡ l → length l ≡ n → put_mid at n m part ≡ laid at l m
+unfolding laid
+put_laid m at n part l e h = put_mid-paste at n m part l n e refl (sym h) ∙ paste_all m at l n (sym h) ∙ ap (λ (k : ℕ). take at m ++ (l ++ drop (at + k) m)) (sym h)
+
 -- ---- there is room, or there is not
 
 pub room_yes : (l d : List ℕ) → length l ≤ length d → (room_for l d ≡ Some (length l)) × (laid_over l d ≡ laid 0 l d)
@@ -102,16 +107,11 @@ room_no l d h = let e = lt-leb (length l) (length d) h in (rw (room_for, e), rw 
 pub copied : (m : List ℕ) (n : ℕ) (out part : List ℕ) → n ≤ length m → part ≡ take n m → part ++ drop n out ≡ laid 0 (take n m) out
 copied m n out part h e = rw e (ap (λ (k : ℕ). take n m ++ drop k out) (sym (length-take-le n m h)) ∙ sym (laid_start (take n m) out))
 
-pub lay_done : (m : List ℕ) (n : ℕ) (out₀ out : List ℕ) → n ≤ length m → n ≤ length out₀ → out ≡ laid 0 (take n m) out₀ → (Some n ≡ room_for (take n m) out₀) × (out ≡ laid_over (take n m) out₀)
-lay_done m n out₀ out h g e =
-    let l : length (take n m) ≡ n = length-take-le n m h in
-    let r = room_yes (take n m) out₀ (omega arith) in
-    (sym (r.0 ∙ ap Some l), e ∙ sym r.1)
+pub lay_done : (l out part : List ℕ) → length l ≤ length out → part ≡ l → (Some (length l) ≡ room_for l out) × (part ++ drop (length l) out ≡ laid_over l out)
+lay_done l out part h e = let r = room_yes l out h in (sym r.0, ap (λ (s : List ℕ). s ++ drop (length l) out) e ∙ sym (r.1 ∙ laid_start l out))
 
-pub lay_none : (m : List ℕ) (n : ℕ) (out : List ℕ) → n ≤ length m → length out < n → (None ≡ room_for (take n m) out) × (out ≡ laid_over (take n m) out)
-lay_none m n out h g =
-    let r = room_no (take n m) out (omega (arith, length-take-le n m h)) in
-    (sym r.0, sym r.1)
+pub lay_none : (l out : List ℕ) → length out < length l → (None ≡ room_for l out) × (out ≡ laid_over l out)
+lay_none l out h = let r = room_no l out h in (sym r.0, sym r.1)
 
 -- ---- words moved down
 
@@ -149,10 +149,7 @@ zeros_drop (suc k) (suc n) = let e : suc n - suc k ≡ n - k = omega arith in rw
 
 pub cleared : (m : List ℕ) (from to : ℕ) (part : List ℕ) → from ≤ to → to ≤ length m → part ≡ replicate (length (take (to - from) (drop from m))) 0
     → put_mid from (to - from) m part ≡ laid from (zeros (to - from)) m
-unfolding laid
 cleared m from to part h r e =
     let n = to - from in
     let l : length (take n (drop from m)) ≡ n = length-take-le n (drop from m) (omega (arith, length-drop from m)) in
-    let z : part ≡ zeros n = e ∙ ap (λ (k : ℕ). replicate k 0) l ∙ zeros_replicate n in
-    put_mid-paste from n m part (zeros n) n z refl (sym (length_zeros n)) ∙ paste_all m from (zeros n) n (sym (length_zeros n))
-    ∙ ap (λ (k : ℕ). take from m ++ (zeros n ++ drop (from + k) m)) (sym (length_zeros n))
+    put_laid m from n part (zeros n) (e ∙ ap (λ (k : ℕ). replicate k 0) l ∙ zeros_replicate n) (length_zeros n)

@@ -192,14 +192,14 @@ pub fn copy(ids: &[u64], n: usize, out: &mut [u64])
     out[..n].copy_from_slice(&ids[..n]);
 }
 
-// Lays the first n words of mem over the output's first places, as they are.
-pub fn lay(mem: &[u64], n: usize, out: &mut [u64]) -> Option<usize>
-    requires { n ≤ length mem.now }
-    ensures { (result ≡ room_for (take n mem.now) out.old) × (out.new ≡ laid_over (take n mem.now) out.old) }
+// Lays a list over the output's first places, as it is; gives its length, or nothing where it has no room and nothing was written.
+pub fn lay(list: &[u64], out: &mut [u64]) -> Option<usize>
+    ensures { (result ≡ room_for list.now out.old) × (out.new ≡ laid_over list.now out.old) }
 {
+    let n = list.len();
     if out.len() < n {
         return None;
     }
-    copy(mem, n, out);
+    out[..n].copy_from_slice(list);
     Some(n)
 }

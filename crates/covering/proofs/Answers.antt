@@ -11,7 +11,7 @@ use lib.Seq.{take_all, take_at, drop_at, drop-drop, drop-append-add, length-take
 use Rattle.cellid.specs.CellId.{Cell}
 use Rattle.order.specs.Order.{All}
 use Rattle.region.specs.Region.{Area}
-use Rattle.cellunion.specs.declared.Laid.{Laid}
+use Rattle.std.specs.Prelude.{Option, Some, None}
 use Rattle.cellunion.specs.CellUnion.{normalise}
 use Rattle.denorm.specs.Denorm.{denormalise}
 use Rattle.cellunion.specs.Memory.{zeros, laid, normalised, room_for, laid_over}
@@ -63,7 +63,7 @@ pub answered_laid : (l m o : List ℕ) (steps : ℕ) (aside : Totals) → Answer
 unfolding fitted answer_laid room_for laid_over answer_of memory_after output_after
 answered_laid l m o steps aside = by (leb (length l) (length o))
   where
-    by : (b : Bool) → Answered (elim b [ true ↦ done l steps aside | false ↦ refused 10 ]) (answer_laid (elim b [ true ↦ Laid.Done (length l) | false ↦ Laid.NoRoom ]) steps aside) m (cleared 0 memory_words m) o (elim b [ true ↦ laid 0 l o | false ↦ o ])
+    by : (b : Bool) → Answered (elim b [ true ↦ done l steps aside | false ↦ refused 10 ]) (answer_laid (elim b [ true ↦ Some (length l) | false ↦ None ]) steps aside) m (cleared 0 memory_words m) o (elim b [ true ↦ laid 0 l o | false ↦ o ])
     by true = record { answer = refl; memory = refl; output = laid_start l o }
     by false = record { answer = refl; memory = refl; output = refl }
 
@@ -86,10 +86,10 @@ module _ (n : ℕ) (m : List ℕ) (k : ℕ) (m' : List ℕ) (K : (k ≡ length (
   pub front_asks : n ≤ length m → All Cell (take n m) → length m' ≡ length m → (k ≤ length m') × All Cell (take k m')
   front_asks h C l = (omega (arith, K.0, length_normal n m h C), rw front (normalise_normal (take n m) C).cells)
 
-unfoldable pub LayDone : Ending → RegionCoverer → ℕ → List ℕ → List ℕ → Laid → List ℕ → List ℕ → Type 0
+unfoldable pub LayDone : Ending → RegionCoverer → ℕ → List ℕ → List ℕ → Option ℕ → List ℕ → List ℕ → Type 0
 LayDone e c n m o r o' m' = (r ≡ room_for (list_of e c (take n m)) o) × (o' ≡ laid_over (list_of e c (take n m)) o) × (m' ≡ left_by e n m)
 
-module _ (e : Ending) (c : RegionCoverer) (n : ℕ) (m o : List ℕ) (r : Laid) (o' : List ℕ) where
+module _ (e : Ending) (c : RegionCoverer) (n : ℕ) (m o : List ℕ) (r : Option ℕ) (o' : List ℕ) where
   pub lay_raw : e ≡ Ending.Raw → (r ≡ room_for (take n m) o) × (o' ≡ laid_over (take n m) o) → LayDone e c n m o r o' m
   unfolding LayDone list_of left_by
   lay_raw E h = rw E (h.0, h.1, refl)
@@ -170,13 +170,13 @@ module _ (e : Ending) (c : RegionCoverer) (n : ℕ) (m : List ℕ) (P : (memory_
   pub lay_asks : (n ≤ length ids) × All Cell (take n ids) × (c.min_level ≤ 30) × (0 < c.level_mod)
   lay_asks = (omega (arith, P.0, P.1, ap length (part queue_words (length m - queue_words) m refl), length-drop queue_words m), subst (All Cell) (sym words) P.2, P.3, P.4)
 
-  pub finish_gives : m ≡ only_words queue_words memory_words (words_at queue_words n m) m → (steps : ℕ) (aside : Totals) (o : List ℕ) (w : Laid) (r : Answer) (l m₂ o₂ : List ℕ)
+  pub finish_gives : m ≡ only_words queue_words memory_words (words_at queue_words n m) m → (steps : ℕ) (aside : Totals) (o : List ℕ) (w : Option ℕ) (r : Answer) (l m₂ o₂ : List ℕ)
       → (w ≡ room_for (list_of e c (take n ids)) o) × (o₂ ≡ laid_over (list_of e c (take n ids)) o) × (l ≡ left_by e n ids) → r ≡ answer_laid w steps aside
       → m₂ ≡ laid queue_words (zeros ((queue_words + n) - queue_words)) (take queue_words m ++ (l ++ drop (length m - queue_words) (drop queue_words m))) → Answered (fitted (length o) (list_of e c (words_at queue_words n m)) steps aside) r m m₂ o o₂
   finish_gives H steps aside o w r l m₂ o₂ L R M =
       let j = (queue_words + n) - queue_words in
       answered_as refl (answered_laid (list_of e c (words_at queue_words n m)) m o steps aside)
-      (R ∙ ap (λ (v : Laid). answer_laid v steps aside) (L.0 ∙ ap (λ (x : List ℕ). room_for (list_of e c x) o) words))
+      (R ∙ ap (λ (v : Option ℕ). answer_laid v steps aside) (L.0 ∙ ap (λ (x : List ℕ). room_for (list_of e c x) o) words))
       (M ∙ wiped queue_words memory_words n m _ (omega (arith, P.1)) P.0 H
       (take_at (take queue_words m) _ queue_words (length-take-le queue_words m (omega (arith, P.0))))
       (put_past queue_words (length m - queue_words) m refl (queue_words + n) l (omega arith) (omega (arith, P.0, P.1)) (ap (drop j) L.2 ∙ left_past e n j ids (omega arith) lay_asks.0 lay_asks.1)))

@@ -1,6 +1,6 @@
 -- The public answers (paper 01, "Request numbers"): what each request comes to, and what stands in the working memory and in the output afterwards.
 -- Quoted lines are the paper's words.
-use Rattle.std.specs.Prelude.{◌≡◌, Bool, true, false, List, ◌++◌, ℕ, leb, length, drop}
+use Rattle.std.specs.Prelude.{◌≡◌, Bool, true, false, Option, Some, None, List, ◌++◌, ℕ, leb, length, drop}
 use Rattle.region.specs.Region.{Area, bound_of}
 use Rattle.cellunion.specs.CellUnion.{normalise}
 use Rattle.denorm.specs.Denorm.{denormalise}
@@ -14,7 +14,6 @@ use Rattle.run.specs.Sixes.{aside_six}
 use Rattle.run.specs.Run as Run
 use Rattle.coverer.specs.Coverer.{outcome_of, cleared}
 use Rattle.cellunion.specs.Memory.{normalised}
-use Rattle.cellunion.specs.declared.Laid.{Laid}
 use Rattle.covering.specs.declared.Answer.{Answer}
 use Rattle.bars.specs.declared.Bar.{Bar}
 use Rattle.bars.specs.Bars.{bar_of}
@@ -107,6 +106,6 @@ left_by Ending.CellUnion count ids = normalised count ids
 left_by Ending.Covering count ids = normalised count ids
 
 -- the answer to a list that was laid over the output, or had no room there
-unfoldable pub answer_laid : Laid → ℕ → Totals → Answer
-answer_laid (Laid.Done count) steps aside = record { number = 0; count = count; steps = steps; aside = aside }
-answer_laid Laid.NoRoom steps aside = refusal 10
+unfoldable pub answer_laid : Option ℕ → ℕ → Totals → Answer
+answer_laid (Some count) steps aside = record { number = 0; count = count; steps = steps; aside = aside }
+answer_laid None steps aside = refusal 10

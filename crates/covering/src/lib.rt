@@ -20,7 +20,6 @@ ghost use Rattle.coverer.specs.Coverer.{cleared, only_words, engine_answer, engi
 ghost use Rattle.coverer.specs.Engine.{words_at};
 
 use bars::Bar;
-use cellunion::Laid;
 use coverer::{Ran, Seen};
 use queue::Engine;
 use region::Region;
@@ -66,19 +65,19 @@ fn refuse(number: u64) -> Answer
 }
 
 // Lays the list that is asked for over the output's first places, made of the first `count` ids, in place.
-fn lay_list(e: Ending, c: RegionCoverer, ids: &mut [u64], count: usize, out: &mut [u64]) -> Laid
+fn lay_list(e: Ending, c: RegionCoverer, ids: &mut [u64], count: usize, out: &mut [u64]) -> Option<usize>
     requires { (count ≤ length ids.old) × All Cell (take count ids.old) × (c.min_level ≤ 30) × (0 < c.level_mod) }
     ensures { (result ≡ room_for (list_of e c (take count ids.old)) out.old) × (out.new ≡ laid_over (list_of e c (take count ids.old)) out.old) × (ids.new ≡ left_by e count ids.old) }
 {
     match e {
-        Ending::Raw => cellunion::lay(ids, count, out),
+        Ending::Raw => cellunion::lay(&ids[..count], out),
         Ending::CellUnion => {
             let k = cellunion::normalize(ids, count);
-            cellunion::lay(ids, k, out)
+            cellunion::lay(&ids[..k], out)
         }
         Ending::Covering => {
             let k = cellunion::normalize(ids, count);
-            denorm::denormalize(ids, k, c.min_level, c.level_mod, out)
+            denorm::denormalize(&ids[..k], c.min_level, c.level_mod, out)
         }
     }
 }
@@ -92,17 +91,17 @@ fn clear_front(mem: &mut [u64])
 }
 
 // The answer to a list that was laid, or had no room.
-fn laid_answer(laid: Laid, steps: u32, aside: Totals) -> Answer
+fn laid_answer(laid: Option<usize>, steps: u32, aside: Totals) -> Answer
     ensures { result ≡ answer_laid laid steps aside }
 {
     match laid {
-        Laid::Done(count) => Answer {
+        Some(count) => Answer {
             number: 0,
             count,
             steps,
             aside,
         },
-        Laid::NoRoom => refuse(10),
+        None => refuse(10),
     }
 }
 

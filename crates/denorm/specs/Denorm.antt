@@ -1,5 +1,5 @@
 -- Denormalising: the levels that cells go to, and the lists that they become. Quoted lines are paper 01's words, from "Lists".
-use Rattle.std.specs.Prelude.{◌≡◌, List, [], ◌∷◌, ◌++◌, ℕ, zero, suc, ◌+◌, ◌-◌, ◌*◌, ◌%◌, ◌^◌, ◌≤◌, ◌<◌, min, max, length, take}
+use Rattle.std.specs.Prelude.{◌≡◌, List, [], ◌∷◌, ◌++◌, ℕ, zero, suc, ◌+◌, ◌-◌, ◌*◌, ◌%◌, ◌^◌, ◌≤◌, ◌<◌, min, max}
 use Rattle.cellid.specs.CellId.{Cell, id_of, level_of, place_of}
 use Rattle.order.specs.Order.{All}
 
@@ -32,6 +32,6 @@ pub record OnStep (low top step L : ℕ) : Type 0 where
   pub to : L ≤ top
   pub on : (L - low) % step ≡ 0
 
--- what denormalising the first n words asks
-abbrev pub AsksList : ℕ → ℕ → ℕ → List ℕ → Type 0
-AsksList n low step m = (n ≤ length m) × All Cell (take n m) × (low ≤ 30) × (0 < step)
+-- what denormalising a list asks
+abbrev pub AsksList : ℕ → ℕ → List ℕ → Type 0
+AsksList low step l = All Cell l × (low ≤ 30) × (0 < step)

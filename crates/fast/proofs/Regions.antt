@@ -10,7 +10,7 @@ use Rattle.region.specs.Region.{Area, in_domain, bound_of}
 use Rattle.region.proofs.Laws.{bound_fits, bound_cells}
 use Rattle.cellid.specs.CellId.{Cell}
 use Rattle.order.specs.Order.{All}
-use Rattle.cellunion.specs.declared.Laid.{Laid}
+use Rattle.std.specs.Prelude.{Option}
 use Rattle.cellunion.specs.Memory.{zeros, laid, room_for, laid_over}
 use Rattle.cellunion.proofs.Memory.{laid_start, length_zeros, zeros_drop}
 use Rattle.run.specs.declared.RegionCoverer.{RegionCoverer}
@@ -50,7 +50,7 @@ module _ (c : RegionCoverer) (bound m m₁ : List ℕ) (n : ℕ) (B : Bounded bo
   bounded_cells C = (B.room, rw B.front C)
 
   -- what is made of the first words is made of the bound
-  pub fast_gives : (r : Laid) (out out' m₂ : List ℕ)
+  pub fast_gives : (r : Option ℕ) (out out' m₂ : List ℕ)
       → (r ≡ room_for (fast_covering_for c (take n m₁)) out) × (out' ≡ laid_over (fast_covering_for c (take n m₁)) out) × (m₂ ≡ in_place n (merged_covering_for c (take n m₁)) m₁)
       → ((r ≡ room_for (fast_covering_for c bound) out) × (out' ≡ laid_over (fast_covering_for c bound) out)) × (m₂ ≡ in_place (length bound) (merged_covering_for c bound) m)
   fast_gives r out out' m₂ h = (

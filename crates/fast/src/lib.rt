@@ -142,12 +142,12 @@ pub fn normalize_covering(
     mem: &mut [u64],
     n: usize,
     out: &mut [u64],
-) -> cellunion::Laid
+) -> Option<usize>
     requires { NumbersFit c × Cells n mem.old }
     ensures { (result ≡ room_for (fast_covering_for c (take n mem.old)) out.old) × (out.new ≡ laid_over (fast_covering_for c (take n mem.old)) out.old) × (mem.new ≡ in_place n (merged_covering_for c (take n mem.old)) mem.old) }
 {
     let k = merge_covering(c, mem, n);
-    denorm::denormalize(mem, k, c.min_level, c.level_mod, out)
+    denorm::denormalize(&mem[..k], c.min_level, c.level_mod, out)
 }
 
 // Fast covering of the region's bound, laid over the output's first places. It takes no steps. The bound stands in the memory's first words meanwhile; in its
@@ -157,7 +157,7 @@ pub fn fast_covering(
     g: region::Region<'_>,
     mem: &mut [u64],
     out: &mut [u64],
-) -> cellunion::Laid
+) -> Option<usize>
     requires { NumbersFit c × (in_domain (area_of g) ≡ true) × (memory_words ≤ length mem.old) }
     ensures value { (result ≡ room_for (fast_covering_for c (bound_of (area_of g.entry))) out.old) × (out.new ≡ laid_over (fast_covering_for c (bound_of (area_of g.entry))) out.old) }
     ensures mem_after { mem.new ≡ in_place (length (bound_of (area_of g.entry))) (merged_covering_for c (bound_of (area_of g.entry))) mem.old }

@@ -133,7 +133,7 @@ fn answer_in(kind: u64, lists: &[u64], first: usize, asked: u64, out: &mut [u64]
     requires { first ≤ length lists.now }
     ensures { AnsweredIn kind (take first lists.now) (drop first lists.now) asked result out.old out.new }
 {
-    let o = cellunion::lesser(asked as usize, out.len());
+    let o = (asked as usize).min(out.len());
     answer_for(kind, &lists[..first], &lists[first..], &mut out[..o])
 }
 

@@ -207,8 +207,8 @@ fn serve_and_tell(
 )
     requires { (n ≤ 256) × (17 * length out.old + 256 ≤ length page.old) }
 {
-    let m = cellunion::lesser(head.mem as usize, mem.len());
-    let o = cellunion::lesser(head.out as usize, out.len());
+    let m = (head.mem as usize).min(mem.len());
+    let o = (head.out as usize).min(out.len());
     let form = head.form;
     let served = serve_first(orders, n, &mut mem[..m], &mut out[..o]);
     tell_night(streams, served, n, form, &out[..o], page);

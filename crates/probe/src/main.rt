@@ -10,7 +10,6 @@ ghost use Rattle.input.specs.Feed.{Ready};
 
 use bars::Bar;
 use cell::{Cap, Cell};
-use cellunion::Laid;
 use hilbert::FaceIj;
 use input::{Feed, Found, Streams};
 use point::Point;
@@ -437,20 +436,20 @@ fn put_normal(ids: &mut [u64; 4096], n: usize, page: &mut Page) -> usize
 }
 
 // Lays the list over the output.
-fn lay(k: u64, c: RegionCoverer, ids: &mut [u64; 4096], n: usize, out: &mut [u64; 65536]) -> Laid
+fn lay(k: u64, c: RegionCoverer, ids: &mut [u64; 4096], n: usize, out: &mut [u64; 65536]) -> Option<usize>
     requires { NumbersFit c × Cells n ids.old }
 {
     match k {
-        19 => denorm::denormalize(ids, n, c.min_level, c.level_mod, out),
+        19 => denorm::denormalize(&ids[..n], c.min_level, c.level_mod, out),
         _ => fast::normalize_covering(c, ids, n, out),
     }
 }
 
 // Writes the list that stands in the output, if it has room there.
-fn put_laid(page: &mut Page, laid: Laid, out: &[u64; 65536]) -> usize {
+fn put_laid(page: &mut Page, laid: Option<usize>, out: &[u64; 65536]) -> usize {
     match laid {
-        Laid::Done(count) => put_list(page, out, count),
-        Laid::NoRoom => 0,
+        Some(count) => put_list(page, out, count),
+        None => 0,
     }
 }
 

@@ -52,8 +52,8 @@ fn answer_run(q: Asked, g: Region<'_>, mem: &mut [u64], out: &mut [u64]) -> Test
 fn answer_in(q: Asked, g: Region<'_>, mem: &mut [u64], out: &mut [u64]) -> Tested
     ensures { AnsweredIn (asked_with q (area_of g.entry)) result.answer mem.old mem.new out.old out.new × (result.agree ≡ true) }
 {
-    let m = cellunion::lesser(q.mem as usize, mem.len());
-    let o = cellunion::lesser(q.out as usize, out.len());
+    let m = (q.mem as usize).min(mem.len());
+    let o = (q.out as usize).min(out.len());
     answer_run(q, g, &mut mem[..m], &mut out[..o])
 }
 

@@ -57,7 +57,7 @@ fn hold(out: &mut [u64], count: usize, held: &mut [u64]) -> usize
     ensures { (result ≡ min count (length held.old)) × (held.new ≡ laid 0 (take result out.old) held.old) × (out.new ≡ laid 0 (zeros result) out.old) }
 {
     let n = count.min(held.len());
-    cellunion::lay(out, n, held);
+    cellunion::lay(&out[..n], held);
     cellunion::clear(out, 0, n);
     n
 }

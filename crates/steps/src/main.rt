@@ -254,7 +254,7 @@ fn answer_asked(
 ) -> bool {
     let kind = q.kind;
     let c = q.coverer;
-    let m = cellunion::lesser(q.mem as usize, mem.len());
+    let m = (q.mem as usize).min(mem.len());
     answer_kind(
         streams,
         kind,

@@ -2,10 +2,10 @@
 use Rattle.covering.specs.Covering.{answer_laid}
 use Rattle.covering.proofs.laid_answer.Goals as goal
 
-pub returns-in-Done : goal.returns-in-Done
+pub returns-in-Some : goal.returns-in-Some
 unfolding answer_laid
-returns-in-Done c = rw c.in-Done.is
+returns-in-Some c = rw c.in-Some.is
 
-pub returns-in-NoRoom : goal.returns-in-NoRoom
+pub returns-in-None : goal.returns-in-None
 unfolding answer_laid
-returns-in-NoRoom c = rw c.in-NoRoom.is c.refuse.ensures
+returns-in-None c = rw c.in-None.is c.refuse.ensures

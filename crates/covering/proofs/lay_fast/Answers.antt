@@ -1,7 +1,7 @@
 -- `covering::lay_fast` meets its contract: the fast covering of the bound, and the words of a run cleared. Assumes nothing.
 use mathlib.Core.Path.{refl, ap, ◌∙◌}
 use native.Mathlib.Omega.{arith}
-use Rattle.cellunion.specs.declared.Laid.{Laid}
+use Rattle.std.specs.Prelude.{Option, ℕ}
 use Rattle.totals.specs.Totals.{no_totals}
 use Rattle.run.specs.Run.{memory_words}
 use Rattle.bars.proofs.Early.{early_none}
@@ -22,5 +22,5 @@ clear_front-requires c = omega (arith, (early_none _ _ _ c.requires).long, c.fas
 pub returns : goal.returns
 returns c =
     let v = early_none _ _ _ c.requires in
-    answered_as refl (answered_laid _ _ _ 0 no_totals) (c.laid_answer.ensures ∙ ap (λ (w : Laid). answer_laid w 0 no_totals) c.fast_covering-laid.ensures.value.0)
+    answered_as refl (answered_laid _ _ _ 0 no_totals) (c.laid_answer.ensures ∙ ap (λ (w : Option ℕ). answer_laid w 0 no_totals) c.fast_covering-laid.ensures.value.0)
     (c.clear_front.ensures ∙ cleared_front memory_words _ _ (bound_past _ _ _ _ v.region v.long c.fast_covering-laid.auto.mem c.fast_covering-laid.ensures.mem_after)) c.fast_covering-laid.ensures.value.1

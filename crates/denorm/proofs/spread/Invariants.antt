@@ -1,8 +1,7 @@
+use Prim.Native.Nat.{◌-◌}
+use lib.ListN.{length}
 use Rattle.denorm.proofs.Writes.{Spreading}
 use Rattle.denorm.proofs.spread.Given as goal
 
-abbrev pub invariant-loop-left : goal.invariant-loop-left
-invariant-loop-left l = Spreading l.id l.to l.initial.out l.at l.bit l.out l.c l.left l.place
-
-abbrev pub decreases-loop-left : goal.decreases-loop-left
-decreases-loop-left l = l.left
+abbrev pub invariant-loop-place : goal.invariant-loop-place
+invariant-loop-place l = Spreading l.id l.to l.initial.part 0 l.bit l.part l.c (length l.part - l.place-index) l.place-index

@@ -13,4 +13,4 @@ slice_bounds-answer_for-end-4 c = sym (length-take-le _ _ (omega arith))
 
 pub returns : goal.returns
 returns c = let args = c.args in
-    answered_in _ args.lists.now args.first _ _ _ _ _ c.lesser-o.ensures c.answer_for.ensures
+    answered_in _ args.lists.now args.first _ _ _ _ _ c.min-o.ensures c.answer_for.ensures

@@ -25,6 +25,6 @@ slice_bounds-tell_night-end-2 c = sym (length-take-le _ _ (omega arith))
 pub tell_night-requires : goal.tell_night-requires
 tell_night-requires c =
     let fits = first_fit _ _ _ _ _ _ _ c.requires.0 (search rules) c.serve_first-served.ensures in
-    let same = as_many c.lesser-o.result c.serve_first-served.new.out c.args.out.now (omega arith) c.serve_first-served.auto.out in
-    let few = length-take-le c.lesser-o.result c.args.out.now (omega arith) in
+    let same = as_many c.min-o.result c.serve_first-served.new.out c.args.out.now (omega arith) c.serve_first-served.auto.out in
+    let few = length-take-le c.min-o.result c.args.out.now (omega arith) in
     (c.requires.0, rw same fits, rw same (omega (arith, few)))

@@ -12,4 +12,4 @@ pub slice_bounds-answer_run-end-4 : goal.slice_bounds-answer_run-end-4
 slice_bounds-answer_run-end-4 c = sym (length-take-le _ _ (omega arith))
 
 pub returns : goal.returns
-returns c = (answered_in _ _ _ _ _ _ _ _ c.lesser-m.ensures c.lesser-o.ensures c.answer_run.ensures.0, c.answer_run.ensures.1)
+returns c = (answered_in _ _ _ _ _ _ _ _ c.min-m.ensures c.min-o.ensures c.answer_run.ensures.0, c.answer_run.ensures.1)
