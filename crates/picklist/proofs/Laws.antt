@@ -1,14 +1,16 @@
 -- Pick lists: what the check says, the turns of the search, and that one listed cell decides.
 use mathlib.Core.Path.{◌≡◌, refl, sym, ap, ◌∙◌}
-use mathlib.Core.Logic.{◌↔◌, inl, inr, ⊎_elim, by_cases}
+use mathlib.Core.Logic.{◌↔◌, ◌⊎◌, inl, inr, ⊎_elim, by_cases}
 use mathlib.Core.Bool.{Bool, true, false, ◌||◌, and-eq-true_iff, true≢false}
 use mathlib.Core.List.{List, [], ◌∷◌}
-use Prim.Native.Nat.{ℕ, zero, suc, ◌+◌, ◌≤◌, ◌<◌}
+use Prim.Native.Nat.{ℕ, zero, suc, ◌-◌, ◌≤◌, ◌<◌}
 use native.Mathlib.Decide.{dec_lt}
 use native.Mathlib.Omega.{arith}
 use lib.ListN.{length, get_or}
-use lib.Dec.{leb}
-use borrow.Author.Tests.{leb-true, le-leb, lt-leb}
+use lib.Dec.{leb, ltb}
+use borrow.Author.Tests.{leb-true, le-leb, lt-leb, ltb-true, ltb-false}
+use Rattle.std.specs.List.Sorted.{IsNonDecreasing, IsPartitionPoint}
+use Rattle.std.proofs.lemmas.List.{get_or_default}
 use Rattle.cellid.specs.CellId.{Cell, first_leaf, last_leaf, holds, meets, has_leaf}
 use Rattle.cellid.proofs.Laws.{or_true, true_or, no_true, bool_iff, cell_pos}
 use Rattle.cellid.proofs.Leaves.{contains_leaves, intersects_leaves}
@@ -50,12 +52,6 @@ module _ (l : List ℕ) (P : is_pick_list l ≡ true) where
   pub pick_pos : (i : ℕ) → i < length l → 0 < get_or l i 0
   pick_pos i h = let C = listed_cell i h in cell_pos _ C.0 C.1 C.2
 
-  -- their ends ascend
-  ends_up : (i j : ℕ) → i ≤ j → j < length l → last_leaf (get_or l i 0) ≤ last_leaf (get_or l j 0)
-  ends_up i j h g = by_cases (dec_lt i j)
-      (λ k. let s = span (listed_cell j g) in omega (arith, apart_get l i j ((pick_is l).0 P).2 k g, s.first, s.last, s.some))
-      (λ k. let e : i ≡ j = omega arith in rw e (omega arith))
-
 -- ---- some
 
 some_at : (test : ℕ → Bool) (l : List ℕ) (i : ℕ) → i < length l → test (get_or l i 0) ≡ true → some test l ≡ true
@@ -81,40 +77,47 @@ some_found test (y ∷ l) t = ⊎_elim
 some_one : (test : ℕ → Bool) (l : List ℕ) (at : ℕ) → at < length l → ((i : ℕ) → i < length l → test (get_or l i 0) ≡ true → test (get_or l at 0) ≡ true) → some test l ≡ test (get_or l at 0)
 some_one test l at h g = bool_iff _ _ (λ t. let r = some_found test l t in g r.0 r.1 r.2) (λ t. some_at test l at h t)
 
--- ---- the search: of the places, those before low end before the leaf, those from high on don't
+-- ---- the search
 
-pub record Searching (l : List ℕ) (first low high : ℕ) : Type 0 where
-  pub ordered : low ≤ high
-  pub within : high ≤ length l
-  pub before : (i : ℕ) → i < low → last_leaf (get_or l i 0) < first
-  pub after : (i : ℕ) → high ≤ i → i < length l → first ≤ last_leaf (get_or l i 0)
+module _ (l : List ℕ) (P : is_pick_list l ≡ true) where
+  pub ids_up : IsNonDecreasing l
+  ids_up i j d h g = by_cases (dec_lt i j)
+      (λ k. let a = span (listed_cell l P i (omega arith)) in let b = span (listed_cell l P j g) in
+      rw (get_or_default l i d 0 (omega arith), get_or_default l j d 0 g) (omega (arith, apart_get l i j ((pick_is l).0 P).2 k g, a.sum, a.last, a.some, b.sum, b.first, b.some)))
+      (λ k. let e : i ≡ j = omega arith in rw e (omega arith))
 
-pub search_start : (l : List ℕ) (first : ℕ) → Searching l first 0 (length l)
-search_start l first = record { ordered = omega arith; within = omega arith; before = λ i h. absurd (omega arith); after = λ i h g. absurd (omega arith) }
+  module _ (first at : ℕ) (within : at ≤ length l) (C : IsPartitionPoint (λ y. ltb y first ≡ true) (λ y. ltb y first ≡ false) l at) where
+    lower : (i : ℕ) → i < at → get_or l i 0 < first
+    lower i h = ltb-true _ _ (C.0 i 0 (omega arith) h)
 
-module _ (l : List ℕ) (P : is_pick_list l ≡ true) (first low high m : ℕ) (S : Searching l first low high) (a : low ≤ m) (b : m < high) where
-  pub search_up : last_leaf (get_or l m 0) < first → Searching l first (m + 1) high
-  search_up h = record {
-    ordered = omega arith;
-    within = S.within;
-    before = λ i g. omega (arith, h, ends_up l P i m (omega arith) (omega (arith, S.within)));
-    after = S.after;
-  }
+    -- what begins no earlier ends no earlier
+    upper : (i : ℕ) → at ≤ i → i < length l → first ≤ last_leaf (get_or l i 0)
+    upper i h g = let s = span (listed_cell l P i g) in omega (arith, ltb-false _ _ (C.1 i 0 h g), s.sum, s.last, s.some)
 
-  pub search_down : first ≤ last_leaf (get_or l m 0) → Searching l first low m
-  search_down h = record {
-    ordered = a;
-    within = omega (arith, S.within);
-    before = S.before;
-    after = λ i g k. omega (arith, h, ends_up l P m i g k);
-  }
+    -- what stands before another ends before it
+    ended : (i j : ℕ) → i < j → j < at → last_leaf (get_or l i 0) < first
+    ended i j h g = let s = span (listed_cell l P j (omega arith)) in omega (arith, lower j g, apart_get l i j ((pick_is l).0 P).2 h (omega arith), s.sum, s.first, s.some)
 
-pub search_done : (l : List ℕ) (first low high : ℕ) → Searching l first low high → high ≤ low → Parts l first low
-search_done l first low high S h = record {
-  within = omega (arith, S.ordered, S.within);
-  before = S.before;
-  after = λ i g k. S.after i (omega arith) k;
-}
+    pub found_before : 0 < at → first ≤ last_leaf (get_or l (at - 1) 0) → Parts l first (at - 1)
+    found_before z h = record {
+      within = omega arith;
+      before = λ i g. ended i (at - 1) (omega arith) (omega arith);
+      after = λ i g k. by_cases (dec_lt i at)
+          (λ b. let e : i ≡ at - 1 = omega arith in rw e h)
+          (λ b. upper i (omega arith) k);
+    }
+
+    pub found_at : (at ≤ 0) ⊎ (last_leaf (get_or l (at - 1) 0) < first) → Parts l first at
+    found_at h = record {
+      within = within;
+      before = λ i g. ⊎_elim
+          (λ (z : at ≤ 0). absurd (omega arith))
+          (λ (k : last_leaf (get_or l (at - 1) 0) < first). by_cases (dec_lt i (at - 1))
+          (λ b. ended i (at - 1) b (omega arith))
+          (λ b. let e : i ≡ at - 1 = omega arith in rw e k))
+          h;
+      after = upper;
+    }
 
 -- ---- what the first listed cell that doesn't end before a cell says of all
 

@@ -15,29 +15,21 @@ pub const PICKS_MOST: usize = 4096;
 pub fn is_pick_list(list: &[u64]) -> bool
     ensures { result ≡ is_pick_list list.now }
 {
-    if list.len() <= PICKS_MOST {
-        cellunion::is_valid(list)
-    } else {
-        false
-    }
+    list.len() <= PICKS_MOST && cellunion::is_valid(list)
 }
 
-// The first place whose cell ends with the leaf `first` or after it, the list's length where none does. The cells ascend, and so do their ends.
+// The first place whose cell ends with the leaf `first` or after it, the list's length where none does. The ids ascend, and of those before the leaf only the
+// last can end behind it.
 fn find(list: &[u64], first: u64) -> usize
     requires { is_pick_list list.now ≡ true }
     ensures { Parts list.now first result }
 {
-    let mut low: usize = 0;
-    let mut high = list.len();
-    while low < high {
-        let middle = low + (high - low) / 2;
-        if cellid::range_max(list[middle]) < first {
-            low = middle + 1;
-        } else {
-            high = middle;
-        }
+    let at = list.partition_point(|&id| id < first);
+    if 0 < at && first <= cellid::range_max(list[at - 1]) {
+        at - 1
+    } else {
+        at
     }
-    low
 }
 
 // What the cell of a valid id is to a list; where `whole` is false only outside or not. The first listed cell that doesn't end before the cell begins decides:
@@ -48,9 +40,10 @@ pub fn look_at(list: &[u64], id: u64, whole: bool) -> Sight
 {
     let at = find(list, cellid::range_min(id));
     if at < list.len() {
-        return sight::look_at(list[at], id, whole);
+        sight::look_at(list[at], id, whole)
+    } else {
+        Sight::Outside
     }
-    Sight::Outside
 }
 
 // What the four children of a valid id that is no leaf are to a list.

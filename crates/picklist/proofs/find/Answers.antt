@@ -1,38 +1,27 @@
-use native.Mathlib.Omega.{arith}
-use Rattle.picklist.proofs.Laws.{pick_pos, search_start, search_up, search_down, search_done}
+-- `picklist::find`: the ids are cut at the leaf, and the last one before it may end behind it.
+use Rattle.std.proofs.Common.{◌≡◌, true, false, inl, inr, rules, arith, ltb}
+use Rattle.std.specs.List.Sorted.{IsPartitionPoint}
+use Rattle.std.proofs.lemmas.List.Sorted.{IsPartitionPoint-from_clause, IsPartitionedBy-ltb}
+use Rattle.picklist.proofs.Laws.{pick_pos, ids_up, found_before, found_at}
+use Rattle.picklist.proofs.find.Goals.{After-partition_point-at, else-at-gt0-via-then-at-gt0+else-first-range_max, else-at-gt0-via-else-at-gt0}
 use Rattle.picklist.proofs.find.Goals as goal
 
-pub loop-low-init : goal.loop-low-init
-loop-low-init c = search_start _ _
-
-pub overflow_sub-middle : goal.overflow_sub-middle
-overflow_sub-middle c = omega (arith, c.loop-low.invariant.ordered)
-
-pub overflow_add-middle : goal.overflow_add-middle
-overflow_add-middle c = omega (arith, c.loop-low.invariant.ordered, c.loop-low.invariant.within)
-
-pub offset_bounds-list-middle : goal.offset_bounds-list-middle
-offset_bounds-list-middle c = omega (arith, c.loop-low.invariant.ordered, c.loop-low.invariant.within)
-
-pub bounds-list-middle : goal.bounds-list-middle
-bounds-list-middle c = omega (arith, c.loop-low.invariant.within, c.loop-low-test.true)
+cut : (c : After-partition_point-at) → IsPartitionPoint (λ y. ltb y c.args.first ≡ true) (λ y. ltb y c.args.first ≡ false) c.args.list.now c.partition_point-at.result
+cut c =
+    IsPartitionPoint-from_clause (λ y. ltb y c.args.first) _ _ c.partition_point-at.ensures.partitioned
+    (IsPartitionedBy-ltb (λ y. y) _ c.args.first (ids_up _ c.requires)) (λ a r q k. search rules)
 
 pub range_max-requires : goal.range_max-requires
-range_max-requires c = pick_pos _ c.requires _ (omega (arith, c.loop-low.invariant.within, c.loop-low-test.true))
+range_max-requires c = pick_pos _ c.requires _ (omega (arith, c.partition_point-at.ensures.bound, c.if-at-gt0.true))
 
-pub loop-low-smaller-then-range_max-first : goal.loop-low-smaller-then-range_max-first
-loop-low-smaller-then-range_max-first c = omega (arith, c.loop-low-test.true)
+pub returns-then-first-range_max : goal.returns-then-first-range_max
+returns-then-first-range_max c =
+    found_before _ c.requires _ _ c.partition_point-at.ensures.bound (cut (goal.at.returns-then-first-range_max c).After-partition_point-at)
+    c.if-at-gt0.true (rw (← c.range_max.ensures) c.if-first-range_max.true)
 
-pub loop-low-preserved-then-range_max-first : goal.loop-low-preserved-then-range_max-first
-loop-low-preserved-then-range_max-first c =
-    search_up _ c.requires _ _ _ _ c.loop-low.invariant (omega (arith, c.loop-low-test.true)) (omega (arith, c.loop-low-test.true)) (rw (← c.range_max.ensures) c.if-range_max-first.true)
-
-pub loop-low-smaller : goal.loop-low-smaller
-loop-low-smaller c = omega (arith, c.loop-low-test.true)
-
-pub loop-low-preserved : goal.loop-low-preserved
-loop-low-preserved c =
-    search_down _ c.requires _ _ _ _ c.loop-low.invariant (omega (arith, c.loop-low-test.true)) (omega (arith, c.loop-low-test.true)) (rw (← c.range_max.ensures) c.if-range_max-first.false)
-
-pub returns : goal.returns
-returns c = search_done _ _ _ _ c.loop-low.invariant c.loop-low-test.false
+pub returns-else-at-gt0 : goal.returns-else-at-gt0
+returns-else-at-gt0 c =
+    found_at _ c.requires _ _ c.partition_point-at.ensures.bound (cut (goal.at.returns-else-at-gt0 c).After-partition_point-at) (elim c.else-at-gt0.branch [
+      | else-at-gt0-via-then-at-gt0+else-first-range_max w ↦ inr (rw (← w.range_max.ensures) w.if-first-range_max.false)
+      | else-at-gt0-via-else-at-gt0 w ↦ inl w.if-at-gt0.false
+    ])

@@ -18,8 +18,8 @@ returns-then-at-list c =
     let D = near_decides _ c.requires.0 _ _ c.requires.1 S c.if-at-list.true in
     rw (← D.0, ← D.1) c.look_at.ensures
 
-pub returns : goal.returns
+pub returns-else-at-list : goal.returns-else-at-list
 unfolding sight_of sight_by
-returns c =
+returns-else-at-list c =
     let S : Parts _ _ _ = rw c.range_min.ensures at c.find-at.ensures in
     rw (← none_near _ c.requires.0 _ _ c.requires.1 S c.if-at-list.false)
