@@ -5,6 +5,7 @@ use mathlib.Core.Logic.{⊎_elim}
 use mathlib.Core.List.{List, [], ◌∷◌, ◌++◌, map}
 use Prim.Native.Nat.{ℕ, ◌+◌, ◌≤◌}
 use native.Mathlib.Omega.{arith}
+use Rattle.refusal.specs.declared.Refusal.{Refusal}
 use Rattle.order.specs.Order.{insert, All}
 use Rattle.order.proofs.OrderLaws.{which, insert_past, insert_front, all_weak}
 use Rattle.run.specs.Run.{Outcome, State, going, is_empty, refused, sum_of, then}
@@ -45,14 +46,14 @@ all_insert lt P x (y ∷ q) p a = ⊎_elim
     (λ (e : lt y x ≡ false). rw (insert_front lt x y q e) (p, a))
     (which (lt y x))
 
--- P of the state, or R of the number
-unfoldable pub Fares : (State → Type 0) → (ℕ → Type 0) → Outcome → Type 0
-Fares P R (refused n) = R n
+-- P of the state, or R of the refusal
+unfoldable pub Fares : (State → Type 0) → (Refusal → Type 0) → Outcome → Type 0
+Fares P R (refused r) = R r
 Fares P R (going s) = P s
 
-pub then_fares : (P Q : State → Type 0) (R : ℕ → Type 0) (o : Outcome) (f : State → Outcome) → Fares P R o → ((s : State) → P s → Fares Q R (f s)) → Fares Q R (then o f)
+pub then_fares : (P Q : State → Type 0) (R : Refusal → Type 0) (o : Outcome) (f : State → Outcome) → Fares P R o → ((s : State) → P s → Fares Q R (f s)) → Fares Q R (then o f)
 unfolding Fares then
-then_fares P Q R (refused n) f h g = h
+then_fares P Q R (refused r) f h g = h
 then_fares P Q R (going s) f h g = g s h
 
 -- P in the state, if there is one

@@ -7,6 +7,7 @@ use mathlib.Core.List.{List, [], ◌∷◌, ◌++◌, map, map-map, map-append}
 use Prim.Native.Nat.{ℕ, zero, suc}
 use lib.Dec.{ltb, eqb}
 use lib.ListN.{length, length-map, get_or}
+use Rattle.refusal.specs.declared.Refusal.{Refusal}
 use Rattle.order.specs.Order.{Order, Le, insert, sort, Sorted}
 use Rattle.order.specs.Lex.{first, lexb}
 use Rattle.order.proofs.LexLaws.{by_key}
@@ -56,11 +57,11 @@ pub record Waits (T : Task) (c : Grown) : Type 0 where
 module _ (T : Task) (alone lt : Grown → Grown → Bool) (Good : List Grown → Type 0) (empty : Good []) (rest : (c : Grown) (l : List Grown) → Good (c ∷ l) → Good l)
     (more : (c : Grown) (l : List Grown) → Waits T c → Good l → Good (insert lt c l)) (same : (c : Grown) (l : List Grown) → Waits T c → Good l → insert alone (bare_of c) (map bare_of l) ≡ map bare_of (insert lt c l)) where
   abbrev Mirrors : Outcome → Outcome → Type 0
-  Mirrors o u = Fares (λ (s : State). Good s.queue × (u ≡ going (bare s))) (λ (n : ℕ). u ≡ refused n) o
+  Mirrors o u = Fares (λ (s : State). Good s.queue × (u ≡ going (bare s))) (λ (r : Refusal). u ≡ refused r) o
 
   then_mirrors : (o u : Outcome) (f g : State → Outcome) → Mirrors o u → ((s : State) → Good s.queue → Mirrors (f s) (g (bare s))) → Mirrors (then o f) (then u g)
   unfolding Fares then
-  then_mirrors (refused n) u f g h k = ap (λ (x : Outcome). then x g) h
+  then_mirrors (refused r) u f g h k = ap (λ (x : Outcome). then x g) h
   then_mirrors (going s) u f g h k = subst (λ (x : Outcome). Mirrors (f s) (then x g)) (sym h.1) (k s h.0)
 
   keep_mirrors : (c : Grown) (s : State) → Good s.queue → Mirrors (keep c s) (keep (bare_of c) (bare s))
@@ -136,7 +137,7 @@ module _ (T : Task) (alone lt : Grown → Grown → Bool) (Good : List Grown →
 
   mirrored : (o u : Outcome) → Mirrors o u → row_of o ≡ row_of u
   unfolding Fares row_of raw_ids aside_total
-  mirrored (refused n) u h = sym (ap row_of h)
+  mirrored (refused r) u h = sym (ap row_of h)
   mirrored (going s) u h = rw (h.1, map-map id_of bare_of s.raw, sum_map bare_of (λ (c : Grown). leaves_of c.id) s.aside)
 
   pub run_mirrored : (starts : List ℕ) (a : ℕ) → row_of (run (T by lt) starts a) ≡ row_of (then (start_all (T by alone) (map bare_of (placed 0 starts)) nothing) (loop (T by alone) a))

@@ -5,6 +5,7 @@ use mathlib.Core.List.{List, [], ◌∷◌}
 use Prim.Native.Nat.{ℕ}
 use lib.ListN.{length}
 use lib.Count.{count_trailing_zeros}
+use Rattle.refusal.specs.Refusal.{number_of}
 use Rattle.cellid.specs.CellId.{face_cell, six_faces, level_of, child_of, leaves_of, holds, meets, low_bit, first_leaf, last_leaf}
 use Rattle.order.specs.Order.{insert}
 use Rattle.order.specs.Lex.{lexb, first}
@@ -18,7 +19,7 @@ pub record Row : Type 0 where
   pub aside : ℕ
 
 unfoldable pub row_of : Outcome → Row
-row_of (refused n) = record { number = n; raw = []; steps = 0; aside = 0 }
+row_of (refused r) = record { number = number_of r; raw = []; steps = 0; aside = 0 }
 row_of (going s) = record { number = 0; raw = raw_ids s; steps = s.steps; aside = aside_total s }
 
 -- max 30, mod 1, edition 1

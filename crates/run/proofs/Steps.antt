@@ -9,14 +9,16 @@ use native.Mathlib.Nat.{eq-or-lt_of_le}
 use native.Mathlib.Omega.{arith}
 use lib.Dec.{ltb}
 use lib.ListN.{length}
+use Rattle.refusal.specs.declared.Refusal.{Refusal}
+use Rattle.refusal.specs.Refusal.{number_of}
 use Rattle.order.specs.Order.{insert}
 use Rattle.run.specs.Run.{Child, Grown, Look, Outcome, State, add, add_all, after, divide, enqueue, fails, going, is_handed_on, is_empty, is_full, keep, lifts, look, loop, none, nothing, placed, refused, run, set_aside, start_all, start_as, step, step_on, step_with, terminal, then, expansion_of, Task, queue_most, raw_most, ◌by◌}
 use Rattle.run.proofs.Lists.{Fares, then_fares, Holds, then_ok, if_ok, empty_nil}
 
 -- ---- what every part of the run keeps: a fact P of states that a change of the raw list, a change of the queue and setting aside leave true, and a fact R
--- of the numbers of refusals
+-- of the refusals
 
-module _ (T : Task) (lt : Grown → Grown → Bool) (P : State → Type 0) (R : ℕ → Type 0) (seven : R 7) (eight : R 8)
+module _ (T : Task) (lt : Grown → Grown → Bool) (P : State → Type 0) (R : Refusal → Type 0) (seven : R Refusal.QueueFull) (eight : R Refusal.RawFull)
     (on-raw : (s : State) (l : List Grown) → P s → P (record { raw = l; queue = s.queue; aside = s.aside; steps = s.steps }))
     (on-queue : (s : State) (l : List Grown) → P s → P (record { raw = s.raw; queue = l; aside = s.aside; steps = s.steps }))
     (on-aside : (s : State) (i : ℕ) (l : List ℕ) → P s → P (set_aside T.asked i l s)) where
@@ -84,7 +86,7 @@ module _ (T : Task) (lt : Grown → Grown → Bool) where
 
   then_at : (o : Outcome) (f : State → Outcome) (s : State) → then o f ≡ going s → (t : State) × (o ≡ going t) × (f t ≡ going s)
   unfolding then
-  then_at (refused n) f s e = let z : ◌≡◌ {A = ℕ} 0 1 = cc in absurd (omega arith)
+  then_at (refused r) f s e = let z : ◌≡◌ {A = ℕ} 0 1 = cc in absurd (omega arith)
   then_at (going t) f s e = (t, refl, e)
 
   taken : (l : List Grown) (s : State) → s.queue ≡ l → is_empty l ≡ false → Holds (Took (suc s.steps)) (step (T by lt) s)
@@ -179,8 +181,8 @@ module _ (T : Task) (lt : Grown → Grown → Bool) (inner : T.asked.inner ≡ t
 -- ---- the run gives the refusals 7, 8 and 9 and no other
 
 module _ (T : Task) (lt : Grown → Grown → Bool) where
-  abbrev Late : ℕ → Type 0
-  Late n = (7 ≤ n) × (n ≤ 9)
+  abbrev Late : Refusal → Type 0
+  Late r = (7 ≤ number_of r) × (number_of r ≤ 9)
 
   abbrev Going : State → Type 0
   Going s = Unit
@@ -201,6 +203,6 @@ module _ (T : Task) (lt : Grown → Grown → Bool) where
       (start_all_walk T lt Going Late (omega arith, omega arith) (omega arith, omega arith) (λ t x h. tt) (λ t x h. tt) (λ t i x h. tt) (placed 0 starts) nothing tt)
       (λ s u. loop_late a s)
 
-  pub run_refuses : (starts : List ℕ) (a n : ℕ) → run (T by lt) starts a ≡ refused n → (7 ≤ n) × (n ≤ 9)
+  pub run_refuses : (starts : List ℕ) (a : ℕ) (r : Refusal) → run (T by lt) starts a ≡ refused r → (7 ≤ number_of r) × (number_of r ≤ 9)
   unfolding Fares
-  run_refuses starts a n e = subst (Fares Going Late) e (run_fares starts a)
+  run_refuses starts a r e = subst (Fares Going Late) e (run_fares starts a)

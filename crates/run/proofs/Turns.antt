@@ -5,22 +5,23 @@ use mathlib.Core.List.{[], ◌∷◌, ◌++◌}
 use Prim.Native.Nat.{◌≤◌, ◌<◌}
 use lib.ListN.{length}
 use borrow.Author.Tests.{lt-ltb, le-ltb}
+use Rattle.refusal.specs.declared.Refusal.{Refusal}
 use Rattle.order.specs.Order.{insert}
 use Rattle.run.specs.Run.{Grown, Outcome, State, add, enqueue, going, is_empty, keep, lifts, refused, set_aside, then, expansion_of, Task, queue_most, raw_most, ◌by◌}
 
 pub then_then : (o : Outcome) (f g : State → Outcome) → then (then o f) g ≡ then o (λ s. then (f s) g)
 unfolding then
-then_then (refused n) f g = refl
+then_then (refused r) f g = refl
 then_then (going s) f g = refl
 
 pub then_cong : (o : Outcome) (f g : State → Outcome) → ((s : State) → f s ≡ g s) → then o f ≡ then o g
 unfolding then
-then_cong (refused n) f g e = refl
+then_cong (refused r) f g e = refl
 then_cong (going s) f g e = e s
 
 pub then_going : (o : Outcome) → then o (λ s. going s) ≡ o
 unfolding then
-then_going (refused n) = refl
+then_going (refused r) = refl
 then_going (going s) = refl
 
 module _ (T : Task) (lt : Grown → Grown → Bool) where
@@ -28,7 +29,7 @@ module _ (T : Task) (lt : Grown → Grown → Bool) where
   unfolding keep
   keep_go c s h = rw (lt-ltb (length s.raw) raw_most h, keep)
 
-  pub keep_stop : (c : Grown) (s : State) → raw_most ≤ length s.raw → keep c s ≡ refused 8
+  pub keep_stop : (c : Grown) (s : State) → raw_most ≤ length s.raw → keep c s ≡ refused Refusal.RawFull
   unfolding keep
   keep_stop c s h = rw (le-ltb (length s.raw) raw_most h, keep)
 
@@ -36,7 +37,7 @@ module _ (T : Task) (lt : Grown → Grown → Bool) where
   unfolding enqueue
   enqueue_go c s h = rw (lt-ltb (length s.queue) queue_most h, enqueue)
 
-  pub enqueue_stop : (c : Grown) (s : State) → queue_most ≤ length s.queue → enqueue lt c s ≡ refused 7
+  pub enqueue_stop : (c : Grown) (s : State) → queue_most ≤ length s.queue → enqueue lt c s ≡ refused Refusal.QueueFull
   unfolding enqueue
   enqueue_stop c s h = rw (le-ltb (length s.queue) queue_most h, enqueue)
 

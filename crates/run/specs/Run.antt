@@ -3,6 +3,7 @@
 use Rattle.std.specs.Prelude.{Bool, true, false, ◌&&◌, ◌||◌, not, List, [], ◌∷◌, ◌++◌, map, ℕ, zero, suc, ◌+◌, ◌*◌, ◌^◌, leb, ltb, eqb, length}
 use Rattle.cellid.specs.CellId.{level_of, child_of}
 unfoldable pub use Rattle.cellid.specs.CellId.{leaves_of}
+use Rattle.refusal.specs.declared.Refusal.{Refusal}
 use Rattle.order.specs.Order.{insert}
 use Rattle.order.specs.Lex.{lexb}
 use Rattle.run.specs.declared.Request.{Request}
@@ -66,13 +67,13 @@ pub record State : Type 0 where
   pub aside : List Grown  -- the cells set aside
   pub steps : ℕ
 
--- refused with a number, or running on in a state
+-- refused, or running on in a state
 pub data Outcome : Type 0 where
-  refused : ℕ → Outcome
+  refused : Refusal → Outcome
   going : State → Outcome
 
 unfoldable pub then : Outcome → (State → Outcome) → Outcome
-then (refused n) f = refused n
+then (refused r) f = refused r
 then (going s) f = f s
 
 unfoldable pub is_empty : {A : Type 0} → List A → Bool
@@ -197,18 +198,18 @@ module _ (T : Task) where
 
 -- ---- the run
 
--- into the raw result list; 8: "the defined run would keep a 1,025th raw cell"
+-- into the raw result list; 8, `RawFull`: "the defined run would keep a 1,025th raw cell"
 unfoldable pub keep : Grown → State → Outcome
 keep c s = elim (ltb (length s.raw) raw_most) [
   | true ↦ going (record { raw = s.raw ++ (c ∷ []); queue = s.queue; aside = s.aside; steps = s.steps })
-  | false ↦ refused 8
+  | false ↦ refused Refusal.RawFull
 ]
 
--- into the queue; 7: "the defined run's queue would hold 1,025 candidates at once"
+-- into the queue; 7, `QueueFull`: "the defined run's queue would hold 1,025 candidates at once"
 unfoldable pub enqueue : (Grown → Grown → Bool) → Grown → State → Outcome
 enqueue lt c s = elim (ltb (length s.queue) queue_most) [
   | true ↦ going (record { raw = s.raw; queue = insert lt c s.queue; aside = s.aside; steps = s.steps })
-  | false ↦ refused 7
+  | false ↦ refused Refusal.QueueFull
 ]
 
 -- cells that grew from the start cell i are set aside: outer only
@@ -296,9 +297,9 @@ module _ (C : Course) where
   after starts zero = start_all C (placed 0 starts) nothing
   after starts (suc n) = then (after starts n) (step C)
 
-  -- from a state on, with so many steps allowed. 9: "the queue isn't empty and the allowance is used up"; "9 is looked at before each step"
+  -- from a state on, with so many steps allowed. 9, `Allowance`: "the queue isn't empty and the allowance is used up"; "9 is looked at before each step"
   unfoldable pub loop : ℕ → State → Outcome
-  loop zero s = elim (is_empty s.queue) [ true ↦ going s | false ↦ refused 9 ]
+  loop zero s = elim (is_empty s.queue) [ true ↦ going s | false ↦ refused Refusal.Allowance ]
   loop (suc a) s = elim (is_empty s.queue) [ true ↦ going s | false ↦ then (step C s) (loop a) ]
 
   -- the whole run
