@@ -11,6 +11,7 @@ ghost use Rattle.run.specs.Editions.{weight};
 use run::Request;
 
 // How far down a candidate is expanded: one level below min, else level_mod.
+#[tactic(auto, unfolding(run::specs::Run::depth))]
 pub fn levels_under(q: Request, id: u64) -> u64
     ensures { result ≡ depth q id }
 {
@@ -25,24 +26,20 @@ pub fn levels_under(q: Request, id: u64) -> u64
 pub fn lifts(q: Request, full: u64, id: u64, terminal: u64) -> bool
     ensures { result ≡ (not q.inner && (leb (min_level q) (level_of id) && eqb (ones terminal) full)) }
 {
-    if cellid::level(id) < q.coverer.min_level {
-        return false;
-    }
-    if records::count(terminal) != full {
-        return false;
-    }
-    !q.inner
+    !q.inner && q.coverer.min_level <= cellid::level(id) && records::count(terminal) == full
 }
 
 // What a child weighs in the queue's order, and a level in children, where a full set has `all` of them: in edition 2 one more, so that no count carries.
+#[tactic(auto, unfolding(run::specs::Editions::weight))]
 pub fn weight_of(q: Request, all: u64) -> u64
     requires { (all ≡ full q) × (all ≤ 64) }
     ensures { (result ≡ weight q) × (result ≤ 65) }
 {
     if q.coverer.edition == 2 {
-        return all + 1;
+        all + 1
+    } else {
+        all
     }
-    all
 }
 
 // Whether a taken candidate is handed on: inner, or below min, or one child, or few enough in all.
@@ -50,25 +47,15 @@ pub fn is_handed_on(q: Request, kept: usize, queued: usize, id: u64, children: u
     requires { (kept ≤ raw_most) × (queued ≤ queue_most) × (children ≤ 64) }
     ensures { result ≡ (q.inner || (ltb (level_of id) (min_level q) || (eqb children 1 || leb (kept + queued + children) (max_cells q)))) }
 {
-    if q.inner {
-        return true;
-    }
-    if cellid::level(id) < q.coverer.min_level {
-        return true;
-    }
-    if children == 1 {
-        return true;
-    }
-    kept as u64 + queued as u64 + children <= q.coverer.max_cells
+    q.inner
+        || cellid::level(id) < q.coverer.min_level
+        || children == 1
+        || kept as u64 + queued as u64 + children <= q.coverer.max_cells
 }
 
 // Whether an inner run has as many results as are asked for.
 pub fn is_full(q: Request, kept: usize) -> bool
     ensures { result ≡ (q.inner && leb (max_cells q) kept) }
 {
-    if q.inner {
-        q.coverer.max_cells <= kept as u64
-    } else {
-        false
-    }
+    q.inner && q.coverer.max_cells <= kept as u64
 }

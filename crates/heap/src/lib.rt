@@ -1,4 +1,4 @@
-// The quick queue: records as a binary heap in lent memory, the one that goes first at place 0.
+// The quick queue: records as a binary heap in lent memory, the one that goes first at place 0. The loops go up and down the tree.
 #![tactic(auto)]
 
 ghost use Rattle.std.specs.Prelude.{◌≡◌, ◌+◌, ◌*◌, ◌<◌, ◌≤◌};
@@ -16,7 +16,7 @@ pub fn push(m: &mut [u64], n: usize, r: Rec)
     while 0 < i {
         let p = (i - 1) / 2;
         let x = records::get(m, p);
-        if records::goes_first(r, x) {
+        if r.goes_first(x) {
             records::put(m, i, x);
             i = p;
         } else {
@@ -44,7 +44,7 @@ fn lesser(m: &[u64], n: usize, i: usize) -> Placed
     let x = records::get(m, l);
     if r < n {
         let y = records::get(m, r);
-        if records::goes_first(y, x) {
+        if y.goes_first(x) {
             return Placed { at: r, record: y };
         }
     }
@@ -64,7 +64,7 @@ pub fn pop(m: &mut [u64], n: usize) -> Rec
     while i < n / 2 {
         let c = lesser(m, n, i);
         let x = c.record;
-        if records::goes_first(x, a) {
+        if x.goes_first(a) {
             records::put(m, i, x);
             i = c.at;
         } else {

@@ -23,12 +23,9 @@ fn least(m: &[u64], n: usize) -> usize
     ensures upper_bound { result ≤ n }
 {
     let mut best = 0;
-    let mut i = 1;
-    while i <= n {
-        let next = i;
-        i += 1;
-        if records::goes_first(records::get(m, next), records::get(m, best)) {
-            best = next;
+    for i in 1..n + 1 {
+        if records::get(m, i).goes_first(records::get(m, best)) {
+            best = i;
         }
     }
     best

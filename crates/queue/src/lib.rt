@@ -9,31 +9,36 @@ ghost use Rattle.queue.specs.Queue.{add_r, next_r, rest_r};
 use records::Rec;
 
 // Which engine keeps the queue: the quick one, as a heap, or the plain one, as a list that is looked through at each step.
+// A value and no type parameter: it is chosen at run time, by a line's `engine=`, and a parameter would write the whole run into the programs twice.
 #[derive(Clone, Copy)]
 pub enum Engine {
     Quick,
     Plain,
 }
 
-// Adds r to the queue of the first n records.
-pub fn add(e: Engine, m: &mut [u64], n: usize, r: Rec)
-    requires { n < cap_r m.old }
-    ensures { m.new ≡ add_r e m.old n r }
-{
-    match e {
-        Engine::Quick => heap::push(m, n, r),
-        Engine::Plain => plain::add(m, n, r),
+impl Engine {
+    // Adds r to the queue of the first n records.
+    #[tactic(auto, unfolding(crate::specs::Queue::add_r))]
+    pub fn add(self, m: &mut [u64], n: usize, r: Rec)
+        requires { n < cap_r m.old }
+        ensures { m.new ≡ add_r self m.old n r }
+    {
+        match self {
+            Engine::Quick => heap::push(m, n, r),
+            Engine::Plain => plain::add(m, n, r),
+        }
     }
-}
 
-// Takes the one that goes first of the first n + 1 records.
-pub fn take(e: Engine, m: &mut [u64], n: usize) -> Rec
-    requires { n < cap_r m.old }
-    ensures value { result ≡ next_r e m.old n }
-    ensures m_after { m.new ≡ rest_r e m.old n }
-{
-    match e {
-        Engine::Quick => heap::pop(m, n),
-        Engine::Plain => plain::take(m, n),
+    // Takes the one that goes first of the first n + 1 records.
+    #[tactic(auto, unfolding(crate::specs::Queue::next_r, crate::specs::Queue::rest_r))]
+    pub fn take(self, m: &mut [u64], n: usize) -> Rec
+        requires { n < cap_r m.old }
+        ensures value { result ≡ next_r self m.old n }
+        ensures m_after { m.new ≡ rest_r self m.old n }
+    {
+        match self {
+            Engine::Quick => heap::pop(m, n),
+            Engine::Plain => plain::take(m, n),
+        }
     }
 }

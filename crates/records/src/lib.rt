@@ -26,7 +26,7 @@ pub fn count(x: u64) -> u64
     if x < 16 {
         return (0x4332_3221_3221_2110 >> (4 * x)) % 16;
     }
-    u64::count_ones(x) as u64
+    x.count_ones() as u64
 }
 
 // What a cell with these children costs, where a child weighs `weight` and a level `weight` children: smaller cells, more children and more terminals cost more.
@@ -50,44 +50,31 @@ pub fn record_of(weight: u64, from: u64, id: u64, present: u64, terminal: u64) -
     }
 }
 
-// A record's cost.
-pub fn cost(r: Rec) -> u64
-    ensures { result ≡ cost_r r }
-{
-    r.rank / 8
+impl Rec {
+    // Its cost.
+    pub fn cost(self) -> u64
+        ensures { result ≡ cost_r self }
+    {
+        self.rank / 8
+    }
+
+    // The place of the start cell that its cell grew from.
+    pub fn from(self) -> u64
+        ensures { result ≡ from_r self }
+    {
+        self.rank % 8
+    }
+
+    // Whether it goes before y.
+    pub fn goes_first(self, y: Rec) -> bool
+        ensures { result ≡ before self y }
+    {
+        (self.cost(), self.id, self.from(), self.present, self.terminal)
+            < (y.cost(), y.id, y.from(), y.present, y.terminal)
+    }
 }
 
-// The place of the start cell that a record's cell grew from.
-pub fn from(r: Rec) -> u64
-    ensures { result ≡ from_r r }
-{
-    r.rank % 8
-}
-
-// Whether x goes before y.
-pub fn goes_first(x: Rec, y: Rec) -> bool
-    ensures { result ≡ before x y }
-{
-    let a = cost(x);
-    let b = cost(y);
-    if a != b {
-        return a < b;
-    }
-    if x.id != y.id {
-        return x.id < y.id;
-    }
-    let p = from(x);
-    let q = from(y);
-    if p != q {
-        return p < q;
-    }
-    if x.present != y.present {
-        return x.present < y.present;
-    }
-    x.terminal < y.terminal
-}
-
-// The record at the place i.
+// The record at the place i: its words one by one, in place of a part of the slice that would have to be taken apart.
 pub fn get(m: &[u64], i: usize) -> Rec
     requires { i < cap_r m.now }
     ensures { result ≡ get_r m.now i }
