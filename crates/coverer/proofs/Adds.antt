@@ -1,4 +1,5 @@
 -- Adding a candidate, and the children of a taken one: the definition's cases, in the code's words.
+use Rattle.std.specs.Prelude.Result.{Ok}
 use mathlib.Core.Path.{◌≡◌, refl, sym, ap, ap₂, ◌∙◌, subst}
 use mathlib.Core.Bool.{Bool, true, false, ◌&&◌, not}
 use mathlib.Core.Logic.{⊎_elim}
@@ -34,9 +35,8 @@ use Rattle.records.specs.Records.{record_of}
 use Rattle.queue.specs.declared.Engine.{Engine}
 use Rattle.candidate.specs.Candidate.{Asks}
 use Rattle.coverer.specs.declared.Counts.{Counts}
-use Rattle.coverer.specs.declared.Turn.{Turn}
 use Rattle.coverer.specs.declared.Brood.{Brood}
-use Rattle.coverer.specs.Engine.{is_in, child_at, child_if, children_from, leaves_in, aside_of, AsideUpTo, grown, rec_of, Stands, Gives, Does}
+use Rattle.coverer.specs.Engine.{Turn, is_in, child_at, child_if, children_from, leaves_in, aside_of, AsideUpTo, grown, rec_of, Stands, Gives, Does}
 use Rattle.coverer.proofs.Stands.{raw_length, sets_aside, does_as, does_nothing, aside_le, up_to}
 
 pub domain : (q : Request) (a : Area) → Asks q a → Domain q
@@ -181,7 +181,7 @@ module _ (E : Engine) (T : Task) (D : Domain T.asked) (i : ℕ) where
   -- ---- a candidate that is to be expanded: each way that it goes
 
   pub adds_none : (m : List ℕ) (t : Counts) (id n : ℕ) → Queued T id → (found T (depth T.asked id) id).present ≡ 0 → n ≡ leaves_of id
-      → Does E T i (add (in_edition T) (grown i id) false) m t m (Turn.Going (aside_of T.asked.inner t n))
+      → Does E T i (add (in_edition T) (grown i id) false) m t m (Ok (aside_of T.asked.inner t n))
   unfolding Gives
   adds_none m t id n Q z e =
       let b : is_empty (expansion_of T id).children ≡ true = is_empty_lem T D id ∙ eq-eqb _ 0 z in
@@ -222,12 +222,12 @@ module _ (E : Engine) (T : Task) (D : Domain T.asked) (i : ℕ) where
   full_is v m t s f h S z = rw (raw_length E T i h S) (sym z)
 
   pub child_none : (m : List ℕ) (t : Counts) (b : Brood) (j : ℕ) → is_in b.present j ≡ false
-      → Does E T i (add_all (in_edition T) i (child_if b j)) m t m (Turn.Going t)
+      → Does E T i (add_all (in_edition T) i (child_if b j)) m t m (Ok t)
   unfolding add_all
   child_none m t b j e = does_nothing E T i (add_all (in_edition T) i (child_if b j)) m t (λ v s S. rw (child_away b j e))
 
   pub child_full : (m : List ℕ) (t : Counts) (b : Brood) (j : ℕ) (f : Bool) → memory_words ≤ length m → is_in b.present j ≡ true → f ≡ (T.asked.inner && leb (max_cells T.asked) t.kept) → f ≡ true
-      → Does E T i (add_all (in_edition T) i (child_if b j)) m t m (Turn.Going t)
+      → Does E T i (add_all (in_edition T) i (child_if b j)) m t m (Ok t)
   unfolding add_all
   child_full m t b j f h e ef t' = does_nothing E T i (add_all (in_edition T) i (child_if b j)) m t
       (λ v s S. rw (child_there b j e, add_all, full_is v m t s f h S ef ∙ t'))
@@ -248,12 +248,12 @@ module _ (E : Engine) (T : Task) (D : Domain T.asked) (i : ℕ) where
     add_kept m' r e d a = (adds_kept m t m' r id b e d, up_to t.aside _ r (omega arith) a)
 
     pub add_empty : (f : Found) (n : ℕ) (u : Counts) → b ≡ false → f ≡ found T (depth T.asked id) id → f.present ≡ 0 → n ≡ low_bit id → u ≡ aside_of T.asked.inner t n
-        → Does E T i (add (in_edition T) (grown i id) b) m t m (Turn.Going u) × AsideUpTo (t.aside + leaves_of id) (Turn.Going u)
+        → Does E T i (add (in_edition T) (grown i id) b) m t m (Ok u) × AsideUpTo (t.aside + leaves_of id) (Ok u)
     unfolding AsideUpTo
     add_empty f n u e ef z en eu =
         let Q = queued T D id b e C in
         let l : n ≡ leaves_of id = en ∙ low_leaves id C.fit.cell in (
-          adds_open m t m (Turn.Going u) id b e (rw eu (adds_none m t id n Q (ap (λ (x : Found). x.present) (sym ef) ∙ z) l)),
+          adds_open m t m (Ok u) id b e (rw eu (adds_none m t id n Q (ap (λ (x : Found). x.present) (sym ef) ∙ z) l)),
           omega (arith, ap (λ (x : Counts). x.aside) eu, aside_le T.asked.inner t n),
         )
 

@@ -1,4 +1,7 @@
 -- From what the engine's memory and counts stand for to its answer and the memory that it leaves; and that an answer is all that its contract allows.
+use Rattle.std.specs.Prelude.{Result}
+use Rattle.std.specs.Prelude.Result.{Ok, Err}
+use Rattle.refusal.specs.declared.Refusal.{Refusal}
 use mathlib.Core.Path.{◌≡◌, sym, ap, ◌∙◌, subst}
 use mathlib.Core.List.{List}
 use Prim.Native.Nat.{ℕ, ◌+◌, ◌≤◌, ◌<◌}
@@ -9,10 +12,9 @@ use Rattle.totals.proofs.Laws.{totals_by_lem}
 use Rattle.run.specs.Sixes.{aside_from, aside_six}
 use Rattle.queue.specs.declared.Engine.{Engine}
 use Rattle.coverer.specs.declared.Tally.{Tally}
-use Rattle.coverer.specs.declared.Stage.{Stage}
 use Rattle.coverer.specs.declared.Ran.{Ran}
 use Rattle.coverer.specs.Coverer.{cleared, engine_answer, engine_memory}
-use Rattle.coverer.specs.Engine.{Holds, Leads, Comes}
+use Rattle.coverer.specs.Engine.{Stage, ran_of, Holds, Leads, Comes}
 use Rattle.coverer.proofs.Memory.{cleared_front, cleared_only}
 use Rattle.coverer.proofs.Stands.{raw_length}
 use Rattle.coverer.proofs.Runs.{waiting, idle, unless_queued, run_after}
@@ -27,15 +29,15 @@ module _ (E : Engine) (T : Task) (l : List ℕ) (k : ℕ) (m m₁ : List ℕ) (r
   o = run (in_edition T) l k
 
   -- a refusal's number, and the words of a run cleared
-  refuses : (n : ℕ) (v : Ran) (m₂ : List ℕ) → o ≡ refused n → (v ≡ Ran.Refused n) × (m₂ ≡ cleared 0 memory_words m₁) → (v ≡ engine_answer o) × (m₂ ≡ engine_memory o m)
+  refuses : (n : Refusal) (v : Result Ran Refusal) (m₂ : List ℕ) → o ≡ refused n → (v ≡ Err n) × (m₂ ≡ cleared 0 memory_words m₁) → (v ≡ engine_answer o) × (m₂ ≡ engine_memory o m)
   unfolding engine_answer engine_memory
   refuses n v m₂ e d = (rw e d.0, rw e (d.1 ∙ cleared_front memory_words m m₁ C.frame))
 
-  pub answer_refused : (n : ℕ) (v : Ran) (m₂ : List ℕ) → r ≡ Stage.Refused n → (v ≡ Ran.Refused n) × (m₂ ≡ cleared 0 memory_words m₁) → (v ≡ engine_answer o) × (m₂ ≡ engine_memory o m)
+  pub answer_refused : (n : Refusal) (v : Result Ran Refusal) (m₂ : List ℕ) → r ≡ Err n → (v ≡ Err n) × (m₂ ≡ cleared 0 memory_words m₁) → (v ≡ engine_answer o) × (m₂ ≡ engine_memory o m)
   unfolding Leads then
   answer_refused n v m₂ e = refuses n v m₂ (run_after (in_edition T) l k ∙ ap (λ (x : Outcome). then x unless_queued) (subst (λ (y : Stage). Leads E T m₁ y (after (in_edition T) l k)) e C.gives))
 
-  module _ (t : Tally) (e : r ≡ Stage.Going t) where
+  module _ (t : Tally) (e : r ≡ Ok t) where
     ended : (s : State) × (after (in_edition T) l k ≡ going s) × Holds E T m₁ t s
     unfolding Leads
     ended = subst (λ (y : Stage). Leads E T m₁ y (after (in_edition T) l k)) e C.gives
@@ -44,14 +46,14 @@ module _ (E : Engine) (T : Task) (l : List ℕ) (k : ℕ) (m m₁ : List ℕ) (r
     unfolding then
     comes_to_lem = run_after (in_edition T) l k ∙ ap (λ (x : Outcome). then x unless_queued) ended.1
 
-    pub answer_spent : (v : Ran) (m₂ : List ℕ) → 0 < t.queued → (v ≡ Ran.Refused 9) × (m₂ ≡ cleared 0 memory_words m₁) → (v ≡ engine_answer o) × (m₂ ≡ engine_memory o m)
+    pub answer_spent : (v : Result Ran Refusal) (m₂ : List ℕ) → 0 < t.queued → (v ≡ Err Refusal.Allowance) × (m₂ ≡ cleared 0 memory_words m₁) → (v ≡ engine_answer o) × (m₂ ≡ engine_memory o m)
     unfolding unless_queued
-    answer_spent v m₂ some = refuses 9 v m₂ (comes_to_lem ∙ rw (waiting E T some ended.2, unless_queued))
+    answer_spent v m₂ some = refuses Refusal.Allowance v m₂ (comes_to_lem ∙ rw (waiting E T some ended.2, unless_queued))
 
     pub answer_room : t.kept ≤ raw_most
     answer_room = (ended.2.at 0).room
 
-    pub answer_done : (v : Ran) (m₂ : List ℕ) → memory_words ≤ length m₁ → t.queued ≤ 0 → (v ≡ Ran.Done t.kept t.steps t.aside) × (m₂ ≡ cleared (queue_words + t.kept) memory_words (cleared 0 queue_words m₁)) → (v ≡ engine_answer o) × (m₂ ≡ engine_memory o m)
+    pub answer_done : (v : Result Ran Refusal) (m₂ : List ℕ) → memory_words ≤ length m₁ → t.queued ≤ 0 → (v ≡ Ok (ran_of t)) × (m₂ ≡ cleared (queue_words + t.kept) memory_words (cleared 0 queue_words m₁)) → (v ≡ engine_answer o) × (m₂ ≡ engine_memory o m)
     unfolding engine_answer engine_memory unless_queued
     answer_done v m₂ long none d =
         let S = ended.2 in
@@ -62,5 +64,5 @@ module _ (E : Engine) (T : Task) (l : List ℕ) (k : ℕ) (m m₁ : List ℕ) (r
         )
 
 -- any two results that the engine's contract allows are one: the answer, and the whole memory
-pub determined : (o : Outcome) (m : List ℕ) (r r' : Ran) (m₁ m₂ : List ℕ) → (r ≡ engine_answer o) × (m₁ ≡ engine_memory o m) → (r' ≡ engine_answer o) × (m₂ ≡ engine_memory o m) → (r ≡ r') × (m₁ ≡ m₂)
+pub determined : (o : Outcome) (m : List ℕ) (r r' : Result Ran Refusal) (m₁ m₂ : List ℕ) → (r ≡ engine_answer o) × (m₁ ≡ engine_memory o m) → (r' ≡ engine_answer o) × (m₂ ≡ engine_memory o m) → (r ≡ r') × (m₁ ≡ m₂)
 determined o m r r' m₁ m₂ a b = (a.0 ∙ sym b.0, a.1 ∙ sym b.1)

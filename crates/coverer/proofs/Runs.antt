@@ -1,4 +1,6 @@
 -- The start cells, one after another, and the steps until the queue is empty. Over any request and any two tests.
+use Rattle.std.specs.Prelude.Result.{Ok, Err}
+use Rattle.refusal.specs.declared.Refusal.{Refusal}
 use mathlib.Core.Path.{◌≡◌, refl, sym, ap, ◌∙◌, subst}
 use mathlib.Core.Bool.{true, false}
 use mathlib.Core.Logic.{◌≢◌, ⊎_elim, by_cases}
@@ -33,10 +35,8 @@ use Rattle.queue.proofs.Laws.{in_queue}
 use Rattle.candidate.specs.declared.Candidate.{Candidate}
 use Rattle.candidate.specs.Candidate.{candidate_of}
 use Rattle.coverer.specs.declared.Counts.{Counts}
-use Rattle.coverer.specs.declared.Turn.{Turn}
 use Rattle.coverer.specs.declared.Tally.{Tally}
-use Rattle.coverer.specs.declared.Stage.{Stage}
-use Rattle.coverer.specs.Engine.{past, aside_of, grown, rec_of, Taken, stage_after, Stands, Gives, Does, Holds, Leads, Comes, Reached, Live}
+use Rattle.coverer.specs.Engine.{Turn, Stage, past, aside_of, grown, rec_of, Taken, stage_after, Stands, Gives, Does, Holds, Leads, Comes, Reached, Live}
 use Rattle.coverer.proofs.Memory.{words_none, words_past, past_later}
 use Rattle.coverer.proofs.Stands.{rec_tells, rest_past, queue_length, sets_aside, aside_in, does_as}
 use Rattle.coverer.proofs.Adds.{low_leaves}
@@ -71,7 +71,7 @@ some_wait (x ∷ l) h = refl
 
 -- 9: "the queue isn't empty and the allowance is used up"
 unfoldable pub unless_queued : State → Outcome
-unless_queued s = elim (is_empty s.queue) [ true ↦ going s | false ↦ refused 9 ]
+unless_queued s = elim (is_empty s.queue) [ true ↦ going s | false ↦ refused Refusal.Allowance ]
 
 -- n steps on from a state; with an empty queue there is no step
 unfoldable onward : Course → ℕ → State → Outcome
@@ -119,7 +119,7 @@ module _ (C : Course) where
       then_cong (after C l 0) _ _ (loop_onward n) ∙ sym (then_then (after C l 0) (onward C n) unless_queued) ∙ ap (λ (o : Outcome). then o unless_queued) (sym (after_onward l n))
 
   -- a refusal stays, and so does a state with an empty queue
-  after_refused : (l : List ℕ) (n k x : ℕ) → n ≤ k → after C l n ≡ refused x → after C l k ≡ refused x
+  after_refused : (l : List ℕ) (n k : ℕ) (x : Refusal) → n ≤ k → after C l n ≡ refused x → after C l k ≡ refused x
   unfolding then
   after_refused l n k x h e =
       let z : k ≡ n + (k - n) = omega arith in
@@ -155,7 +155,7 @@ module _ (E : Engine) (T : Task) (i : ℕ) where
         (λ v s S. ap (λ (x : Look). start_as (in_edition T) x (grown i id) s) (queued_look (look T id) (sym is ∙ e)))
 
   none_gives : (v : ℕ → ℕ) (m : List ℕ) (t : Counts) (id n : ℕ) (s : State) (x : Look) → n ≡ leaves_of id → look T id ≡ x → candidate_of x ≡ Candidate.None → Stands E T i v m t s
-      → Gives E T i v m (Turn.Going (aside_of T.asked.inner t n)) (start_as (in_edition T) x (grown i id) s)
+      → Gives E T i v m (Ok (aside_of T.asked.inner t n)) (start_as (in_edition T) x (grown i id) s)
   unfolding Gives start_as candidate_of MeansBy sum_of
   none_gives v m t id n s fails e l c S = (set_aside T.asked i (id ∷ []) s, refl, sets_aside E T i v m t n (id ∷ []) s (λ o. e ∙ omega arith) S)
   none_gives v m t id n s none e l c S = (s, refl, rw (aside_in T.asked.inner t n (look_means T id none l)) S)
@@ -163,19 +163,19 @@ module _ (E : Engine) (T : Task) (i : ℕ) where
   none_gives v m t id n s divide e l c S = let z : ◌≡◌ {A = ℕ} 0 1 = cc in absurd (omega arith)
 
   pub start_none : (m : List ℕ) (t u : Counts) (id n : ℕ) (c : Candidate) → Fit T.asked id → c ≡ candidate_of (look T id) → c ≡ Candidate.None → n ≡ low_bit id → u ≡ aside_of T.asked.inner t n
-      → Does E T i (start_as (in_edition T) (look T id) (grown i id)) m t m (Turn.Going u)
+      → Does E T i (start_as (in_edition T) (look T id) (grown i id)) m t m (Ok u)
   start_none m t u id n c F is e en eu =
       record { gives = λ v s S. rw eu (none_gives v m t id n s (look T id) (en ∙ low_leaves id F.cell) refl (sym is ∙ e) S); frame = refl }
 
 -- ---- a turn is over
 
 -- the other totals are as they were
-after_others : (r : Turn) (x : Totals) (i : ℕ) (u : Tally) → Stage.Going u ≡ stage_after r x i → (j : ℕ) → i ≢ j → total_at u.aside j ≡ total_at x j
+after_others : (r : Turn) (x : Totals) (i : ℕ) (u : Tally) → Ok u ≡ stage_after r x i → (j : ℕ) → i ≢ j → total_at u.aside j ≡ total_at x j
 unfolding stage_after
-after_others (Turn.Refused n) x i u a j d = let z : ◌≡◌ {A = ℕ} 0 1 = cc in absurd (omega arith)
-after_others (Turn.Going t) x i u a j d = ap (λ (y : Totals). total_at y j) (stage_aside u _ a) ∙ with_other x i t.aside j d
+after_others (Err n) x i u a j d = let z : ◌≡◌ {A = ℕ} 0 1 = cc in absurd (omega arith)
+after_others (Ok t) x i u a j d = ap (λ (y : Totals). total_at y j) (stage_aside u _ a) ∙ with_other x i t.aside j d
   where
-    stage_aside : (u w : Tally) → Stage.Going u ≡ Stage.Going w → u.aside ≡ w.aside
+    stage_aside : (u w : Tally) → ◌≡◌ {A = Stage} (Ok u) (Ok w) → u.aside ≡ w.aside
     stage_aside u w e = let z : u ≡ w = cc in ap (λ (t : Tally). t.aside) z
 
 module _ (E : Engine) (T : Task) where
@@ -193,8 +193,8 @@ module _ (E : Engine) (T : Task) where
 
   turn_over : (i : ℕ) (x : Totals) (m : List ℕ) (turn : Turn) (r : Stage) (o : Outcome) → i < places_most → length x.six ≡ places_most → r ≡ stage_after turn x i → Gives E T i (total_at x) m turn o → Leads E T m r o
   unfolding stage_after Gives Leads
-  turn_over i x m (Turn.Refused n) r o h six a g = rw a g
-  turn_over i x m (Turn.Going t) r o h six a g = rw a (g.0, g.1, holds_after i x m t g.0 h six g.2)
+  turn_over i x m (Err n) r o h six a g = rw a g
+  turn_over i x m (Ok t) r o h six a g = rw a (g.0, g.1, holds_after i x m t g.0 h six g.2)
 
   -- ---- the start cells, one after another: l are all of them, i of them are done
 
@@ -253,7 +253,7 @@ module _ (E : Engine) (T : Task) where
     on : start_all (in_edition T) (placed i (drop i l)) I.state ≡ then (start_as (in_edition T) (look T x) (grown i x) I.state) (start_all (in_edition T) (placed (i + 1) (drop (i + 1) l)))
     on = turned l i x I.state h ex
 
-    pub starting_turn : (u : Tally) → r ≡ Stage.Going u → Starting l m₀ m' u (i + 1)
+    pub starting_turn : (u : Tally) → r ≡ Ok u → Starting l m₀ m' u (i + 1)
     unfolding Leads then
     starting_turn u er =
         let g = subst (λ (y : Stage). Leads E T m' y (start_as (in_edition T) (look T x) (grown i x) I.state)) er led in
@@ -265,7 +265,7 @@ module _ (E : Engine) (T : Task) where
           frame = d.frame ∙ I.frame;
         }
 
-    pub starting_stop : (n : ℕ) → r ≡ Stage.Refused n → Comes E T (after (in_edition T) l 0) m₀ m' (Stage.Refused n)
+    pub starting_stop : (n : Refusal) → r ≡ Err n → Comes E T (after (in_edition T) l 0) m₀ m' (Err n)
     unfolding Leads then
     starting_stop n er =
         let g = subst (λ (y : Stage). Leads E T m' y (start_as (in_edition T) (look T x) (grown i x) I.state)) er led in
@@ -274,7 +274,7 @@ module _ (E : Engine) (T : Task) where
           frame = d.frame ∙ I.frame;
         }
 
-  pub starting_end : (l m₀ m : List ℕ) (t : Tally) (i : ℕ) → i ≡ length l → Starting l m₀ m t i → Comes E T (after (in_edition T) l 0) m₀ m (Stage.Going t)
+  pub starting_end : (l m₀ m : List ℕ) (t : Tally) (i : ℕ) → i ≡ length l → Starting l m₀ m t i → Comes E T (after (in_edition T) l 0) m₀ m (Ok t)
   unfolding Leads start_all placed
   starting_end l m₀ m t i e I =
       let d : drop i l ≡ [] = ap (λ (j : ℕ). drop j l) e ∙ drop-length l in
@@ -421,20 +421,20 @@ module _ (E : Engine) (T : Task) where
 
   module _ (k : ℕ) (m₀ : List ℕ) (t₀ : Tally) (m : List ℕ) (t : Tally) (I : Going k m₀ t₀ m t) where
     -- the allowance is used up, or the queue is empty
-    pub going_spent : t.steps ≡ k → (l : List ℕ) → Reached E T l m₀ t₀ → Comes E T (after (in_edition T) l k) m₀ m (Stage.Going t)
+    pub going_spent : t.steps ≡ k → (l : List ℕ) → Reached E T l m₀ t₀ → Comes E T (after (in_edition T) l k) m₀ m (Ok t)
     unfolding Leads
     going_spent e l R₀ =
         let R = I.goes l R₀ in
         record { gives = (R.state, ap (after (in_edition T) l) (sym e) ∙ R.is, R.holds); frame = I.frame }
 
-    pub going_end : t.queued ≤ 0 → (l : List ℕ) → Reached E T l m₀ t₀ → Comes E T (after (in_edition T) l k) m₀ m (Stage.Going t)
+    pub going_end : t.queued ≤ 0 → (l : List ℕ) → Reached E T l m₀ t₀ → Comes E T (after (in_edition T) l k) m₀ m (Ok t)
     unfolding Leads
     going_end h l R₀ =
         let R = I.goes l R₀ in
         record { gives = (R.state, after_idle (in_edition T) l t.steps k R.state I.left R.is (empty_nil R.state.queue (idle h R.holds)), R.holds); frame = I.frame }
 
     module _ (m' : List ℕ) (r : Stage) (some : 0 < t.queued) (left : t.steps ≡ k → ⊥) (d : (l : List ℕ) → Reached E T l m t → Comes E T (after (in_edition T) l (t.steps + 1)) m m' r) where
-      pub going_stop : (n : ℕ) → r ≡ Stage.Refused n → (l : List ℕ) → Reached E T l m₀ t₀ → Comes E T (after (in_edition T) l k) m₀ m' (Stage.Refused n)
+      pub going_stop : (n : Refusal) → r ≡ Err n → (l : List ℕ) → Reached E T l m₀ t₀ → Comes E T (after (in_edition T) l k) m₀ m' (Err n)
       unfolding Leads
       going_stop n e l R₀ =
           let C = d l (I.goes l R₀) in
@@ -442,7 +442,7 @@ module _ (E : Engine) (T : Task) where
           let over : t.steps ≤ k = I.left in
           record { gives = after_refused (in_edition T) l (t.steps + 1) k n (omega arith) g; frame = C.frame ∙ I.frame }
 
-      next : (u : Tally) → r ≡ Stage.Going u → (l : List ℕ) → Reached E T l m t → Reached E T l m' u × (u.steps ≡ t.steps + 1)
+      next : (u : Tally) → r ≡ Ok u → (l : List ℕ) → Reached E T l m t → Reached E T l m' u × (u.steps ≡ t.steps + 1)
       unfolding Leads after then
       next u e l R =
           let C = d l R in
@@ -453,7 +453,7 @@ module _ (E : Engine) (T : Task) where
           (g.2.at 0).steps ∙ steps_one T (by_edition T) R.state g.0 (waiting some R.holds) one_step ∙ sym (ap suc (R.holds.at 0).steps) ∙ sym (add-one t.steps) in
           (record { state = g.0; is = ap (after (in_edition T) l) one ∙ g.1; holds = g.2 }, one)
 
-      pub going_turn : (u : Tally) → r ≡ Stage.Going u → Going k m₀ t₀ m' u × (u.steps ≡ t.steps + 1)
+      pub going_turn : (u : Tally) → r ≡ Ok u → Going k m₀ t₀ m' u × (u.steps ≡ t.steps + 1)
       going_turn u e =
           let L = I.live in
           let N = next u e L.0 L.3 in
@@ -470,13 +470,13 @@ module _ (E : Engine) (T : Task) where
   -- ---- the start cells, then the steps
 
   module _ (l m m₁ : List ℕ) (r : Stage) (k : ℕ) (C : Comes E T (after (in_edition T) l 0) m m₁ r) where
-    pub runs_refused : (n : ℕ) → r ≡ Stage.Refused n → Comes E T (after (in_edition T) l k) m m₁ (Stage.Refused n)
+    pub runs_refused : (n : Refusal) → r ≡ Err n → Comes E T (after (in_edition T) l k) m m₁ (Err n)
     unfolding Leads
     runs_refused n e =
         let g : after (in_edition T) l 0 ≡ refused n = subst (λ (y : Stage). Leads E T m₁ y (after (in_edition T) l 0)) e C.gives in
         record { gives = after_refused (in_edition T) l 0 k n (omega arith) g; frame = C.frame }
 
-    module _ (t : Tally) (e : r ≡ Stage.Going t) where
+    module _ (t : Tally) (e : r ≡ Ok t) where
       started : (s : State) × (after (in_edition T) l 0 ≡ going s) × Holds E T m₁ t s
       unfolding Leads
       started = subst (λ (y : Stage). Leads E T m₁ y (after (in_edition T) l 0)) e C.gives

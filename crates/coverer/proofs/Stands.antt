@@ -1,4 +1,6 @@
 -- What memory and counts stand for: how it changes with each move of the engine, over any request and any two tests.
+use Rattle.std.specs.Prelude.Result.{Ok, Err}
+use Rattle.refusal.specs.declared.Refusal.{Refusal}
 use mathlib.Core.Path.{◌≡◌, refl, sym, ap, ap₂, ◌∙◌}
 use mathlib.Core.Bool.{Bool, true, false}
 use mathlib.Core.Logic.{⊎_elim}
@@ -24,8 +26,7 @@ use Rattle.queue.specs.declared.Engine.{Engine}
 use Rattle.queue.specs.Queue.{add_r, rest_r}
 use Rattle.queue.proofs.Laws.{in_queue, add_out, rest_out, get_r_out}
 use Rattle.coverer.specs.declared.Counts.{Counts}
-use Rattle.coverer.specs.declared.Turn.{Turn}
-use Rattle.coverer.specs.Engine.{words_at, past, grown, rec_of, Stands, Gives, Does, aside_of, AsideUpTo}
+use Rattle.coverer.specs.Engine.{Turn, words_at, past, grown, rec_of, Stands, Gives, Does, aside_of, AsideUpTo}
 use Rattle.coverer.proofs.Memory.{words_length, words_more, words_past, past_set, past_later}
 
 -- ---- the queue's moves leave the words past the records as they are
@@ -57,8 +58,8 @@ aside_le false t n = omega arith
 
 pub up_to : (n k : ℕ) (r : Turn) → n ≤ k → AsideUpTo n r → AsideUpTo k r
 unfolding AsideUpTo
-up_to n k (Turn.Refused x) h a = tt
-up_to n k (Turn.Going t) h a = omega (arith, a)
+up_to n k (Err x) h a = tt
+up_to n k (Ok t) h a = omega (arith, a)
 
 -- ---- a queued cell's record
 
@@ -99,7 +100,7 @@ module _ (e : Engine) (T : Task) (i : ℕ) where
   raw_more s c m m' k e d = d ∙ ap (λ (l : List ℕ). l ++ (c.id ∷ [])) e ∙ sym (map-append (λ (x : Grown). x.id) s.raw (c ∷ []))
 
   pub keeps : (m : List ℕ) (t : Counts) (id : ℕ) → memory_words ≤ length m → t.kept < raw_most
-      → Does e T i (keep (grown i id)) m t (set m (queue_words + t.kept) id) (Turn.Going (record { kept = t.kept + 1; queued = t.queued; aside = t.aside; steps = t.steps }))
+      → Does e T i (keep (grown i id)) m t (set m (queue_words + t.kept) id) (Ok (record { kept = t.kept + 1; queued = t.queued; aside = t.aside; steps = t.steps }))
   unfolding Gives aside_from
   keeps m t id h g = record {
     gives = λ v s S.
@@ -120,14 +121,14 @@ module _ (e : Engine) (T : Task) (i : ℕ) where
     frame = past_set memory_words (queue_words + t.kept) id m (omega arith);
   }
 
-  pub keeps_not : (m : List ℕ) (t : Counts) (id : ℕ) → memory_words ≤ length m → raw_most ≤ t.kept → Does e T i (keep (grown i id)) m t m (Turn.Refused 8)
+  pub keeps_not : (m : List ℕ) (t : Counts) (id : ℕ) → memory_words ≤ length m → raw_most ≤ t.kept → Does e T i (keep (grown i id)) m t m (Err Refusal.RawFull)
   unfolding Gives
   keeps_not m t id h g = record { gives = λ v s S. keep_stop T (by_edition T) (grown i id) s (omega (arith, raw_length h S)); frame = refl }
 
   -- ---- one more queued
 
   pub queues : 0 < level_mod T.asked → i < places_most → (m : List ℕ) (t : Counts) (r : Rec) (m' : List ℕ) → memory_words ≤ length m → t.queued < queue_most → r ≡ rec_of T (grown i r.id) → m' ≡ add_r e m t.queued r
-      → Does e T i (enqueue (by_edition T) (grown i r.id)) m t m' (Turn.Going (record { kept = t.kept; queued = t.queued + 1; aside = t.aside; steps = t.steps }))
+      → Does e T i (enqueue (by_edition T) (grown i r.id)) m t m' (Ok (record { kept = t.kept; queued = t.queued + 1; aside = t.aside; steps = t.steps }))
   unfolding Gives aside_from raw_ids
   queues some placed m t r m' h g is em =
       let beyond : past queue_words m' ≡ past queue_words m = ap (past queue_words) em ∙ add_past e queue_most queue_words m t.queued r g refl in
@@ -151,7 +152,7 @@ module _ (e : Engine) (T : Task) (i : ℕ) where
         frame = past_later queue_words memory_words m _ (omega arith) beyond;
       }
 
-  pub queues_not : (m : List ℕ) (t : Counts) (id : ℕ) → queue_most ≤ t.queued → Does e T i (enqueue (by_edition T) (grown i id)) m t m (Turn.Refused 7)
+  pub queues_not : (m : List ℕ) (t : Counts) (id : ℕ) → queue_most ≤ t.queued → Does e T i (enqueue (by_edition T) (grown i id)) m t m (Err Refusal.QueueFull)
   unfolding Gives
   queues_not m t id g = record { gives = λ v s S. enqueue_stop T (by_edition T) (grown i id) s (omega (arith, queue_length S)); frame = refl }
 
@@ -204,7 +205,7 @@ module _ (e : Engine) (T : Task) (i : ℕ) where
   does_as f g m t m' r z D = record { gives = λ v s S. gives_as v m' r (f s) (g s) (z v s S) (D.gives v s S); frame = D.frame }
 
   -- nothing is done
-  pub does_nothing : (f : State → Outcome) (m : List ℕ) (t : Counts) → ((v : ℕ → ℕ) (s : State) → Stands e T i v m t s → f s ≡ going s) → Does e T i f m t m (Turn.Going t)
+  pub does_nothing : (f : State → Outcome) (m : List ℕ) (t : Counts) → ((v : ℕ → ℕ) (s : State) → Stands e T i v m t s → f s ≡ going s) → Does e T i f m t m (Ok t)
   unfolding Gives
   does_nothing f m t z = record { gives = λ v s S. (s, z v s S, S); frame = refl }
 
@@ -219,7 +220,7 @@ module _ (e : Engine) (T : Task) (i : ℕ) where
   goes_start f m t = record { from = λ v s S. (s, S, refl); frame = refl }
 
   pub goes_turn : (goal rest one next : State → Outcome) (m₀ : List ℕ) (t₀ : Counts) (m : List ℕ) (t : Counts) (m' : List ℕ) (u : Counts)
-      → ((s : State) → rest s ≡ then (one s) next) → Does e T i one m t m' (Turn.Going u) → Goes goal rest m₀ t₀ m t → Goes goal next m₀ t₀ m' u
+      → ((s : State) → rest s ≡ then (one s) next) → Does e T i one m t m' (Ok u) → Goes goal rest m₀ t₀ m t → Goes goal next m₀ t₀ m' u
   unfolding Gives then
   goes_turn goal rest one next m₀ t₀ m t m' u z D G = record {
     from = λ v s₀ S₀.
@@ -229,8 +230,8 @@ module _ (e : Engine) (T : Task) (i : ℕ) where
     frame = D.frame ∙ G.frame;
   }
 
-  pub goes_stop : (goal rest one next : State → Outcome) (m₀ : List ℕ) (t₀ : Counts) (m : List ℕ) (t : Counts) (m' : List ℕ) (n : ℕ)
-      → ((s : State) → rest s ≡ then (one s) next) → Does e T i one m t m' (Turn.Refused n) → Goes goal rest m₀ t₀ m t → Does e T i goal m₀ t₀ m' (Turn.Refused n)
+  pub goes_stop : (goal rest one next : State → Outcome) (m₀ : List ℕ) (t₀ : Counts) (m : List ℕ) (t : Counts) (m' : List ℕ) (n : Refusal)
+      → ((s : State) → rest s ≡ then (one s) next) → Does e T i one m t m' (Err n) → Goes goal rest m₀ t₀ m t → Does e T i goal m₀ t₀ m' (Err n)
   unfolding Gives then
   goes_stop goal rest one next m₀ t₀ m t m' n z D G = record {
     gives = λ v s₀ S₀.
@@ -240,6 +241,6 @@ module _ (e : Engine) (T : Task) (i : ℕ) where
   }
 
   pub goes_end : (goal rest : State → Outcome) (m₀ : List ℕ) (t₀ : Counts) (m : List ℕ) (t : Counts) → ((s : State) → rest s ≡ going s)
-      → Goes goal rest m₀ t₀ m t → Does e T i goal m₀ t₀ m (Turn.Going t)
+      → Goes goal rest m₀ t₀ m t → Does e T i goal m₀ t₀ m (Ok t)
   unfolding Gives
   goes_end goal rest m₀ t₀ m t z G = record { gives = λ v s₀ S₀. let a = G.from v s₀ S₀ in (a.0, sym a.2 ∙ z a.0, a.1); frame = G.frame }

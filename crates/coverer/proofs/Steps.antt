@@ -1,4 +1,5 @@
 -- A taken record: it is handed on to its children, kept, or the end of an inner run. Over any request and any two tests.
+use Rattle.std.specs.Prelude.Result.{Ok}
 use mathlib.Core.Path.{◌≡◌, refl, sym, ap, ap₂, ◌∙◌, subst}
 use mathlib.Core.Bool.{Bool, true, false, ◌&&◌, ◌||◌}
 use mathlib.Core.Logic.{⊎_elim}
@@ -30,9 +31,8 @@ use Rattle.queue.specs.declared.Engine.{Engine}
 use Rattle.records.specs.Records.{from_r, record_of}
 use Rattle.queue.proofs.Laws.{in_queue}
 use Rattle.coverer.specs.declared.Counts.{Counts}
-use Rattle.coverer.specs.declared.Turn.{Turn}
 use Rattle.coverer.specs.declared.Brood.{Brood}
-use Rattle.coverer.specs.Engine.{children_from, leaves_in, brood_of, aside_of, grown, Taken, Stands, Gives, Does, hand_on}
+use Rattle.coverer.specs.Engine.{Turn, children_from, leaves_in, brood_of, aside_of, grown, Taken, Stands, Gives, Does, hand_on}
 use Rattle.coverer.proofs.Stands.{queue_length, raw_length, sets_aside, aside_in, aside_le, does_as}
 use Rattle.coverer.proofs.Adds.{below, full_is, low_leaves}
 
@@ -173,7 +173,7 @@ module _ (T : Task) (D : Domain T.asked) where
 
 module _ (E : Engine) (T : Task) (D : Domain T.asked) (m : List ℕ) (t : Counts) (long : memory_words ≤ length m) (f : Bool) (ef : f ≡ (T.asked.inner && leb (max_cells T.asked) t.kept)) where
   pub taken_full : (i id : ℕ) → f ≡ true
-      → Does E T i (step_with (in_edition T) (grown i id)) m t m (Turn.Going (record { kept = t.kept; queued = 0; aside = t.aside; steps = t.steps }))
+      → Does E T i (step_with (in_edition T) (grown i id)) m t m (Ok (record { kept = t.kept; queued = 0; aside = t.aside; steps = t.steps }))
   unfolding Gives step_with raw_ids aside_from All
   taken_full i id e = record {
     gives = λ v s S. (

@@ -1,4 +1,7 @@
 -- A run as it stands, told in an output: the queue is listed record by record, and what is listed are the defined cells and costs.
+use Rattle.std.specs.Prelude.{Result}
+use Rattle.std.specs.Prelude.Result.{Ok, Err}
+use Rattle.refusal.specs.declared.Refusal.{Refusal}
 use mathlib.Core.Path.{◌≡◌, refl, sym, ap, ap₂, ◌∙◌, subst}
 use mathlib.Core.Bool.{Bool, true, false}
 use mathlib.Core.List.{List, [], ◌∷◌, map}
@@ -22,11 +25,10 @@ use Rattle.queue.specs.declared.Engine.{Engine}
 use Rattle.queue.specs.Queue.{InQueue, next_r, rest_r}
 use Rattle.queue.proofs.Laws.{in_queue}
 use Rattle.coverer.specs.declared.Tally.{Tally}
-use Rattle.coverer.specs.declared.Stage.{Stage}
 use Rattle.coverer.specs.declared.Seen.{Seen}
 use Rattle.coverer.specs.Coverer.{cleared}
 use Rattle.coverer.specs.Watch.{with_costs, standing, seen_of, seen_over}
-use Rattle.coverer.specs.Engine.{words_at, past, listed, rec_of, counts_at, Stands, Holds, Leads, Comes}
+use Rattle.coverer.specs.Engine.{Stage, words_at, past, listed, rec_of, counts_at, Stands, Holds, Leads, Comes}
 use Rattle.coverer.proofs.Memory.{past_later, cleared_front}
 use Rattle.coverer.proofs.Stands.{rec_tells, rest_past, queue_length, raw_length}
 use Rattle.coverer.proofs.Answers.{six_are}
@@ -101,16 +103,17 @@ module _ (T : Task) where
   unfolding standing raw_ids
   standing_length s = length-append (raw_ids s) (with_costs T s.queue) ∙ omega (arith, length-map s.raw (λ (c : Grown). c.id), length_costs s.queue)
 
-  pub seen_room : (room : ℕ) (o : Outcome) (kept queued steps : ℕ) (aside : Totals) → Seen.Standing kept queued steps aside ≡ seen_of T room o → kept + 3 * queued ≤ room
+  pub seen_room : (room : ℕ) (o : Outcome) (kept queued steps : ℕ) (aside : Totals) → Ok (record { kept = kept; queued = queued; steps = steps; aside = aside }) ≡ seen_of T room o → kept + 3 * queued ≤ room
   unfolding seen_of
   seen_room room (refused n) kept queued steps aside e = let z : ◌≡◌ {A = ℕ} 0 1 = cc in absurd (omega arith)
   seen_room room (going s) kept queued steps aside e = by (leb (length (standing T s)) room) refl e
     where
-      by : (b : Bool) → leb (length (standing T s)) room ≡ b → Seen.Standing kept queued steps aside ≡ elim b [ true ↦ Seen.Standing (length s.raw) (length s.queue) s.steps (aside_six s) | false ↦ Seen.Refused 10 ]
+      by : (b : Bool) → leb (length (standing T s)) room ≡ b → ◌≡◌ {A = Result Seen Refusal} (Ok (record { kept = kept; queued = queued; steps = steps; aside = aside })) (elim b [ true ↦ Ok (record { kept = length s.raw; queued = length s.queue; steps = s.steps; aside = aside_six s }) | false ↦ Err Refusal.ListTooLong ])
           → kept + 3 * queued ≤ room
       by true t d =
-          let x : kept ≡ length s.raw = cc in
-          let y : queued ≡ length s.queue = cc in
+          let z : ◌≡◌ {A = Seen} (record { kept = kept; queued = queued; steps = steps; aside = aside }) (record { kept = length s.raw; queued = length s.queue; steps = s.steps; aside = aside_six s }) = cc in
+          let x : kept ≡ length s.raw = ap (λ (v : Seen). v.kept) z in
+          let y : queued ≡ length s.queue = ap (λ (v : Seen). v.queued) z in
           omega (arith, standing_length s, leb-true (length (standing T s)) room t)
       by false t d = let z : ◌≡◌ {A = ℕ} 0 1 = cc in absurd (omega arith)
 
@@ -135,7 +138,7 @@ module _ (E : Engine) (T : Task) (m : List ℕ) (t : Tally) (s : State) (out : L
   length_standing : length (standing T s) ≡ t.kept + 3 * t.queued
   length_standing = standing_length T s ∙ omega (arith, raw_length E T 0 long S, queue_length E T 0 S)
 
-  counted : t.kept + 3 * t.queued ≤ length out → Seen.Standing t.kept t.queued t.steps t.aside ≡ seen_of T (length out) (going s)
+  counted : t.kept + 3 * t.queued ≤ length out → Ok (record { kept = t.kept; queued = t.queued; steps = t.steps; aside = t.aside }) ≡ seen_of T (length out) (going s)
   unfolding seen_of
   counted h = rw (seen_of, le-leb (length (standing T s)) (length out) (omega (arith, length_standing)), raw_length E T 0 long S, queue_length E T 0 S, ← six_are E T H, ← S.steps)
 
@@ -149,10 +152,10 @@ module _ (E : Engine) (T : Task) (m : List ℕ) (t : Tally) (s : State) (out : L
   -- there is room: the kept ids were laid, then the queue was listed
   pub told : (out₁ out₂ : List ℕ) → t.kept + 3 * t.queued ≤ length out → out₁ ≡ laid 0 (words_at queue_words t.kept m) out
       → ((q : List Rec) → InQueue E m t.queued q → out₂ ≡ laid t.kept (listed q) out₁)
-      → (Seen.Standing t.kept t.queued t.steps t.aside ≡ seen_of T (length out) (going s)) × (out₂ ≡ seen_over T (going s) out)
+      → (Ok (record { kept = t.kept; queued = t.queued; steps = t.steps; aside = t.aside }) ≡ seen_of T (length out) (going s)) × (out₂ ≡ seen_over T (going s) out)
   told out₁ out₂ h a b = (counted h, b (map (rec_of T) s.queue) S.queue ∙ rw (listed_costs T s.queue S.places, a, S.raw) (laid_standing h))
 
-  pub told_not : length out < t.kept + 3 * t.queued → (Seen.Refused 10 ≡ seen_of T (length out) (going s)) × (out ≡ seen_over T (going s) out)
+  pub told_not : length out < t.kept + 3 * t.queued → (Err Refusal.ListTooLong ≡ seen_of T (length out) (going s)) × (out ≡ seen_over T (going s) out)
   unfolding seen_of seen_over
   told_not h =
       let no = lt-leb (length (standing T s)) (length out) (omega (arith, length_standing)) in
@@ -161,14 +164,14 @@ module _ (E : Engine) (T : Task) (m : List ℕ) (t : Tally) (s : State) (out : L
 -- ---- the whole watch
 
 module _ (E : Engine) (T : Task) (l : List ℕ) (k : ℕ) (m m₁ : List ℕ) (r : Stage) (C : Comes E T (after (in_edition T) l k) m m₁ r) where
-  pub watch_refused : (n : ℕ) (out m₂ : List ℕ) → r ≡ Stage.Refused n → m₂ ≡ cleared 0 memory_words m₁
-      → (Seen.Refused n ≡ seen_of T (length out) (after (in_edition T) l k)) × (out ≡ seen_over T (after (in_edition T) l k) out) × (m₂ ≡ cleared 0 memory_words m)
+  pub watch_refused : (n : Refusal) (out m₂ : List ℕ) → r ≡ Err n → m₂ ≡ cleared 0 memory_words m₁
+      → (Err n ≡ seen_of T (length out) (after (in_edition T) l k)) × (out ≡ seen_over T (after (in_edition T) l k) out) × (m₂ ≡ cleared 0 memory_words m)
   unfolding Leads seen_of seen_over
   watch_refused n out m₂ e d =
       let o : after (in_edition T) l k ≡ refused n = subst (λ (y : Stage). Leads E T m₁ y (after (in_edition T) l k)) e C.gives in
       (rw o refl, rw o refl, d ∙ cleared_front memory_words m m₁ C.frame)
 
-  module _ (t : Tally) (e : r ≡ Stage.Going t) where
+  module _ (t : Tally) (e : r ≡ Ok t) where
     ended : (s : State) × (after (in_edition T) l k ≡ going s) × Holds E T m₁ t s
     unfolding Leads
     ended = subst (λ (y : Stage). Leads E T m₁ y (after (in_edition T) l k)) e C.gives
@@ -176,7 +179,7 @@ module _ (E : Engine) (T : Task) (l : List ℕ) (k : ℕ) (m m₁ : List ℕ) (r
     pub watch_few : (t.kept ≤ raw_most) × (t.queued ≤ queue_most)
     watch_few = ((ended.2.at 0).room, (ended.2.at 0).few)
 
-    pub watch_told : (v : Seen) (out out₂ m₂ m₃ : List ℕ)
+    pub watch_told : (v : Result Seen Refusal) (out out₂ m₂ m₃ : List ℕ)
         → ((T : Task) (s : State) → Holds E T m₁ t s → (v ≡ seen_of T (length out) (going s)) × (out₂ ≡ seen_over T (going s) out))
         → past memory_words m₂ ≡ past memory_words m₁ → m₃ ≡ cleared 0 memory_words m₂
         → (v ≡ seen_of T (length out) (after (in_edition T) l k)) × (out₂ ≡ seen_over T (after (in_edition T) l k) out) × (m₃ ≡ cleared 0 memory_words m)

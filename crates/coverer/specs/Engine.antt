@@ -3,6 +3,9 @@
 -- the memory stands for before, it stands for the defined next one afterwards. A part that works on the cells of the start cell i counts the leaves that are
 -- set aside under it and leaves the other totals alone. Of the queue no more is said than that it is `InQueue`, for the engine e.
 use Rattle.std.specs.Prelude.{◌≡◌, ◌≢◌, Bool, true, false, List, [], ◌∷◌, map, ℕ, ◌+◌, ◌-◌, ◌*◌, ◌/◌, ◌%◌, ◌^◌, ◌≤◌, ◌<◌, eqb, length, take, drop}
+use Rattle.std.specs.Prelude.{Result}
+use Rattle.std.specs.Prelude.Result.{Ok, Err}
+use Rattle.refusal.specs.declared.Refusal.{Refusal}
 use Rattle.cellid.specs.CellId.{low_bit, leaves_of}
 use Rattle.order.specs.Order.{All}
 use Rattle.totals.specs.declared.Totals.{Totals}
@@ -17,10 +20,16 @@ use Rattle.records.specs.Records.{cost_r, from_r, record_of}
 use Rattle.queue.specs.declared.Engine.{Engine}
 use Rattle.queue.specs.Queue.{InQueue}
 use Rattle.coverer.specs.declared.Counts.{Counts}
-use Rattle.coverer.specs.declared.Turn.{Turn}
 use Rattle.coverer.specs.declared.Tally.{Tally}
-use Rattle.coverer.specs.declared.Stage.{Stage}
 use Rattle.coverer.specs.declared.Brood.{Brood}
+use Rattle.coverer.specs.declared.Ran.{Ran}
+
+-- what a part of the work on the cells of one start cell comes to, and what a part of the run comes to
+abbrev pub Turn : Type 0
+Turn = Result Counts Refusal
+
+abbrev pub Stage : Type 0
+Stage = Result Tally Refusal
 
 -- the k words from the word a on
 unfoldable pub words_at : ℕ → ℕ → List ℕ → List ℕ
@@ -75,8 +84,8 @@ listed (r ∷ l) = r.id ∷ cost_r r ∷ from_r r ∷ listed l
 
 -- a set-aside total of at most n
 unfoldable pub AsideUpTo : ℕ → Turn → Type 0
-AsideUpTo n (Turn.Refused k) = Unit
-AsideUpTo n (Turn.Going t) = t.aside ≤ n
+AsideUpTo n (Err r) = Unit
+AsideUpTo n (Ok t) = t.aside ≤ n
 
 module _ (T : Task) where
   -- a queued cell's record: the cell, the two sets of its expansion, its cost and its start cell's place
@@ -101,10 +110,14 @@ module _ (T : Task) where
 abbrev pub counts_at : ℕ → Tally → Counts
 counts_at i t = record { kept = t.kept; queued = t.queued; aside = total_at t.aside i; steps = t.steps }
 
+-- what the engine answers of a run that is over
+abbrev pub ran_of : Tally → Ran
+ran_of t = record { count = t.kept; steps = t.steps; aside = t.aside }
+
 -- what a turn of the start cell i comes to for the run, where the totals were x before
 unfoldable pub stage_after : Turn → Totals → ℕ → Stage
-stage_after (Turn.Refused n) x i = Stage.Refused n
-stage_after (Turn.Going t) x i = Stage.Going (record { kept = t.kept; queued = t.queued; steps = t.steps; aside = with_total x i t.aside })
+stage_after (Err r) x i = Err r
+stage_after (Ok t) x i = Ok (record { kept = t.kept; queued = t.queued; steps = t.steps; aside = with_total x i t.aside })
 
 module _ (e : Engine) (T : Task) where
   -- in a turn of the start cell i: the memory m and the counts t stand for the state s, where v tells the totals of the other start cells
@@ -120,8 +133,8 @@ module _ (e : Engine) (T : Task) where
 
   -- in such a turn: the memory m and an answer stand for an outcome
   unfoldable pub Gives : ℕ → (ℕ → ℕ) → List ℕ → Turn → Outcome → Type 0
-  Gives i v m (Turn.Refused n) o = o ≡ refused n
-  Gives i v m (Turn.Going t) o = (s : State) × (o ≡ going s) × Stands i v m t s
+  Gives i v m (Err r) o = o ≡ refused r
+  Gives i v m (Ok t) o = (s : State) × (o ≡ going s) × Stands i v m t s
 
   -- in a turn of the start cell i, from m and t to m' and r: the defined f; the words past a run's are left alone
   pub record Does (i : ℕ) (f : State → Outcome) (m : List ℕ) (t : Counts) (m' : List ℕ) (r : Turn) : Type 0 where
@@ -135,8 +148,8 @@ module _ (e : Engine) (T : Task) where
 
   -- between turns: the memory m and an answer stand for an outcome
   unfoldable pub Leads : List ℕ → Stage → Outcome → Type 0
-  Leads m (Stage.Refused n) o = o ≡ refused n
-  Leads m (Stage.Going t) o = (s : State) × (o ≡ going s) × Holds m t s
+  Leads m (Err r) o = o ≡ refused r
+  Leads m (Ok t) o = (s : State) × (o ≡ going s) × Holds m t s
 
   -- from m to m' and r: the outcome o
   pub record Comes (o : Outcome) (m m' : List ℕ) (r : Stage) : Type 0 where

@@ -3,6 +3,7 @@
 #![tactic(auto)]
 
 ghost use Rattle.std.specs.Prelude.{◌≡◌, ℕ, ◌+◌, ◌*◌, ◌^◌, ◌<◌, ◌≤◌, List, length, take};
+ghost use Rattle.std.specs.Prelude.Result.{Ok, Err};
 ghost use Rattle.std.specs.Int.Count.{ones};
 ghost use Rattle.cellid.specs.CellId.{leaves_of};
 ghost use Rattle.order.specs.Order.{All};
@@ -16,14 +17,14 @@ ghost use Rattle.candidate.specs.Candidate.{task_of, Asks};
 ghost use Rattle.records.specs.Records.{from_r};
 ghost use Rattle.queue.specs.declared.Engine.{Engine};
 ghost use Rattle.queue.specs.Queue.{InQueue};
-ghost use Rattle.coverer.specs.declared.Ran.{Ran};
 ghost use Rattle.coverer.specs.Coverer.{cleared, course_of, outcome_of, engine_answer, engine_memory};
 ghost use Rattle.coverer.specs.Watch.{seen_of, seen_over};
-ghost use Rattle.coverer.specs.Engine.{words_at, past, listed, is_in, child_if, children_from, leaves_in, brood_of, aside_of, grown, rec_of, AsideUpTo, Taken, Does, Holds, Comes, stage_after, hand_on, start_one, Reached, Live};
+ghost use Rattle.coverer.specs.Engine.{words_at, past, listed, is_in, child_if, children_from, leaves_in, brood_of, aside_of, grown, rec_of, AsideUpTo, Taken, Does, Holds, Comes, ran_of, stage_after, hand_on, start_one, Reached, Live};
 
 use candidate::Candidate;
 use queue::Engine;
 use records::Rec;
+use refusal::Refusal;
 use region::Region;
 use run::{MEMORY_WORDS, QUEUE_MOST, QUEUE_WORDS, RAW_MOST, Request};
 use totals::Totals;
@@ -37,13 +38,6 @@ struct Counts {
     steps: u32,
 }
 
-// What a part of such work comes to: refused with its number, or going on.
-#[derive(Clone, Copy)]
-enum Turn {
-    Refused(u64),
-    Going(Counts),
-}
-
 // How far a run is: ids kept, records queued, steps taken, leaves set aside under each start cell.
 #[derive(Clone, Copy)]
 struct Tally {
@@ -51,13 +45,6 @@ struct Tally {
     queued: usize,
     steps: u32,
     aside: Totals,
-}
-
-// What a part of the run comes to: refused with its number, or going on.
-#[derive(Clone, Copy)]
-enum Stage {
-    Refused(u64),
-    Going(Tally),
 }
 
 // The cells under a taken candidate, which grew from the start cell at the place `from`: place j of the sets is the cell base + (2j + 1) unit.
@@ -71,31 +58,25 @@ struct Brood {
     terminal: u64,
 }
 
-// The engine's answer. The kept ids stand in the memory.
+// The engine's answer: how many ids are kept, the steps taken and the leaves set aside under each start cell. The kept ids stand in the memory.
 #[derive(Clone, Copy)]
-pub enum Ran {
-    Refused(u64),
-    Done {
-        count: usize,
-        steps: u32,
-        aside: Totals,
-    },
+pub struct Ran {
+    pub count: usize,
+    pub steps: u32,
+    pub aside: Totals,
 }
 
-// What was seen of a run: refused with its number; or how many cells are kept and queued, the steps taken and the leaves set aside under each start cell.
+// What was seen of a run: how many cells are kept and queued, the steps taken and the leaves set aside under each start cell.
 #[derive(Clone, Copy)]
-pub enum Seen {
-    Refused(u64),
-    Standing {
-        kept: usize,
-        queued: usize,
-        steps: u32,
-        aside: Totals,
-    },
+pub struct Seen {
+    pub kept: usize,
+    pub queued: usize,
+    pub steps: u32,
+    pub aside: Totals,
 }
 
 // Keeps a cell: refused with 8 where the raw list is full.
-fn keep(m: &mut [u64], t: Counts, id: u64) -> Turn
+fn keep(m: &mut [u64], t: Counts, id: u64) -> Result<Counts, Refusal>
     requires { memory_words ≤ length m.old }
     ensures does { (e : Engine) (T : Task) (i : ℕ) → Does e T i (keep (grown i id)) m.old t m.new result }
     ensures aside_up_to { AsideUpTo t.aside result }
@@ -103,34 +84,29 @@ fn keep(m: &mut [u64], t: Counts, id: u64) -> Turn
     if t.kept < RAW_MOST {
         let at = QUEUE_WORDS + t.kept;
         m[at] = id;
-        Turn::Going(Counts {
+        Ok(Counts {
             kept: t.kept + 1,
-            queued: t.queued,
-            aside: t.aside,
-            steps: t.steps,
+            ..t
         })
     } else {
-        Turn::Refused(8)
+        Err(Refusal::RawFull)
     }
 }
 
 // Queues a record: refused with 7 where the queue is full.
-fn enqueue(m: &mut [u64], t: Counts, e: Engine, r: Rec) -> Turn
+fn enqueue(m: &mut [u64], t: Counts, e: Engine, r: Rec) -> Result<Counts, Refusal>
     requires { memory_words ≤ length m.old }
     ensures does { (T : Task) (i : ℕ) → 0 < level_mod T.asked → i < places_most → r ≡ rec_of T (grown i r.id) → Does e T i (enqueue (by_edition T) (grown i r.id)) m.old t m.new result }
     ensures aside_up_to { AsideUpTo t.aside result }
 {
     if t.queued < QUEUE_MOST {
-        let n = t.queued;
-        queue::add(e, m, n, r);
-        Turn::Going(Counts {
-            kept: t.kept,
-            queued: n + 1,
-            aside: t.aside,
-            steps: t.steps,
+        e.add(m, t.queued, r);
+        Ok(Counts {
+            queued: t.queued + 1,
+            ..t
         })
     } else {
-        Turn::Refused(7)
+        Err(Refusal::QueueFull)
     }
 }
 
@@ -140,13 +116,12 @@ fn set_aside(q: Request, t: Counts, leaves: u64) -> Counts
     ensures { result ≡ aside_of q.inner t leaves }
 {
     if q.inner {
-        return t;
-    }
-    Counts {
-        kept: t.kept,
-        queued: t.queued,
-        aside: t.aside + leaves,
-        steps: t.steps,
+        t
+    } else {
+        Counts {
+            aside: t.aside + leaves,
+            ..t
+        }
     }
 }
 
@@ -169,7 +144,7 @@ fn add_candidate(
     from: u64,
     id: u64,
     terminal: bool,
-) -> Turn
+) -> Result<Counts, Refusal>
     requires memory_words_in_bounds { memory_words ≤ length m.old }
     requires asks { Asks q (area_of g) }
     requires from_lt_places_most { from < places_most }
@@ -183,7 +158,7 @@ fn add_candidate(
     }
     let f = candidate::expand(q, g, id);
     if f.present == 0 {
-        return Turn::Going(set_aside(q, t, cellid::lsb(id)));
+        return Ok(set_aside(q, t, cellid::lsb(id)));
     }
     let full = full_of(q);
     if decide::lifts(q, full, id, f.terminal) {
@@ -211,7 +186,7 @@ fn add_child(
     e: Engine,
     b: Brood,
     j: u64,
-) -> Turn
+) -> Result<Counts, Refusal>
     requires memory_words_in_bounds { memory_words ≤ length m.old }
     requires asks { Asks q (area_of g) }
     requires j_bound { (j < 64) × (b.from < places_most) }
@@ -222,18 +197,25 @@ fn add_child(
 {
     if is_in(b.present, j) {
         if decide::is_full(q, t.kept) {
-            Turn::Going(t)
+            Ok(t)
         } else {
             let ends = is_in(b.terminal, j);
             add_candidate(m, t, q, g, e, b.from, b.base + (2 * j + 1) * b.unit, ends)
         }
     } else {
-        Turn::Going(t)
+        Ok(t)
     }
 }
 
 // Adds the children of a brood, in order.
-fn add_children(m: &mut [u64], s: Counts, q: Request, g: Region<'_>, e: Engine, b: Brood) -> Turn
+fn add_children(
+    m: &mut [u64],
+    s: Counts,
+    q: Request,
+    g: Region<'_>,
+    e: Engine,
+    b: Brood,
+) -> Result<Counts, Refusal>
     requires memory_words_in_bounds { memory_words ≤ length m.old }
     requires asks { Asks q (area_of g) }
     requires places_bound { (b.places ≤ 64) × (b.from < places_most) }
@@ -241,22 +223,11 @@ fn add_children(m: &mut [u64], s: Counts, q: Request, g: Region<'_>, e: Engine, 
     requires aside_fits { s.aside + leaves_in (children_from b 0) < 2 ^ 64 }
     ensures { Does e (task_of q (area_of g.entry)) b.from (add_all (course_of q (area_of g.entry)) b.from (children_from b 0)) m.old s m.new result }
 {
-    let places = b.places;
     let mut t = s;
-    let mut j: u64 = 0;
-    while j < places {
-        let r = add_child(m, t, q, g, e, b, j);
-        match r {
-            Turn::Refused(n) => {
-                return Turn::Refused(n);
-            }
-            Turn::Going(u) => {
-                t = u;
-                j += 1;
-            }
-        }
+    for j in 0..b.places {
+        t = add_child(m, t, q, g, e, b, j)?;
     }
-    Turn::Going(t)
+    Ok(t)
 }
 
 // The cells under a record, n levels down.
@@ -268,7 +239,7 @@ fn cells_under(r: Rec, n: u64) -> Brood
     let low = cellid::lsb(r.id);
     let width = 2 * n;
     Brood {
-        from: records::from(r),
+        from: r.from(),
         base: r.id - low,
         unit: low >> width,
         places: 1 << width,
@@ -286,7 +257,7 @@ fn hand_on(
     e: Engine,
     r: Rec,
     children: u64,
-) -> Turn
+) -> Result<Counts, Refusal>
     requires memory_words_in_bounds { memory_words ≤ length m.old }
     requires asks { Asks q (area_of g) }
     requires taken { Taken (task_of q (area_of g)) r }
@@ -300,7 +271,14 @@ fn hand_on(
 }
 
 // What is done with a taken record.
-fn use_taken(m: &mut [u64], t: Counts, q: Request, g: Region<'_>, e: Engine, r: Rec) -> Turn
+fn use_taken(
+    m: &mut [u64],
+    t: Counts,
+    q: Request,
+    g: Region<'_>,
+    e: Engine,
+    r: Rec,
+) -> Result<Counts, Refusal>
     requires memory_words_in_bounds { memory_words ≤ length m.old }
     requires asks { Asks q (area_of g) }
     requires kept_le_raw_most { (t.kept ≤ raw_most) × (t.queued ≤ queue_most) }
@@ -309,12 +287,7 @@ fn use_taken(m: &mut [u64], t: Counts, q: Request, g: Region<'_>, e: Engine, r: 
     ensures { Does e (task_of q (area_of g.entry)) (from_r r) (step_with (course_of q (area_of g.entry)) (grown (from_r r) r.id)) m.old t m.new result }
 {
     if decide::is_full(q, t.kept) {
-        return Turn::Going(Counts {
-            kept: t.kept,
-            queued: 0,
-            aside: t.aside,
-            steps: t.steps,
-        });
+        return Ok(Counts { queued: 0, ..t });
     }
     let children = records::count(r.present);
     if decide::is_handed_on(q, t.kept, t.queued, r.id, children) {
@@ -325,26 +298,22 @@ fn use_taken(m: &mut [u64], t: Counts, q: Request, g: Region<'_>, e: Engine, r: 
 }
 
 // The run after the turn of the start cell at the place `from`: its total is what the turn says, the others are as before.
-fn end_turn(turn: Turn, before: Totals, from: u64) -> Stage
+#[tactic(auto, unfolding(crate::specs::Engine::stage_after))]
+fn end_turn(turn: Result<Counts, Refusal>, before: Totals, from: u64) -> Result<Tally, Refusal>
     requires { from < places_most }
     ensures { result ≡ stage_after turn before from }
 {
-    match turn {
-        Turn::Refused(n) => Stage::Refused(n),
-        Turn::Going(t) => {
-            let aside = before.with(from, t.aside);
-            Stage::Going(Tally {
-                kept: t.kept,
-                queued: t.queued,
-                steps: t.steps,
-                aside,
-            })
-        }
-    }
+    let t = turn?;
+    Ok(Tally {
+        kept: t.kept,
+        queued: t.queued,
+        steps: t.steps,
+        aside: before.with(from, t.aside),
+    })
 }
 
 // One step: takes the least of the queue.
-fn step(m: &mut [u64], t: Tally, q: Request, g: Region<'_>, e: Engine) -> Stage
+fn step(m: &mut [u64], t: Tally, q: Request, g: Region<'_>, e: Engine) -> Result<Tally, Refusal>
     requires memory_words_in_bounds { memory_words ≤ length m.old }
     requires asks { Asks q (area_of g) }
     requires live { Live e (task_of q (area_of g)) m.old t }
@@ -352,8 +321,8 @@ fn step(m: &mut [u64], t: Tally, q: Request, g: Region<'_>, e: Engine) -> Stage
     ensures { (l : List ℕ) → Reached e (task_of q (area_of g.entry)) l m.old t → Comes e (task_of q (area_of g.entry)) (after (course_of q (area_of g.entry)) l (t.steps + 1)) m.old m.new result }
 {
     let n = t.queued - 1;
-    let r = queue::take(e, m, n);
-    let from = records::from(r);
+    let r = e.take(m, n);
+    let from = r.from();
     let before = t.aside;
     let turn = use_taken(
         m,
@@ -372,7 +341,15 @@ fn step(m: &mut [u64], t: Tally, q: Request, g: Region<'_>, e: Engine) -> Stage
 }
 
 // The start cell at the place `from`: added if it is a candidate. One that fails is set aside.
-fn start(m: &mut [u64], t: Counts, q: Request, g: Region<'_>, e: Engine, from: u64, id: u64) -> Turn
+fn start(
+    m: &mut [u64],
+    t: Counts,
+    q: Request,
+    g: Region<'_>,
+    e: Engine,
+    from: u64,
+    id: u64,
+) -> Result<Counts, Refusal>
     requires memory_words_in_bounds { memory_words ≤ length m.old }
     requires asks { Asks q (area_of g) }
     requires from_lt_places_most { from < places_most }
@@ -384,7 +361,7 @@ fn start(m: &mut [u64], t: Counts, q: Request, g: Region<'_>, e: Engine, from: u
     match c {
         Candidate::Kept => add_candidate(m, t, q, g, e, from, id, true),
         Candidate::Queued => add_candidate(m, t, q, g, e, from, id, false),
-        Candidate::None => Turn::Going(set_aside(q, t, cellid::lsb(id))),
+        Candidate::None => Ok(set_aside(q, t, cellid::lsb(id))),
     }
 }
 
@@ -396,23 +373,20 @@ fn initial_candidates(
     e: Engine,
     ids: [u64; 6],
     count: usize,
-) -> Stage
+) -> Result<Tally, Refusal>
     requires memory_words_in_bounds { memory_words ≤ length m.old }
     requires asks { Asks q (area_of g) }
     requires count_bound { count ≤ 6 }
     requires all { All (Fit q) (take count ids) }
     ensures { Comes e (task_of q (area_of g.entry)) (after (course_of q (area_of g.entry)) (take count ids) 0) m.old m.new result }
 {
-    let aside = Totals::NONE;
     let mut t = Tally {
         kept: 0,
         queued: 0,
         steps: 0,
-        aside,
+        aside: Totals::NONE,
     };
-    let mut i: usize = 0;
-    while i < count {
-        let before = t.aside;
+    for i in 0..count {
         let turn = start(
             m,
             Counts {
@@ -427,22 +401,20 @@ fn initial_candidates(
             i as u64,
             ids[i],
         );
-        let r = end_turn(turn, before, i as u64);
-        match r {
-            Stage::Refused(n) => {
-                return Stage::Refused(n);
-            }
-            Stage::Going(u) => {
-                t = u;
-                i += 1;
-            }
-        }
+        t = end_turn(turn, t.aside, i as u64)?;
     }
-    Stage::Going(t)
+    Ok(t)
 }
 
 // Step after step until the queue is empty or the allowance is used up.
-fn proceed(m: &mut [u64], s: Tally, q: Request, g: Region<'_>, e: Engine, allowance: u32) -> Stage
+fn proceed(
+    m: &mut [u64],
+    s: Tally,
+    q: Request,
+    g: Region<'_>,
+    e: Engine,
+    allowance: u32,
+) -> Result<Tally, Refusal>
     requires memory_words_in_bounds { memory_words ≤ length m.old }
     requires asks { Asks q (area_of g) }
     requires live { Live e (task_of q (area_of g)) m.old s }
@@ -450,21 +422,10 @@ fn proceed(m: &mut [u64], s: Tally, q: Request, g: Region<'_>, e: Engine, allowa
     ensures { (l : List ℕ) → Reached e (task_of q (area_of g.entry)) l m.old s → Comes e (task_of q (area_of g.entry)) (after (course_of q (area_of g.entry)) l allowance) m.old m.new result }
 {
     let mut t = s;
-    while 0 < t.queued {
-        if t.steps == allowance {
-            return Stage::Going(t);
-        }
-        let r = step(m, t, q, g, e);
-        match r {
-            Stage::Refused(n) => {
-                return Stage::Refused(n);
-            }
-            Stage::Going(u) => {
-                t = u;
-            }
-        }
+    while 0 < t.queued && t.steps < allowance {
+        t = step(m, t, q, g, e)?;
     }
-    Stage::Going(t)
+    Ok(t)
 }
 
 // The start cells, then the steps that are allowed.
@@ -476,42 +437,38 @@ fn covering_internal(
     ids: [u64; 6],
     count: usize,
     allowance: u32,
-) -> Stage
+) -> Result<Tally, Refusal>
     requires memory_words_in_bounds { memory_words ≤ length m.old }
     requires asks { Asks q (area_of g) }
     requires count_bound { count ≤ 6 }
     requires all { All (Fit q) (take count ids) }
     ensures { Comes e (task_of q (area_of g.entry)) (after (course_of q (area_of g.entry)) (take count ids) allowance) m.old m.new result }
 {
-    let r = initial_candidates(m, q, g, e, ids, count);
-    match r {
-        Stage::Refused(n) => Stage::Refused(n),
-        Stage::Going(t) => proceed(m, t, q, g, e, allowance),
-    }
+    let t = initial_candidates(m, q, g, e, ids, count)?;
+    proceed(m, t, q, g, e, allowance)
 }
 
 // The words of a run become zero, and the refusal is passed on.
-fn refuse(mem: &mut [u64], number: u64) -> Ran
+fn refuse(mem: &mut [u64], refusal: Refusal) -> Result<Ran, Refusal>
     requires { memory_words ≤ length mem.old }
-    ensures { (result ≡ Ran.Refused number) × (mem.new ≡ cleared 0 memory_words mem.old) }
+    ensures { (result ≡ Err refusal) × (mem.new ≡ cleared 0 memory_words mem.old) }
 {
     cellunion::clear(mem, 0, MEMORY_WORDS);
-    Ran::Refused(number)
+    Err(refusal)
 }
 
 // Of the words of a run only the kept ids are left; the others become zero.
 fn finish(mem: &mut [u64], t: Tally) -> Ran
     requires { (memory_words ≤ length mem.old) × (t.kept ≤ raw_most) }
-    ensures { (result ≡ Ran.Done t.kept t.steps t.aside) × (mem.new ≡ cleared (queue_words + t.kept) memory_words (cleared 0 queue_words mem.old)) }
+    ensures { (result ≡ ran_of t) × (mem.new ≡ cleared (queue_words + t.kept) memory_words (cleared 0 queue_words mem.old)) }
 {
     let end = QUEUE_WORDS + t.kept;
-    let aside = t.aside;
     cellunion::clear(mem, 0, QUEUE_WORDS);
     cellunion::clear(mem, end, MEMORY_WORDS);
-    Ran::Done {
+    Ran {
         count: t.kept,
         steps: t.steps,
-        aside,
+        aside: t.aside,
     }
 }
 
@@ -526,7 +483,7 @@ pub fn run(
     ids: [u64; 6],
     count: usize,
     allowance: u32,
-) -> Ran
+) -> Result<Ran, Refusal>
     requires memory_words_in_bounds { memory_words ≤ length mem.old }
     requires asks { Asks q (area_of g) }
     requires count_bound { count ≤ 6 }
@@ -534,14 +491,14 @@ pub fn run(
     ensures value { result ≡ engine_answer (outcome_of q (area_of g.entry) (take count ids) allowance) }
     ensures mem_after { mem.new ≡ engine_memory (outcome_of q (area_of g.entry) (take count ids) allowance) mem.old }
 {
-    let r = covering_internal(mem, q, g, engine, ids, count, allowance);
-    match r {
-        Stage::Refused(n) => refuse(mem, n),
-        Stage::Going(t) => {
+    match covering_internal(mem, q, g, engine, ids, count, allowance) {
+        Err(r) => refuse(mem, r),
+        Ok(t) => {
             if 0 < t.queued {
-                return refuse(mem, 9);
+                refuse(mem, Refusal::Allowance)
+            } else {
+                Ok(finish(mem, t))
             }
-            finish(mem, t)
         }
     }
 }
@@ -564,16 +521,16 @@ fn list_queue(m: &mut [u64], n: usize, e: Engine, out: &mut [u64], at: usize)
     let mut i = at;
     while 0 < left {
         left -= 1;
-        let r = queue::take(e, m, left);
+        let r = e.take(m, left);
         out[i] = r.id;
-        out[i + 1] = records::cost(r);
-        out[i + 2] = records::from(r);
+        out[i + 1] = r.cost();
+        out[i + 2] = r.from();
         i += 3;
     }
 }
 
 // Tells how a run stands: its kept ids and its queue over the output's first places, if these have room for all.
-fn tell(m: &mut [u64], t: Tally, e: Engine, out: &mut [u64]) -> Seen
+fn tell(m: &mut [u64], t: Tally, e: Engine, out: &mut [u64]) -> Result<Seen, Refusal>
     requires { (memory_words ≤ length m.old) × (t.kept ≤ raw_most) × (t.queued ≤ queue_most) }
     ensures value { (T : Task) (s : State) → Holds e T m.old t s → (result ≡ seen_of T (length out.old) (going s)) × (out.new ≡ seen_over T (going s) out.old) }
     ensures m_unchanged { past memory_words m.new ≡ past memory_words m.old }
@@ -581,17 +538,16 @@ fn tell(m: &mut [u64], t: Tally, e: Engine, out: &mut [u64]) -> Seen
     let kept = t.kept;
     let queued = t.queued;
     if kept + 3 * queued <= out.len() {
-        let aside = t.aside;
         lay_raw(m, kept, out);
         list_queue(m, queued, e, out, kept);
-        Seen::Standing {
+        Ok(Seen {
             kept,
             queued,
             steps: t.steps,
-            aside,
-        }
+            aside: t.aside,
+        })
     } else {
-        Seen::Refused(10)
+        Err(Refusal::ListTooLong)
     }
 }
 
@@ -607,7 +563,7 @@ pub fn watch(
     count: usize,
     steps: u32,
     out: &mut [u64],
-) -> Seen
+) -> Result<Seen, Refusal>
     requires memory_words_in_bounds { memory_words ≤ length mem.old }
     requires asks { Asks q (area_of g) }
     requires count_bound { count ≤ 6 }
@@ -616,16 +572,10 @@ pub fn watch(
     ensures out_after { out.new ≡ seen_over (task_of q (area_of g.entry)) (after (course_of q (area_of g.entry)) (take count ids) steps) out.old }
     ensures mem_after { mem.new ≡ cleared 0 memory_words mem.old }
 {
-    let r = covering_internal(mem, q, g, engine, ids, count, steps);
-    match r {
-        Stage::Refused(n) => {
-            cellunion::clear(mem, 0, MEMORY_WORDS);
-            Seen::Refused(n)
-        }
-        Stage::Going(t) => {
-            let seen = tell(mem, t, engine, out);
-            cellunion::clear(mem, 0, MEMORY_WORDS);
-            seen
-        }
-    }
+    let seen = match covering_internal(mem, q, g, engine, ids, count, steps) {
+        Err(r) => Err(r),
+        Ok(t) => tell(mem, t, engine, out),
+    };
+    cellunion::clear(mem, 0, MEMORY_WORDS);
+    seen
 }

@@ -3,7 +3,7 @@ use Rattle.coverer.specs.Coverer.{course_of}
 use Rattle.run.specs.Run.{add_all}
 use Rattle.run.specs.Ground.{ChildOk}
 use Rattle.run.specs.declared.Request.{Request}
-use Prim.Native.Nat.{ℕ, ◌-◌, ◌≤◌}
+use Prim.Native.Nat.{ℕ}
 use Rattle.candidate.specs.Candidate.{task_of}
 use Rattle.coverer.proofs.Adds.{Waiting}
 use Rattle.coverer.proofs.Stands.{Goes}
@@ -17,15 +17,10 @@ use mathlib.Core.List.{List}
 use mathlib.Core.Path.{◌≡◌}
 use Rattle.coverer.proofs.add_children.Given as goal
 
-pub record Inv (e : Engine) (q : Request) (a : Area) (b : Brood) (places : ℕ) (m₀ : List ℕ) (t₀ : Counts) (m : List ℕ) (t : Counts) (j : ℕ) : Type 0 where
-  pub all : places ≡ b.places
-  pub within : j ≤ places
+pub record Inv (e : Engine) (q : Request) (a : Area) (b : Brood) (m₀ : List ℕ) (t₀ : Counts) (m : List ℕ) (t : Counts) (j : ℕ) : Type 0 where
   pub long : length m ≡ length m₀
   pub waits : Waiting (ChildOk (task_of q a)) t (children_from b j)
   pub goes : Goes e (task_of q a) b.from (add_all (course_of q a) b.from (children_from b 0)) (add_all (course_of q a) b.from (children_from b j)) m₀ t₀ m t
 
 abbrev pub invariant-loop-j : goal.invariant-loop-j
-invariant-loop-j l = Inv l.e l.q (area_of l.g) l.b l.places l.initial.m l.initial.t l.m l.t l.j
-
-abbrev pub decreases-loop-j : goal.decreases-loop-j
-decreases-loop-j l = l.places - l.j
+invariant-loop-j l = Inv l.e l.q (area_of l.g) l.b l.initial.m l.initial.t l.m l.t l.j

@@ -1,4 +1,5 @@
 -- `coverer::covering_internal` meets its contract.
+use Rattle.std.proofs.lemmas.Result.{err_from_is_err_and}
 use Prim.Native.Nat.{◌≤◌}
 use Rattle.coverer.proofs.Runs.{runs_live, runs_room, runs_refused, runs_on}
 use lib.ListN.{length, take, length-take}
@@ -7,8 +8,8 @@ use Rattle.coverer.proofs.covering_internal.Goals as goal
 
 pub proceed-requires : goal.proceed-requires
 proceed-requires c =
-    let d = c.initial_candidates-r in
-    let e = c.in-Going.is in
+    let d = c.initial_candidates in
+    let e = c.in_ok-t.was in
     let six : length (take c.args.count c.args.ids) ≤ 6 = omega (arith, length-take c.args.count c.args.ids, c.requires.count_bound) in
     record {
       memory_words_in_bounds = omega (arith, d.auto.m, c.requires.memory_words_in_bounds);
@@ -17,8 +18,8 @@ proceed-requires c =
       steps_le_allowance = runs_room _ _ _ _ _ _ _ d.ensures _ e;
     }
 
-pub returns-in-Refused : goal.returns-in-Refused
-returns-in-Refused c = runs_refused _ _ _ _ _ _ _ c.initial_candidates-r.ensures _ c.in-Refused.is
+pub returns-in_err-t : goal.returns-in_err-t
+returns-in_err-t c = let p = err_from_is_err_and c.from_residual.result c.from_residual.ensures.1 in rw (p.1, p.2) (runs_refused _ _ _ _ _ _ _ c.initial_candidates.ensures _ c.in_err-t.was)
 
-pub returns-in-Going : goal.returns-in-Going
-returns-in-Going c = runs_on _ _ _ _ _ _ _ c.initial_candidates-r.ensures _ c.in-Going.is _ _ c.proceed.ensures
+pub returns : goal.returns
+returns c = runs_on _ _ _ _ _ _ _ c.initial_candidates.ensures _ c.in_ok-t.was _ _ c.proceed.ensures

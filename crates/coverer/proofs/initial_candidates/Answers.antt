@@ -1,3 +1,4 @@
+use Rattle.std.proofs.lemmas.Result.{err_from_is_err_and}
 use Rattle.run.specs.declared.Request.{Request}
 use Prim.Native.Nat.{ℕ, ◌≤◌, ◌<◌}
 use Rattle.coverer.proofs.Runs.{starting, starting_turn, starting_stop, starting_end}
@@ -24,7 +25,7 @@ shape_of-m c = c.loop-i.invariant.long
 
 pub loop-i-init : goal.loop-i-init
 loop-i-init c =
-    record { within = omega arith; six = c.requires.count_bound; wide = omega arith; long = refl; starting = starting _ _ _ _ }
+    record { six = c.requires.count_bound; wide = omega arith; long = refl; starting = starting _ _ _ _ }
 
 pub bounds-ids-i : goal.bounds-ids-i
 bounds-ids-i c = let I = c.loop-i.invariant in
@@ -42,32 +43,28 @@ start-turn-requires c =
       aside_fits = omega (arith, leaves_le (get_or c.args.ids c.loop-i.i 0));
     }
 
-pub end_turn-r-requires : goal.end_turn-r-requires
-end_turn-r-requires c = omega (arith, c.loop-i.invariant.six, c.loop-i-test.true)
+pub end_turn-requires : goal.end_turn-requires
+end_turn-requires c = omega (arith, c.loop-i.invariant.six, c.loop-i-test.true)
 
-pub shape_of-m-in-Refused : goal.shape_of-m-in-Refused
-shape_of-m-in-Refused c = c.start-turn.auto.m ∙ c.loop-i.invariant.long
-
-pub returns-in-Refused : goal.returns-in-Refused
-returns-in-Refused c =
+pub returns-in_err-t : goal.returns-in_err-t
+returns-in_err-t c =
     let I = c.loop-i.invariant in
     let h = c.loop-i-test.true in
-    starting_stop _ _ _ _ _ _ _ _ _ _ _ (inside _ _ _ h I.six I.wide) (omega (arith, I.six, h)) (sym (get_or-take _ _ _ 0 h)) c.start-turn.ensures c.end_turn-r.ensures I.starting _ c.in-Refused.is
+    let p = err_from_is_err_and c.from_residual.result c.from_residual.ensures.1 in rw (p.1, p.2) (starting_stop _ _ _ _ _ _ _ _ _ _ _ (inside _ _ _ h I.six I.wide) (omega (arith, I.six, h)) (sym (get_or-take _ _ _ 0 h)) c.start-turn.ensures c.end_turn.ensures I.starting _ c.in_err-t.was)
 
 pub loop-i-preserved : goal.loop-i-preserved
 loop-i-preserved c =
     let I = c.loop-i.invariant in
     let h = c.loop-i-test.true in
     record {
-      within = omega arith;
       six = I.six;
       wide = I.wide;
       long = c.start-turn.auto.m ∙ I.long;
-      starting = starting_turn _ _ _ _ _ _ _ _ _ _ _ (inside _ _ _ h I.six I.wide) (omega (arith, I.six, h)) (sym (get_or-take _ _ _ 0 h)) c.start-turn.ensures c.end_turn-r.ensures I.starting _ c.in-Going.is;
+      starting = starting_turn _ _ _ _ _ _ _ _ _ _ _ (inside _ _ _ h I.six I.wide) (omega (arith, I.six, h)) (sym (get_or-take _ _ _ 0 h)) c.start-turn.ensures c.end_turn.ensures I.starting _ c.in_ok-t.was;
     }
 
 pub returns : goal.returns
 returns c =
     let I = c.loop-i.invariant in
-    let n : c.loop-i.i ≡ c.args.count = omega (arith, I.within, c.loop-i-test.false) in
+    let n : c.loop-i.i ≡ c.args.count = omega arith in
     starting_end _ _ _ _ _ _ _ (n ∙ sym (length-take-le _ _ (omega (arith, I.six, I.wide)))) I.starting

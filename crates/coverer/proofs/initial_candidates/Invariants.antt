@@ -1,6 +1,6 @@
 -- `coverer::initial_candidates` meets its contract. The invariant: the start cells from i on are what is left of the definition's start.
 use Rattle.run.specs.declared.Request.{Request}
-use Prim.Native.Nat.{ℕ, ◌-◌, ◌≤◌}
+use Prim.Native.Nat.{ℕ, ◌≤◌}
 use Rattle.candidate.specs.Candidate.{task_of}
 use Rattle.coverer.proofs.Runs.{Starting}
 use Rattle.coverer.specs.declared.Tally.{Tally}
@@ -12,7 +12,6 @@ use mathlib.Core.Path.{◌≡◌}
 use Rattle.coverer.proofs.initial_candidates.Given as goal
 
 pub record Inv (e : Engine) (q : Request) (a : Area) (count : ℕ) (ids m₀ m : List ℕ) (t : Tally) (i : ℕ) : Type 0 where
-  pub within : i ≤ count
   pub six : count ≤ 6
   pub wide : length ids ≡ 6
   pub long : length m ≡ length m₀
@@ -20,6 +19,3 @@ pub record Inv (e : Engine) (q : Request) (a : Area) (count : ℕ) (ids m₀ m :
 
 abbrev pub invariant-loop-i : goal.invariant-loop-i
 invariant-loop-i l = Inv l.e l.q (area_of l.g) l.count l.ids l.initial.m l.m l.t l.i
-
-abbrev pub decreases-loop-i : goal.decreases-loop-i
-decreases-loop-i l = l.count - l.i

@@ -6,5 +6,5 @@ use Rattle.coverer.proofs.set_aside.Goals as goal
 pub returns-then-q : goal.returns-then-q
 returns-then-q c = sym (aside_in _ _ _ c.if-q.true)
 
-pub returns : goal.returns
-returns c = sym (aside_out _ _ _ c.if-q.false)
+pub returns-else-q : goal.returns-else-q
+returns-else-q c = sym (aside_out _ _ _ c.if-q.false)
