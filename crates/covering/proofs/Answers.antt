@@ -8,6 +8,9 @@ use native.Mathlib.Omega.{arith}
 use lib.Dec.{leb}
 use lib.ListN.{length, take, drop, length-drop, length-map, drop_of_length-le}
 use lib.Seq.{take_all, take_at, drop_at, drop-drop, drop-append-add, length-take-le}
+use Rattle.std.specs.Prelude.Result.{Ok, Err}
+use Rattle.refusal.specs.declared.Refusal.{Refusal}
+use Rattle.refusal.specs.Refusal.{number_of}
 use Rattle.cellid.specs.CellId.{Cell}
 use Rattle.order.specs.Order.{All}
 use Rattle.region.specs.Region.{Area}
@@ -183,10 +186,10 @@ module _ (e : Ending) (c : RegionCoverer) (n : ℕ) (m : List ℕ) (P : (memory_
       (L.1 ∙ ap (λ (x : List ℕ). laid_over (list_of e c x) o) words)
 
 -- the run's answer tells its outcome
-pub ran_refused : (o : Outcome) (n : ℕ) → Ran.Refused n ≡ engine_answer o → o ≡ Run.refused n
+pub ran_refused : (o : Outcome) (r : Refusal) → Err r ≡ engine_answer o → o ≡ Run.refused r
 unfolding engine_answer
-ran_refused (Run.refused k) n e = let z : k ≡ n = cc in ap Run.refused z
-ran_refused (Run.going s) n e = let z : ◌≡◌ {A = ℕ} 0 1 = cc in absurd (omega arith)
+ran_refused (Run.refused k) r e = let z : k ≡ r = cc in ap Run.refused z
+ran_refused (Run.going s) r e = let z : ◌≡◌ {A = ℕ} 0 1 = cc in absurd (omega arith)
 
 pub record RanDone (o : Outcome) (count steps : ℕ) (aside : Totals) : Type 0 where
   pub state : State
@@ -195,20 +198,21 @@ pub record RanDone (o : Outcome) (count steps : ℕ) (aside : Totals) : Type 0 w
   pub taken : steps ≡ state.steps
   pub totals : aside ≡ aside_six state
 
-pub ran_done : (o : Outcome) (count steps : ℕ) (aside : Totals) → Ran.Done count steps aside ≡ engine_answer o → RanDone o count steps aside
+pub ran_done : (o : Outcome) (v : Ran) → Ok v ≡ engine_answer o → RanDone o v.count v.steps v.aside
 unfolding engine_answer raw_ids
-ran_done (Run.refused n) count steps aside e = let z : ◌≡◌ {A = ℕ} 0 1 = cc in absurd (omega arith)
-ran_done (Run.going s) count steps aside e =
-    let x : count ≡ length s.raw = cc in
-    record { state = s; is = refl; counted = x ∙ sym (length-map s.raw (λ (w : Grown). w.id)); taken = cc; totals = cc }
+ran_done (Run.refused r) v e = let z : ◌≡◌ {A = ℕ} 0 1 = cc in absurd (omega arith)
+ran_done (Run.going s) v e =
+    let z : v ≡ record { count = length s.raw; steps = s.steps; aside = aside_six s } = cc in
+    let x : v.count ≡ length s.raw = ap (λ (w : Ran). w.count) z in
+    record { state = s; is = refl; counted = x ∙ sym (length-map s.raw (λ (w : Grown). w.id)); taken = ap (λ (w : Ran). w.steps) z; totals = ap (λ (w : Ran). w.aside) z }
 
 module _ (e : Ending) (inner : Bool) (c : RegionCoverer) (a : Area) (allowance : ℕ) (m o : List ℕ) (none : bar_of c a (length m) ≡ Bar.Open) (m₁ : List ℕ) (M : m₁ ≡ engine_memory (ran_of inner c a allowance) m) where
   -- 7, 8 or 9
-  pub respond_late : (n : ℕ) (r : Answer) → Ran.Refused n ≡ engine_answer (ran_of inner c a allowance) → r ≡ refusal n → Answered (ended_as e c (length o) (ran_of inner c a allowance)) r m m₁ o o
+  pub respond_late : (n : Refusal) (r : Answer) → Err n ≡ engine_answer (ran_of inner c a allowance) → r ≡ refusal (number_of n) → Answered (ended_as e c (length o) (ran_of inner c a allowance)) r m m₁ o o
   unfolding ended_as engine_memory
   respond_late n r x y =
       let f : ran_of inner c a allowance ≡ Run.refused n = ran_refused _ n x in
-      answered_as (ap (ended_as e c (length o)) f) (answered_late n m o) y (M ∙ ap (λ (w : Outcome). engine_memory w m) f) refl
+      answered_as (ap (ended_as e c (length o)) f) (answered_late (number_of n) m o) y (M ∙ ap (λ (w : Outcome). engine_memory w m) f) refl
 
   module _ (count steps : ℕ) (aside : Totals) (D : RanDone (ran_of inner c a allowance) count steps aside) (same : length m₁ ≡ length m) where
     ended : m₁ ≡ only_words queue_words memory_words (raw_ids D.state) m

@@ -10,6 +10,8 @@ use lib.Dec.{leb}
 use lib.ListN.{length, take, drop, length-append}
 use lib.Seq.{take_at}
 use borrow.Author.Tests.{le-leb, lt-leb, leb-true, leb-false}
+use Rattle.refusal.specs.declared.Refusal.{Refusal}
+use Rattle.refusal.specs.Refusal as Paper
 use Rattle.region.specs.Region.{Area, bound_of}
 use Rattle.totals.specs.declared.Totals.{Totals}
 use Rattle.totals.specs.Totals.{no_totals}
@@ -80,8 +82,8 @@ module _ (room : ℕ) (l : List ℕ) (steps : ℕ) (aside : Totals) where
 
 -- the run of a request is refused with the number n; the quick covering has no run
 unfoldable pub RunRefused : Kind → RegionCoverer → Area → ℕ → ℕ → Type 0
-RunRefused (Kind.Outer e) c a allowance n = ran_of false c a allowance ≡ Run.refused n
-RunRefused (Kind.Inner e) c a allowance n = ran_of true c a allowance ≡ Run.refused n
+RunRefused (Kind.Outer e) c a allowance n = (r : Refusal) × (Paper.number_of r ≡ n) × (ran_of false c a allowance ≡ Run.refused r)
+RunRefused (Kind.Inner e) c a allowance n = (r : Refusal) × (Paper.number_of r ≡ n) × (ran_of true c a allowance ≡ Run.refused r)
 RunRefused Kind.Fast c a allowance n = ⊥
 
 -- a run's finished list, with its steps and its set-aside totals
@@ -104,23 +106,23 @@ module _ (c : RegionCoverer) (a : Area) (allowance room : ℕ) where
     finished : (l : List ℕ) (steps : ℕ) (aside : Totals) → Finished k c a allowance l steps aside → Way k (fitted room l steps aside)
 
   -- a run comes to a refusal or to a finished list
-  module _ (e : Ending) (inner : Bool) (k : Kind) (late : (n : ℕ) → ran_of inner c a allowance ≡ Run.refused n → RunRefused k c a allowance n)
+  module _ (e : Ending) (inner : Bool) (k : Kind) (late : (r : Refusal) → ran_of inner c a allowance ≡ Run.refused r → RunRefused k c a allowance (Paper.number_of r))
       (end : (l : List ℕ) (steps : ℕ) (aside : Totals) → RunFinished e inner c a allowance l steps aside → Finished k c a allowance l steps aside) where
     run_comes : (o : Outcome) → ran_of inner c a allowance ≡ o → Way k (ended_as e c room o)
     unfolding ended_as
-    run_comes (Run.refused n) f = stopped (late n f)
+    run_comes (Run.refused r) f = stopped (late r f)
     run_comes (Run.going s) f = finished _ _ _ (end _ _ _ (record { state = s; ran = f; list = refl; taken = refl; totals = refl }))
 
   comes_is : (k : Kind) → Way k (comes_to k c a allowance room)
   unfolding comes_to RunRefused Finished
-  comes_is (Kind.Outer e) = run_comes e false (Kind.Outer e) (λ n f. f) (λ l steps aside F. F) _ refl
-  comes_is (Kind.Inner e) = run_comes e true (Kind.Inner e) (λ n f. f) (λ l steps aside F. F) _ refl
+  comes_is (Kind.Outer e) = run_comes e false (Kind.Outer e) (λ r f. (r, refl, f)) (λ l steps aside F. F) _ refl
+  comes_is (Kind.Inner e) = run_comes e true (Kind.Inner e) (λ r f. (r, refl, f)) (λ l steps aside F. F) _ refl
   comes_is Kind.Fast = finished _ 0 no_totals (refl, refl, refl)
 
   stopped_comes : (k : Kind) (n : ℕ) → RunRefused k c a allowance n → comes_to k c a allowance room ≡ refused n
   unfolding comes_to RunRefused ended_as
-  stopped_comes (Kind.Outer e) n f = ap (ended_as e c room) f
-  stopped_comes (Kind.Inner e) n f = ap (ended_as e c room) f
+  stopped_comes (Kind.Outer e) n f = ap (ended_as e c room) f.2 ∙ ap refused f.1
+  stopped_comes (Kind.Inner e) n f = ap (ended_as e c room) f.2 ∙ ap refused f.1
   stopped_comes Kind.Fast n f = absurd f
 
   run_finished : (e : Ending) (inner : Bool) (l : List ℕ) (steps : ℕ) (aside : Totals) → RunFinished e inner c a allowance l steps aside → ended_as e c room (ran_of inner c a allowance) ≡ fitted room l steps aside
@@ -133,14 +135,14 @@ module _ (c : RegionCoverer) (a : Area) (allowance room : ℕ) where
   finished_comes (Kind.Inner e) l steps aside F = run_finished e true l steps aside F
   finished_comes Kind.Fast l steps aside F = sym (rw (F.0, F.1, F.2))
 
-  run_late : (inner : Bool) (n : ℕ) → ran_of inner c a allowance ≡ Run.refused n → (7 ≤ n) × (n ≤ 9)
+  run_late : (inner : Bool) (r : Refusal) → ran_of inner c a allowance ≡ Run.refused r → (7 ≤ Paper.number_of r) × (Paper.number_of r ≤ 9)
   unfolding ran_of outcome_of
-  run_late inner n f = run_refuses _ _ _ allowance n f
+  run_late inner r f = run_refuses _ _ _ allowance r f
 
   stopped_late : (k : Kind) (n : ℕ) → RunRefused k c a allowance n → (7 ≤ n) × (n ≤ 9)
   unfolding RunRefused
-  stopped_late (Kind.Outer e) n f = run_late false n f
-  stopped_late (Kind.Inner e) n f = run_late true n f
+  stopped_late (Kind.Outer e) n f = subst (λ (k : ℕ). (7 ≤ k) × (k ≤ 9)) f.1 (run_late false f.0 f.2)
+  stopped_late (Kind.Inner e) n f = subst (λ (k : ℕ). (7 ≤ k) × (k ≤ 9)) f.1 (run_late true f.0 f.2)
   stopped_late Kind.Fast n f = absurd f
 
 module _ (k : Kind) (c : RegionCoverer) (a : Area) (allowance memory room : ℕ) where

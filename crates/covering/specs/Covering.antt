@@ -1,6 +1,7 @@
 -- The public answers (paper 01, "Request numbers"): what each request comes to, and what stands in the working memory and in the output afterwards.
 -- Quoted lines are the paper's words.
 use Rattle.std.specs.Prelude.{◌≡◌, Bool, true, false, Option, Some, None, List, ◌++◌, ℕ, leb, length, drop}
+use Rattle.refusal.specs.Refusal.{number_of}
 use Rattle.region.specs.Region.{Area, bound_of}
 use Rattle.cellunion.specs.CellUnion.{normalise}
 use Rattle.denorm.specs.Denorm.{denormalise}
@@ -46,7 +47,7 @@ list_of Ending.Covering c raw = denormalise c.min_level c.level_mod (normalise r
 
 -- 7, 8 and 9 "come as the run meets them"
 unfoldable pub ended_as : Ending → RegionCoverer → ℕ → Outcome → Result
-ended_as e c room (Run.refused n) = refused n
+ended_as e c room (Run.refused r) = refused (number_of r)
 ended_as e c room (Run.going s) = fitted room (list_of e c (raw_ids s)) s.steps (aside_six s)
 
 -- what is asked of the run

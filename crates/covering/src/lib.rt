@@ -22,6 +22,7 @@ ghost use Rattle.coverer.specs.Engine.{words_at};
 use bars::Bar;
 use coverer::{Ran, Seen};
 use queue::Engine;
+use refusal::Refusal;
 use region::Region;
 use run::{MEMORY_WORDS, QUEUE_WORDS, RegionCoverer, Request};
 use totals::Totals;
@@ -113,7 +114,7 @@ fn run_from_starts(
     g: Region<'_>,
     allowance: u32,
     mem: &mut [u64],
-) -> Ran
+) -> Result<Ran, Refusal>
     requires { bar_of c (area_of g) (length mem.old) ≡ Bar.Open }
     ensures { (result ≡ engine_answer (ran_of inner c (area_of g.entry) allowance)) × (mem.new ≡ engine_memory (ran_of inner c (area_of g.entry) allowance) mem.old) }
 {
@@ -157,14 +158,9 @@ fn run_and_finish(
     requires { bar_of c (area_of g) (length mem.old) ≡ Bar.Open }
     ensures { Answered (ended_as e c (length out.old) (ran_of inner c (area_of g.entry) allowance)) result mem.old mem.new out.old out.new }
 {
-    let ran = run_from_starts(engine, inner, c, g, allowance, mem);
-    match ran {
-        Ran::Refused(late) => refuse(late),
-        Ran::Done {
-            count,
-            steps,
-            aside,
-        } => finish(e, c, count, steps, aside, mem, out),
+    match run_from_starts(engine, inner, c, g, allowance, mem) {
+        Err(late) => refuse(late.number()),
+        Ok(ran) => finish(e, c, ran.count, ran.steps, ran.aside, mem, out),
     }
 }
 
@@ -360,14 +356,17 @@ fn watch_from_starts(
     steps: u32,
     mem: &mut [u64],
     out: &mut [u64],
-) -> Seen
+) -> Result<Seen, u64>
     requires { bar_of c (area_of g) (length mem.old) ≡ Bar.Open }
     ensures { Watched inner c (area_of g.entry) steps result mem.old mem.new out.old out.new }
 {
     let starts = fast::starts(c, g, mem);
     let q = Request { coverer: c, inner };
     let ids = starts.ids;
-    coverer::watch(engine, mem, q, g, ids, starts.count, steps, out)
+    match coverer::watch(engine, mem, q, g, ids, starts.count, steps, out) {
+        Ok(seen) => Ok(seen),
+        Err(late) => Err(late.number()),
+    }
 }
 
 // A request's run as it stands after so many steps, or where its queue is empty before, by either engine: in the output's first places the kept ids, in the
@@ -381,12 +380,12 @@ pub fn watch(
     steps: u32,
     mem: &mut [u64],
     out: &mut [u64],
-) -> Seen
+) -> Result<Seen, u64>
     ensures { Watched inner c (area_of g.entry) steps result mem.old mem.new out.old out.new }
 {
     let first = bars::first_refusal(c, g, mem.len());
     match first {
         Bar::Open => watch_from_starts(engine, inner, c, g, steps, mem, out),
-        Bar::Barred(number) => Seen::Refused(number),
+        Bar::Barred(number) => Err(number),
     }
 }

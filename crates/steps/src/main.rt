@@ -8,7 +8,6 @@
 ghost use Rattle.std.specs.Prelude.{◌+◌, ◌*◌, ◌≤◌, length};
 ghost use Rattle.input.specs.Feed.{Ready};
 
-use coverer::Seen;
 use covering::Kind;
 use input::{Feed, Found, Streams};
 use queue::Engine;
@@ -175,15 +174,9 @@ fn watch_step(
     out: &mut Places,
     page: &mut Page,
 ) -> Shown {
-    let s = covering::watch(Engine::Plain, inner, c, g, k, mem, out);
-    match s {
-        Seen::Refused(n) => Shown::Ended(say_refused(streams, n, page)),
-        Seen::Standing {
-            kept,
-            queued,
-            steps,
-            aside,
-        } => show(streams, k, taken, kept, queued, steps, aside, out, page),
+    match covering::watch(Engine::Plain, inner, c, g, k, mem, out) {
+        Err(n) => Shown::Ended(say_refused(streams, n, page)),
+        Ok(seen) => show(streams, k, taken, seen.kept, seen.queued, seen.steps, seen.aside, out, page),
     }
 }
 

@@ -5,6 +5,4 @@ use Rattle.covering.proofs.Watching.{watched_room}
 use Rattle.steps.proofs.watch_step.Goals as goal
 
 pub show-requires : goal.show-requires
-show-requires c =
-    let w = c.watch-s in
-    omega (arith, w.auto.out, watched_room _ _ _ _ _ _ _ _ (sym c.in-Standing.is ∙ w.ensures.answer))
+show-requires c = let w = c.watch in omega (arith, w.auto.out, watched_room _ _ _ _ _ (sym c.in-Ok.is ∙ w.ensures.answer))
