@@ -15,6 +15,8 @@ use Rattle.run.specs.Editions.{weight}
 use Rattle.run.specs.Masks.{found, cons_if, children_in}
 use Rattle.run.specs.Ground.{Fit, Queued}
 use Rattle.run.specs.Sixes.{places_most, aside_from}
+use Rattle.region.specs.Region.{area_of}
+use Rattle.candidate.specs.Candidate.{task_of}
 use Rattle.records.specs.declared.Rec.{Rec}
 use Rattle.records.specs.Records.{cost_r, from_r, record_of}
 use Rattle.queue.specs.declared.Engine.{Engine}
@@ -22,6 +24,7 @@ use Rattle.queue.specs.Queue.{InQueue}
 use Rattle.coverer.specs.declared.Counts.{Counts}
 use Rattle.coverer.specs.declared.Tally.{Tally}
 use Rattle.coverer.specs.declared.Brood.{Brood}
+use Rattle.coverer.specs.declared.job.Job.{Job}
 use Rattle.coverer.specs.declared.Ran.{Ran}
 
 -- what a part of the work on the cells of one start cell comes to, and what a part of the run comes to
@@ -109,6 +112,10 @@ module _ (T : Task) where
 -- how far a run is, for work on the cells of the start cell i
 abbrev pub counts_at : ℕ → Tally → Counts
 counts_at i t = record { kept = t.kept; queued = t.queued; aside = total_at t.aside i; steps = t.steps }
+
+-- what a job's run is set to
+abbrev pub task : Job → Task
+task j = task_of j.request (area_of j.region)
 
 -- what the engine answers of a run that is over
 abbrev pub ran_of : Tally → Ran

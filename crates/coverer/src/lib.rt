@@ -10,7 +10,7 @@ ghost use Rattle.order.specs.Order.{All};
 ghost use Rattle.cellunion.specs.Memory.{laid};
 ghost use Rattle.records.specs.declared.Rec.{Rec};
 ghost use Rattle.region.specs.Region.{area_of};
-ghost use Rattle.run.specs.Run.{queue_most, raw_most, Task, State, going, keep, enqueue, by_edition, add, add_all, step_with, after, level_mod, full, queue_words, memory_words};
+ghost use Rattle.run.specs.Run.{queue_most, raw_most, Task, State, in_edition, going, keep, enqueue, by_edition, add, add_all, step_with, after, level_mod, full, queue_words, memory_words};
 ghost use Rattle.run.specs.Ground.{Fit, ChildOk};
 ghost use Rattle.run.specs.Sixes.{places_most};
 ghost use Rattle.candidate.specs.Candidate.{task_of, Asks};
@@ -19,9 +19,12 @@ ghost use Rattle.queue.specs.declared.Engine.{Engine};
 ghost use Rattle.queue.specs.Queue.{InQueue};
 ghost use Rattle.coverer.specs.Coverer.{cleared, course_of, outcome_of, engine_answer, engine_memory};
 ghost use Rattle.coverer.specs.Watch.{seen_of, seen_over};
-ghost use Rattle.coverer.specs.Engine.{words_at, past, listed, is_in, child_if, children_from, leaves_in, brood_of, aside_of, grown, rec_of, AsideUpTo, Taken, Does, Holds, Comes, ran_of, stage_after, hand_on, start_one, Reached, Live};
+ghost use Rattle.coverer.specs.Engine.{words_at, past, listed, is_in, child_if, children_from, leaves_in, brood_of, aside_of, grown, rec_of, AsideUpTo, Taken, Does, Holds, Comes, task, ran_of, stage_after, hand_on, start_one, Reached, Live};
+
+mod job;
 
 use candidate::Candidate;
+use job::Job;
 use queue::Engine;
 use records::Rec;
 use refusal::Refusal;
@@ -133,101 +136,12 @@ fn full_of(q: Request) -> u64
     1 << (2 * q.coverer.level_mod)
 }
 
-// Adds a candidate that grew from the start cell at the place `from`: a terminal is kept; any other is expanded, and then set aside, kept in the place of its
-// children, or queued.
-fn add_candidate(
-    m: &mut [u64],
-    t: Counts,
-    q: Request,
-    g: Region<'_>,
-    e: Engine,
-    from: u64,
-    id: u64,
-    terminal: bool,
-) -> Result<Counts, Refusal>
-    requires memory_words_in_bounds { memory_words ≤ length m.old }
-    requires asks { Asks q (area_of g) }
-    requires from_lt_places_most { from < places_most }
-    requires child_ok { ChildOk (task_of q (area_of g)) (record { id = id; ends = terminal }) }
-    requires aside_fits { t.aside + leaves_of id < 2 ^ 64 }
-    ensures does { Does e (task_of q (area_of g.entry)) from (add (course_of q (area_of g.entry)) (grown from id) terminal) m.old t m.new result }
-    ensures aside_up_to { AsideUpTo (t.aside + leaves_of id) result }
-{
-    if terminal {
-        return keep(m, t, id);
-    }
-    let f = candidate::expand(q, g, id);
-    if f.present == 0 {
-        return Ok(set_aside(q, t, cellid::lsb(id)));
-    }
-    let full = full_of(q);
-    if decide::lifts(q, full, id, f.terminal) {
-        return keep(m, t, id);
-    }
-    let weight = decide::weight_of(q, full);
-    let r = records::record_of(weight, from, id, f.present, f.terminal);
-    enqueue(m, t, e, r)
-}
-
 // Whether the place j is in a set.
 fn is_in(set: u64, j: u64) -> bool
     requires { j < 64 }
     ensures { result ≡ is_in set j }
 {
     (set >> j) & 1 == 1
-}
-
-// Adds the child at the place j, if there is one; in an inner run only while the results are below max_cells.
-fn add_child(
-    m: &mut [u64],
-    t: Counts,
-    q: Request,
-    g: Region<'_>,
-    e: Engine,
-    b: Brood,
-    j: u64,
-) -> Result<Counts, Refusal>
-    requires memory_words_in_bounds { memory_words ≤ length m.old }
-    requires asks { Asks q (area_of g) }
-    requires j_bound { (j < 64) × (b.from < places_most) }
-    requires all { All (ChildOk (task_of q (area_of g))) (child_if b j) }
-    requires aside_fits { t.aside + leaves_in (child_if b j) < 2 ^ 64 }
-    ensures does { Does e (task_of q (area_of g.entry)) b.from (add_all (course_of q (area_of g.entry)) b.from (child_if b j)) m.old t m.new result }
-    ensures aside_up_to { AsideUpTo (t.aside + leaves_in (child_if b j)) result }
-{
-    if is_in(b.present, j) {
-        if decide::is_full(q, t.kept) {
-            Ok(t)
-        } else {
-            let ends = is_in(b.terminal, j);
-            add_candidate(m, t, q, g, e, b.from, b.base + (2 * j + 1) * b.unit, ends)
-        }
-    } else {
-        Ok(t)
-    }
-}
-
-// Adds the children of a brood, in order.
-fn add_children(
-    m: &mut [u64],
-    s: Counts,
-    q: Request,
-    g: Region<'_>,
-    e: Engine,
-    b: Brood,
-) -> Result<Counts, Refusal>
-    requires memory_words_in_bounds { memory_words ≤ length m.old }
-    requires asks { Asks q (area_of g) }
-    requires places_bound { (b.places ≤ 64) × (b.from < places_most) }
-    requires all { All (ChildOk (task_of q (area_of g))) (children_from b 0) }
-    requires aside_fits { s.aside + leaves_in (children_from b 0) < 2 ^ 64 }
-    ensures { Does e (task_of q (area_of g.entry)) b.from (add_all (course_of q (area_of g.entry)) b.from (children_from b 0)) m.old s m.new result }
-{
-    let mut t = s;
-    for j in 0..b.places {
-        t = add_child(m, t, q, g, e, b, j)?;
-    }
-    Ok(t)
 }
 
 // The cells under a record, n levels down.
@@ -248,55 +162,6 @@ fn cells_under(r: Rec, n: u64) -> Brood
     }
 }
 
-// Hands a taken candidate on to its children. What failed in its expansion is set aside: the places without a child, each as many leaves as a child has.
-fn hand_on(
-    m: &mut [u64],
-    t: Counts,
-    q: Request,
-    g: Region<'_>,
-    e: Engine,
-    r: Rec,
-    children: u64,
-) -> Result<Counts, Refusal>
-    requires memory_words_in_bounds { memory_words ≤ length m.old }
-    requires asks { Asks q (area_of g) }
-    requires taken { Taken (task_of q (area_of g)) r }
-    requires children_value { children ≡ ones r.present }
-    requires aside_fits { t.aside + leaves_of r.id < 2 ^ 64 }
-    ensures { Does e (task_of q (area_of g.entry)) (from_r r) (hand_on (task_of q (area_of g.entry)) (grown (from_r r) r.id)) m.old t m.new result }
-{
-    let b = cells_under(r, decide::levels_under(q, r.id));
-    let failed = (b.places - children) * b.unit;
-    add_children(m, set_aside(q, t, failed), q, g, e, b)
-}
-
-// What is done with a taken record.
-fn use_taken(
-    m: &mut [u64],
-    t: Counts,
-    q: Request,
-    g: Region<'_>,
-    e: Engine,
-    r: Rec,
-) -> Result<Counts, Refusal>
-    requires memory_words_in_bounds { memory_words ≤ length m.old }
-    requires asks { Asks q (area_of g) }
-    requires kept_le_raw_most { (t.kept ≤ raw_most) × (t.queued ≤ queue_most) }
-    requires taken { Taken (task_of q (area_of g)) r }
-    requires aside_fits { t.aside + leaves_of r.id < 2 ^ 64 }
-    ensures { Does e (task_of q (area_of g.entry)) (from_r r) (step_with (course_of q (area_of g.entry)) (grown (from_r r) r.id)) m.old t m.new result }
-{
-    if decide::is_full(q, t.kept) {
-        return Ok(Counts { queued: 0, ..t });
-    }
-    let children = records::count(r.present);
-    if decide::is_handed_on(q, t.kept, t.queued, r.id, children) {
-        hand_on(m, t, q, g, e, r, children)
-    } else {
-        keep(m, t, r.id)
-    }
-}
-
 // The run after the turn of the start cell at the place `from`: its total is what the turn says, the others are as before.
 #[tactic(auto, unfolding(crate::specs::Engine::stage_after))]
 fn end_turn(turn: Result<Counts, Refusal>, before: Totals, from: u64) -> Result<Tally, Refusal>
@@ -312,140 +177,213 @@ fn end_turn(turn: Result<Counts, Refusal>, before: Totals, from: u64) -> Result<
     })
 }
 
-// One step: takes the least of the queue.
-fn step(m: &mut [u64], t: Tally, q: Request, g: Region<'_>, e: Engine) -> Result<Tally, Refusal>
-    requires memory_words_in_bounds { memory_words ≤ length m.old }
-    requires asks { Asks q (area_of g) }
-    requires live { Live e (task_of q (area_of g)) m.old t }
-    requires queued_nonzero { (0 < t.queued) × (t.steps + 1 < 2 ^ 32) }
-    ensures { (l : List ℕ) → Reached e (task_of q (area_of g.entry)) l m.old t → Comes e (task_of q (area_of g.entry)) (after (course_of q (area_of g.entry)) l (t.steps + 1)) m.old m.new result }
-{
-    let n = t.queued - 1;
-    let r = e.take(m, n);
-    let from = r.from();
-    let before = t.aside;
-    let turn = use_taken(
-        m,
-        Counts {
-            kept: t.kept,
-            queued: n,
-            aside: before.get(from),
-            steps: t.steps + 1,
-        },
-        q,
-        g,
-        e,
-        r,
-    );
-    end_turn(turn, before, from)
-}
-
-// The start cell at the place `from`: added if it is a candidate. One that fails is set aside.
-fn start(
-    m: &mut [u64],
-    t: Counts,
-    q: Request,
-    g: Region<'_>,
-    e: Engine,
-    from: u64,
-    id: u64,
-) -> Result<Counts, Refusal>
-    requires memory_words_in_bounds { memory_words ≤ length m.old }
-    requires asks { Asks q (area_of g) }
-    requires from_lt_places_most { from < places_most }
-    requires fit { Fit q id }
-    requires aside_fits { t.aside + leaves_of id < 2 ^ 64 }
-    ensures { Does e (task_of q (area_of g.entry)) from (start_one (task_of q (area_of g.entry)) (grown from id)) m.old t m.new result }
-{
-    let c = candidate::new_candidate(q, g, id);
-    match c {
-        Candidate::Kept => add_candidate(m, t, q, g, e, from, id, true),
-        Candidate::Queued => add_candidate(m, t, q, g, e, from, id, false),
-        Candidate::None => Ok(set_aside(q, t, cellid::lsb(id))),
+impl<'a> Job<'a> {
+    // Adds a candidate that grew from the start cell at the place `from`: a terminal is kept; any other is expanded, and then set aside, kept in the place of its
+    // children, or queued.
+    fn add_candidate(
+        self,
+        m: &mut [u64],
+        t: Counts,
+        from: u64,
+        id: u64,
+        terminal: bool,
+    ) -> Result<Counts, Refusal>
+        requires memory_words_in_bounds { memory_words ≤ length m.old }
+        requires from_lt_places_most { from < places_most }
+        requires child_ok { ChildOk (task self) (record { id = id; ends = terminal }) }
+        requires aside_fits { t.aside + leaves_of id < 2 ^ 64 }
+        ensures does { Does self.entry.engine (task self.entry) from (add (in_edition (task self.entry)) (grown from id) terminal) m.old t m.new result }
+        ensures aside_up_to { AsideUpTo (t.aside + leaves_of id) result }
+    {
+        if terminal {
+            return keep(m, t, id);
+        }
+        let f = candidate::expand(self.request, self.region, id);
+        if f.present == 0 {
+            return Ok(set_aside(self.request, t, cellid::lsb(id)));
+        }
+        let full = full_of(self.request);
+        if decide::lifts(self.request, full, id, f.terminal) {
+            return keep(m, t, id);
+        }
+        let weight = decide::weight_of(self.request, full);
+        let r = records::record_of(weight, from, id, f.present, f.terminal);
+        enqueue(m, t, self.engine, r)
     }
-}
 
-// The start cells, in order.
-fn initial_candidates(
-    m: &mut [u64],
-    q: Request,
-    g: Region<'_>,
-    e: Engine,
-    ids: [u64; 6],
-    count: usize,
-) -> Result<Tally, Refusal>
-    requires memory_words_in_bounds { memory_words ≤ length m.old }
-    requires asks { Asks q (area_of g) }
-    requires count_bound { count ≤ 6 }
-    requires all { All (Fit q) (take count ids) }
-    ensures { Comes e (task_of q (area_of g.entry)) (after (course_of q (area_of g.entry)) (take count ids) 0) m.old m.new result }
-{
-    let mut t = Tally {
-        kept: 0,
-        queued: 0,
-        steps: 0,
-        aside: Totals::NONE,
-    };
-    for i in 0..count {
-        let turn = start(
+    // Adds the child at the place j, if there is one; in an inner run only while the results are below max_cells.
+    fn add_child(self, m: &mut [u64], t: Counts, b: Brood, j: u64) -> Result<Counts, Refusal>
+        requires memory_words_in_bounds { memory_words ≤ length m.old }
+        requires j_bound { (j < 64) × (b.from < places_most) }
+        requires all { All (ChildOk (task self)) (child_if b j) }
+        requires aside_fits { t.aside + leaves_in (child_if b j) < 2 ^ 64 }
+        ensures does { Does self.entry.engine (task self.entry) b.from (add_all (in_edition (task self.entry)) b.from (child_if b j)) m.old t m.new result }
+        ensures aside_up_to { AsideUpTo (t.aside + leaves_in (child_if b j)) result }
+    {
+        if is_in(b.present, j) {
+            if decide::is_full(self.request, t.kept) {
+                Ok(t)
+            } else {
+                let ends = is_in(b.terminal, j);
+                self.add_candidate(m, t, b.from, b.base + (2 * j + 1) * b.unit, ends)
+            }
+        } else {
+            Ok(t)
+        }
+    }
+
+    // Adds the children of a brood, in order.
+    fn add_children(self, m: &mut [u64], s: Counts, b: Brood) -> Result<Counts, Refusal>
+        requires memory_words_in_bounds { memory_words ≤ length m.old }
+        requires places_bound { (b.places ≤ 64) × (b.from < places_most) }
+        requires all { All (ChildOk (task self)) (children_from b 0) }
+        requires aside_fits { s.aside + leaves_in (children_from b 0) < 2 ^ 64 }
+        ensures { Does self.entry.engine (task self.entry) b.from (add_all (in_edition (task self.entry)) b.from (children_from b 0)) m.old s m.new result }
+    {
+        let mut t = s;
+        for j in 0..b.places {
+            t = self.add_child(m, t, b, j)?;
+        }
+        Ok(t)
+    }
+
+    // Hands a taken candidate on to its children. What failed in its expansion is set aside: the places without a child, each as many leaves as a child has.
+    fn hand_on(self, m: &mut [u64], t: Counts, r: Rec, children: u64) -> Result<Counts, Refusal>
+        requires memory_words_in_bounds { memory_words ≤ length m.old }
+        requires taken { Taken (task self) r }
+        requires children_value { children ≡ ones r.present }
+        requires aside_fits { t.aside + leaves_of r.id < 2 ^ 64 }
+        ensures { Does self.entry.engine (task self.entry) (from_r r) (hand_on (task self.entry) (grown (from_r r) r.id)) m.old t m.new result }
+    {
+        let b = cells_under(r, decide::levels_under(self.request, r.id));
+        let failed = (b.places - children) * b.unit;
+        self.add_children(m, set_aside(self.request, t, failed), b)
+    }
+
+    // What is done with a taken record.
+    fn use_taken(self, m: &mut [u64], t: Counts, r: Rec) -> Result<Counts, Refusal>
+        requires memory_words_in_bounds { memory_words ≤ length m.old }
+        requires kept_le_raw_most { (t.kept ≤ raw_most) × (t.queued ≤ queue_most) }
+        requires taken { Taken (task self) r }
+        requires aside_fits { t.aside + leaves_of r.id < 2 ^ 64 }
+        ensures { Does self.entry.engine (task self.entry) (from_r r) (step_with (in_edition (task self.entry)) (grown (from_r r) r.id)) m.old t m.new result }
+    {
+        if decide::is_full(self.request, t.kept) {
+            return Ok(Counts { queued: 0, ..t });
+        }
+        let children = records::count(r.present);
+        if decide::is_handed_on(self.request, t.kept, t.queued, r.id, children) {
+            self.hand_on(m, t, r, children)
+        } else {
+            keep(m, t, r.id)
+        }
+    }
+
+    // One step: takes the least of the queue.
+    fn step(self, m: &mut [u64], t: Tally) -> Result<Tally, Refusal>
+        requires memory_words_in_bounds { memory_words ≤ length m.old }
+        requires live { Live self.engine (task self) m.old t }
+        requires queued_nonzero { (0 < t.queued) × (t.steps + 1 < 2 ^ 32) }
+        ensures { (l : List ℕ) → Reached self.entry.engine (task self.entry) l m.old t → Comes self.entry.engine (task self.entry) (after (in_edition (task self.entry)) l (t.steps + 1)) m.old m.new result }
+    {
+        let n = t.queued - 1;
+        let r = self.engine.take(m, n);
+        let from = r.from();
+        let before = t.aside;
+        let turn = self.use_taken(
             m,
             Counts {
                 kept: t.kept,
-                queued: t.queued,
-                aside: 0,
-                steps: t.steps,
+                queued: n,
+                aside: before.get(from),
+                steps: t.steps + 1,
             },
-            q,
-            g,
-            e,
-            i as u64,
-            ids[i],
+            r,
         );
-        t = end_turn(turn, t.aside, i as u64)?;
+        end_turn(turn, before, from)
     }
-    Ok(t)
-}
 
-// Step after step until the queue is empty or the allowance is used up.
-fn proceed(
-    m: &mut [u64],
-    s: Tally,
-    q: Request,
-    g: Region<'_>,
-    e: Engine,
-    allowance: u32,
-) -> Result<Tally, Refusal>
-    requires memory_words_in_bounds { memory_words ≤ length m.old }
-    requires asks { Asks q (area_of g) }
-    requires live { Live e (task_of q (area_of g)) m.old s }
-    requires steps_le_allowance { s.steps ≤ allowance }
-    ensures { (l : List ℕ) → Reached e (task_of q (area_of g.entry)) l m.old s → Comes e (task_of q (area_of g.entry)) (after (course_of q (area_of g.entry)) l allowance) m.old m.new result }
-{
-    let mut t = s;
-    while 0 < t.queued && t.steps < allowance {
-        t = step(m, t, q, g, e)?;
+    // The start cell at the place `from`: added if it is a candidate. One that fails is set aside.
+    fn start(self, m: &mut [u64], t: Counts, from: u64, id: u64) -> Result<Counts, Refusal>
+        requires memory_words_in_bounds { memory_words ≤ length m.old }
+        requires from_lt_places_most { from < places_most }
+        requires fit { Fit self.request id }
+        requires aside_fits { t.aside + leaves_of id < 2 ^ 64 }
+        ensures { Does self.entry.engine (task self.entry) from (start_one (task self.entry) (grown from id)) m.old t m.new result }
+    {
+        let c = candidate::new_candidate(self.request, self.region, id);
+        match c {
+            Candidate::Kept => self.add_candidate(m, t, from, id, true),
+            Candidate::Queued => self.add_candidate(m, t, from, id, false),
+            Candidate::None => Ok(set_aside(self.request, t, cellid::lsb(id))),
+        }
     }
-    Ok(t)
-}
 
-// The start cells, then the steps that are allowed.
-fn covering_internal(
-    m: &mut [u64],
-    q: Request,
-    g: Region<'_>,
-    e: Engine,
-    ids: [u64; 6],
-    count: usize,
-    allowance: u32,
-) -> Result<Tally, Refusal>
-    requires memory_words_in_bounds { memory_words ≤ length m.old }
-    requires asks { Asks q (area_of g) }
-    requires count_bound { count ≤ 6 }
-    requires all { All (Fit q) (take count ids) }
-    ensures { Comes e (task_of q (area_of g.entry)) (after (course_of q (area_of g.entry)) (take count ids) allowance) m.old m.new result }
-{
-    let t = initial_candidates(m, q, g, e, ids, count)?;
-    proceed(m, t, q, g, e, allowance)
+    // The start cells, in order.
+    fn initial_candidates(
+        self,
+        m: &mut [u64],
+        ids: [u64; 6],
+        count: usize,
+    ) -> Result<Tally, Refusal>
+        requires memory_words_in_bounds { memory_words ≤ length m.old }
+        requires count_bound { count ≤ 6 }
+        requires all { All (Fit self.request) (take count ids) }
+        ensures { Comes self.entry.engine (task self.entry) (after (in_edition (task self.entry)) (take count ids) 0) m.old m.new result }
+    {
+        let mut t = Tally {
+            kept: 0,
+            queued: 0,
+            steps: 0,
+            aside: Totals::NONE,
+        };
+        for i in 0..count {
+            let turn = self.start(
+                m,
+                Counts {
+                    kept: t.kept,
+                    queued: t.queued,
+                    aside: 0,
+                    steps: t.steps,
+                },
+                i as u64,
+                ids[i],
+            );
+            t = end_turn(turn, t.aside, i as u64)?;
+        }
+        Ok(t)
+    }
+
+    // Step after step until the queue is empty or the allowance is used up.
+    fn proceed(self, m: &mut [u64], s: Tally, allowance: u32) -> Result<Tally, Refusal>
+        requires memory_words_in_bounds { memory_words ≤ length m.old }
+        requires live { Live self.engine (task self) m.old s }
+        requires steps_le_allowance { s.steps ≤ allowance }
+        ensures { (l : List ℕ) → Reached self.entry.engine (task self.entry) l m.old s → Comes self.entry.engine (task self.entry) (after (in_edition (task self.entry)) l allowance) m.old m.new result }
+    {
+        let mut t = s;
+        while 0 < t.queued && t.steps < allowance {
+            t = self.step(m, t)?;
+        }
+        Ok(t)
+    }
+
+    // The start cells, then the steps that are allowed.
+    fn covering_internal(
+        self,
+        m: &mut [u64],
+        ids: [u64; 6],
+        count: usize,
+        allowance: u32,
+    ) -> Result<Tally, Refusal>
+        requires memory_words_in_bounds { memory_words ≤ length m.old }
+        requires count_bound { count ≤ 6 }
+        requires all { All (Fit self.request) (take count ids) }
+        ensures { Comes self.entry.engine (task self.entry) (after (in_edition (task self.entry)) (take count ids) allowance) m.old m.new result }
+    {
+        let t = self.initial_candidates(m, ids, count)?;
+        self.proceed(m, t, allowance)
+    }
 }
 
 // The words of a run become zero, and the refusal is passed on.
@@ -491,7 +429,12 @@ pub fn run(
     ensures value { result ≡ engine_answer (outcome_of q (area_of g.entry) (take count ids) allowance) }
     ensures mem_after { mem.new ≡ engine_memory (outcome_of q (area_of g.entry) (take count ids) allowance) mem.old }
 {
-    match covering_internal(mem, q, g, engine, ids, count, allowance) {
+    let job = Job {
+        request: q,
+        region: g,
+        engine,
+    };
+    match job.covering_internal(mem, ids, count, allowance) {
         Err(r) => refuse(mem, r),
         Ok(t) => {
             if 0 < t.queued {
@@ -572,7 +515,12 @@ pub fn watch(
     ensures out_after { out.new ≡ seen_over (task_of q (area_of g.entry)) (after (course_of q (area_of g.entry)) (take count ids) steps) out.old }
     ensures mem_after { mem.new ≡ cleared 0 memory_words mem.old }
 {
-    let seen = match covering_internal(mem, q, g, engine, ids, count, steps) {
+    let job = Job {
+        request: q,
+        region: g,
+        engine,
+    };
+    let seen = match job.covering_internal(mem, ids, count, steps) {
         Err(r) => Err(r),
         Ok(t) => tell(mem, t, engine, out),
     };

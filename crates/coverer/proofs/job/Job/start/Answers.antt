@@ -1,15 +1,14 @@
--- `coverer::start` meets its contract.
+-- `Job::start` meets its contract.
 use Rattle.cellid.proofs.Laws.{cell_pos}
 use Rattle.coverer.proofs.Adds.{low_leaves}
 use Rattle.coverer.proofs.Runs.{start_kept_ok, start_queued_ok, start_kept, start_queued, start_none}
 use native.Mathlib.Omega.{arith}
-use Rattle.coverer.proofs.start.Goals as goal
+use Rattle.coverer.proofs.job.Job.start.Goals as goal
 
 pub add_candidate-requires : goal.add_candidate-requires
 add_candidate-requires c =
     record {
       memory_words_in_bounds = c.requires.memory_words_in_bounds;
-      asks = c.requires.asks;
       from_lt_places_most = c.requires.from_lt_places_most;
       child_ok = start_kept_ok _ _ _ c.new_candidate-c.ensures c.requires.fit c.in-Kept.is;
       aside_fits = c.requires.aside_fits;
@@ -19,7 +18,6 @@ pub add_candidate-requires-in-Queued : goal.add_candidate-requires-in-Queued
 add_candidate-requires-in-Queued c =
     record {
       memory_words_in_bounds = c.requires.memory_words_in_bounds;
-      asks = c.requires.asks;
       from_lt_places_most = c.requires.from_lt_places_most;
       child_ok = start_queued_ok _ _ _ c.new_candidate-c.ensures c.requires.fit c.in-Queued.is;
       aside_fits = c.requires.aside_fits;

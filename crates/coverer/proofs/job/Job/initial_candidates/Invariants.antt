@@ -1,4 +1,4 @@
--- `coverer::initial_candidates` meets its contract. The invariant: the start cells from i on are what is left of the definition's start.
+-- `Job::initial_candidates` meets its contract. The invariant: the start cells from i on are what is left of the definition's start.
 use Rattle.run.specs.declared.Request.{Request}
 use Prim.Native.Nat.{ℕ, ◌≤◌}
 use Rattle.candidate.specs.Candidate.{task_of}
@@ -9,7 +9,7 @@ use Rattle.region.specs.Region.{Area, area_of}
 use lib.ListN.{length, take}
 use mathlib.Core.List.{List}
 use mathlib.Core.Path.{◌≡◌}
-use Rattle.coverer.proofs.initial_candidates.Given as goal
+use Rattle.coverer.proofs.job.Job.initial_candidates.Given as goal
 
 pub record Inv (e : Engine) (q : Request) (a : Area) (count : ℕ) (ids m₀ m : List ℕ) (t : Tally) (i : ℕ) : Type 0 where
   pub six : count ≤ 6
@@ -18,4 +18,4 @@ pub record Inv (e : Engine) (q : Request) (a : Area) (count : ℕ) (ids m₀ m :
   pub starting : Starting e (task_of q a) (take count ids) m₀ m t i
 
 abbrev pub invariant-loop-i : goal.invariant-loop-i
-invariant-loop-i l = Inv l.e l.q (area_of l.g) l.count l.ids l.initial.m l.m l.t l.i
+invariant-loop-i l = Inv l.self.engine l.self.request (area_of l.self.region) l.count l.ids l.initial.m l.m l.t l.i

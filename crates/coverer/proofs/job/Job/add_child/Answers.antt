@@ -1,10 +1,10 @@
--- `coverer::add_child` meets its contract.
+-- `Job::add_child` meets its contract.
 use Rattle.coverer.proofs.Adds.{domain, child_none, child_full, child_added, child_id, child_ok, leaves_there}
 use Rattle.coverer.proofs.Stands.{up_to}
 use Rattle.coverer.specs.Engine.{AsideUpTo}
 use mathlib.Core.Path.{sym, ◌∙◌}
 use native.Mathlib.Omega.{arith}
-use Rattle.coverer.proofs.add_child.Goals as goal
+use Rattle.coverer.proofs.job.Job.add_child.Goals as goal
 
 pub overflow_mul-j-else-is_full : goal.overflow_mul-j-else-is_full
 overflow_mul-j-else-is_full c =
@@ -21,7 +21,6 @@ add_candidate-requires c =
     let e = sym c.is_in.ensures ∙ c.if-is_in.true in
     record {
       memory_words_in_bounds = c.requires.memory_words_in_bounds;
-      asks = c.requires.asks;
       from_lt_places_most = c.requires.j_bound.1;
       child_ok = child_ok _ _ _ _ e c.is_in-ends.ensures c.requires.all;
       aside_fits = omega (arith, leaves_there c.args.b c.args.j e, c.requires.aside_fits);
@@ -32,7 +31,7 @@ unfolding AsideUpTo
 returns-then-is_full c =
     let e = sym c.is_in.ensures ∙ c.if-is_in.true in
     record {
-      does = child_full _ _ (domain _ _ c.requires.asks) _ _ _ _ _ _ c.requires.memory_words_in_bounds e c.is_full.ensures c.if-is_full.true;
+      does = child_full _ _ (domain _ _ c.args.self.asks) _ _ _ _ _ _ c.requires.memory_words_in_bounds e c.is_full.ensures c.if-is_full.true;
       aside_up_to = omega arith;
     }
 
@@ -40,7 +39,7 @@ pub returns-else-is_full : goal.returns-else-is_full
 returns-else-is_full c =
     let e = sym c.is_in.ensures ∙ c.if-is_in.true in
     record {
-      does = child_added _ _ (domain _ _ c.requires.asks) _ _ _ _ _ _ _ _ _ c.requires.memory_words_in_bounds e c.is_full.ensures c.if-is_full.false c.is_in-ends.ensures c.add_candidate.ensures.does;
+      does = child_added _ _ (domain _ _ c.args.self.asks) _ _ _ _ _ _ _ _ _ c.requires.memory_words_in_bounds e c.is_full.ensures c.if-is_full.false c.is_in-ends.ensures c.add_candidate.ensures.does;
       aside_up_to = up_to _ _ _ (omega (arith, leaves_there c.args.b c.args.j e)) c.add_candidate.ensures.aside_up_to;
     }
 
@@ -48,6 +47,6 @@ pub returns-else-is_in : goal.returns-else-is_in
 unfolding AsideUpTo
 returns-else-is_in c =
     record {
-      does = child_none _ _ (domain _ _ c.requires.asks) _ _ _ _ _ (sym c.is_in.ensures ∙ c.if-is_in.false);
+      does = child_none _ _ (domain _ _ c.args.self.asks) _ _ _ _ _ (sym c.is_in.ensures ∙ c.if-is_in.false);
       aside_up_to = omega arith;
     }

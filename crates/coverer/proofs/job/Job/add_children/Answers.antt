@@ -18,8 +18,8 @@ use lib.ListN.{length}
 use mathlib.Core.List.{List}
 use mathlib.Core.Path.{◌≡◌, refl, ◌∙◌, subst}
 use native.Mathlib.Omega.{arith}
-use Rattle.coverer.proofs.add_children.Invariants.{Inv}
-use Rattle.coverer.proofs.add_children.Goals as goal
+use Rattle.coverer.proofs.job.Job.add_children.Invariants.{Inv}
+use Rattle.coverer.proofs.job.Job.add_children.Goals as goal
 
 turn : (e : Engine) (q : Request) (a : Area) (b : Brood) (m₀ : List ℕ) (t₀ : Counts) (m : List ℕ) (t : Counts) (j : ℕ) (m' : List ℕ) (r : Turn) (u : Counts) → Asks q a → j < b.places → r ≡ Ok u
     → Does e (task_of q a) b.from (add_all (course_of q a) b.from (child_if b j)) m t m' r → AsideUpTo (t.aside + leaves_in (child_if b j)) r → length m' ≡ length m → Inv e q a b m₀ t₀ m t j → Inv e q a b m₀ t₀ m' u (j + 1)
@@ -47,19 +47,18 @@ add_child-requires c =
     let W = waiting_one (ChildOk _) _ _ _ c.loop-j-test.true I.waits in
     record {
       memory_words_in_bounds = omega (arith, c.requires.memory_words_in_bounds, I.long);
-      asks = c.requires.asks;
       j_bound = (omega (arith, c.requires.places_bound.0), c.requires.places_bound.1);
       all = W.all;
       aside_fits = W.room;
     }
 
 pub returns-in_err-t : goal.returns-in_err-t
-returns-in_err-t c = let p = err_from_is_err_and c.from_residual.result c.from_residual.ensures.1 in rw (p.1, p.2) (stop _ _ _ _ _ _ _ _ _ _ _ _ c.requires.asks c.loop-j-test.true c.in_err-t.was c.add_child.ensures.does c.loop-j.invariant)
+returns-in_err-t c = let p = err_from_is_err_and c.from_residual.result c.from_residual.ensures.1 in rw (p.1, p.2) (stop _ _ _ _ _ _ _ _ _ _ _ _ c.args.self.asks c.loop-j-test.true c.in_err-t.was c.add_child.ensures.does c.loop-j.invariant)
 
 pub loop-j-preserved : goal.loop-j-preserved
-loop-j-preserved c = turn _ _ _ _ _ _ _ _ _ _ _ _ c.requires.asks c.loop-j-test.true c.in_ok-t.was c.add_child.ensures.does c.add_child.ensures.aside_up_to c.add_child.auto.m c.loop-j.invariant
+loop-j-preserved c = turn _ _ _ _ _ _ _ _ _ _ _ _ c.args.self.asks c.loop-j-test.true c.in_ok-t.was c.add_child.ensures.does c.add_child.ensures.aside_up_to c.add_child.auto.m c.loop-j.invariant
 
 pub returns : goal.returns
 returns c =
     let I = c.loop-j.invariant in
-    goes_end _ _ _ _ _ _ _ _ _ (children_over _ (domain _ _ c.requires.asks) _ _ (omega arith) _) I.goes
+    goes_end _ _ _ _ _ _ _ _ _ (children_over _ (domain _ _ c.args.self.asks) _ _ (omega arith) _) I.goes

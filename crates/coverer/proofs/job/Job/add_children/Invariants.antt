@@ -1,4 +1,4 @@
--- `coverer::add_children` meets its contract. The invariant: the children from j on are what is left of the definition's additions.
+-- `Job::add_children` meets its contract. The invariant: the children from j on are what is left of the definition's additions.
 use Rattle.coverer.specs.Coverer.{course_of}
 use Rattle.run.specs.Run.{add_all}
 use Rattle.run.specs.Ground.{ChildOk}
@@ -15,7 +15,7 @@ use Rattle.region.specs.Region.{Area, area_of}
 use lib.ListN.{length}
 use mathlib.Core.List.{List}
 use mathlib.Core.Path.{◌≡◌}
-use Rattle.coverer.proofs.add_children.Given as goal
+use Rattle.coverer.proofs.job.Job.add_children.Given as goal
 
 pub record Inv (e : Engine) (q : Request) (a : Area) (b : Brood) (m₀ : List ℕ) (t₀ : Counts) (m : List ℕ) (t : Counts) (j : ℕ) : Type 0 where
   pub long : length m ≡ length m₀
@@ -23,4 +23,4 @@ pub record Inv (e : Engine) (q : Request) (a : Area) (b : Brood) (m₀ : List �
   pub goes : Goes e (task_of q a) b.from (add_all (course_of q a) b.from (children_from b 0)) (add_all (course_of q a) b.from (children_from b j)) m₀ t₀ m t
 
 abbrev pub invariant-loop-j : goal.invariant-loop-j
-invariant-loop-j l = Inv l.e l.q (area_of l.g) l.b l.initial.m l.initial.t l.m l.t l.j
+invariant-loop-j l = Inv l.self.engine l.self.request (area_of l.self.region) l.b l.initial.m l.initial.t l.m l.t l.j

@@ -1,10 +1,10 @@
--- `coverer::covering_internal` meets its contract.
+-- `Job::covering_internal` meets its contract.
 use Rattle.std.proofs.lemmas.Result.{err_from_is_err_and}
 use Prim.Native.Nat.{◌≤◌}
 use Rattle.coverer.proofs.Runs.{runs_live, runs_room, runs_refused, runs_on}
 use lib.ListN.{length, take, length-take}
 use native.Mathlib.Omega.{arith}
-use Rattle.coverer.proofs.covering_internal.Goals as goal
+use Rattle.coverer.proofs.job.Job.covering_internal.Goals as goal
 
 pub proceed-requires : goal.proceed-requires
 proceed-requires c =
@@ -13,7 +13,6 @@ proceed-requires c =
     let six : length (take c.args.count c.args.ids) ≤ 6 = omega (arith, length-take c.args.count c.args.ids, c.requires.count_bound) in
     record {
       memory_words_in_bounds = omega (arith, d.auto.m, c.requires.memory_words_in_bounds);
-      asks = c.requires.asks;
       live = runs_live _ _ _ _ _ _ c.args.allowance d.ensures _ e c.requires.all six;
       steps_le_allowance = runs_room _ _ _ _ _ _ _ d.ensures _ e;
     }

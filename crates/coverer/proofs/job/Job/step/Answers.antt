@@ -1,4 +1,4 @@
--- `coverer::step` meets its contract.
+-- `Job::step` meets its contract.
 use mathlib.Core.Path.{ap, ◌∙◌}
 use Rattle.run.specs.Run.{queue_most}
 use Prim.Native.Nat.{◌≤◌}
@@ -6,7 +6,7 @@ use Rattle.totals.specs.Totals.{total_at}
 use Rattle.coverer.proofs.Adds.{domain}
 use Rattle.coverer.proofs.Runs.{takes, steps}
 use native.Mathlib.Omega.{arith}
-use Rattle.coverer.proofs.step.Goals as goal
+use Rattle.coverer.proofs.job.Job.step.Goals as goal
 
 pub take-r-requires : goal.take-r-requires
 take-r-requires c =
@@ -15,16 +15,15 @@ take-r-requires c =
 
 pub get-requires : goal.get-requires
 get-requires c =
-    let T = takes _ _ (domain _ _ c.requires.asks) _ _ _ c.requires.memory_words_in_bounds c.requires.queued_nonzero.0 c.take-r.ensures.value c.requires.live in
+    let T = takes _ _ (domain _ _ c.args.self.asks) _ _ _ c.requires.memory_words_in_bounds c.requires.queued_nonzero.0 c.take-r.ensures.value c.requires.live in
     omega (arith, c.from-from.ensures, T.taken.place)
 
 pub use_taken-turn-requires : goal.use_taken-turn-requires
 use_taken-turn-requires c =
-    let T = takes _ _ (domain _ _ c.requires.asks) _ _ _ c.requires.memory_words_in_bounds c.requires.queued_nonzero.0 c.take-r.ensures.value c.requires.live in
+    let T = takes _ _ (domain _ _ c.args.self.asks) _ _ _ c.requires.memory_words_in_bounds c.requires.queued_nonzero.0 c.take-r.ensures.value c.requires.live in
     let total = c.get.ensures ∙ ap (total_at c.args.t.aside) c.from-from.ensures in
     record {
       memory_words_in_bounds = omega (arith, c.take-r.auto.m, c.requires.memory_words_in_bounds);
-      asks = c.requires.asks;
       kept_le_raw_most = (T.kept, omega (arith, T.queued));
       taken = T.taken;
       aside_fits = omega (arith, total, T.room);
@@ -32,10 +31,10 @@ use_taken-turn-requires c =
 
 pub end_turn-requires : goal.end_turn-requires
 end_turn-requires c =
-    let T = takes _ _ (domain _ _ c.requires.asks) _ _ _ c.requires.memory_words_in_bounds c.requires.queued_nonzero.0 c.take-r.ensures.value c.requires.live in
+    let T = takes _ _ (domain _ _ c.args.self.asks) _ _ _ c.requires.memory_words_in_bounds c.requires.queued_nonzero.0 c.take-r.ensures.value c.requires.live in
     omega (arith, c.from-from.ensures, T.taken.place)
 
 pub returns : goal.returns
 returns c =
-    let T = takes _ _ (domain _ _ c.requires.asks) _ _ _ c.requires.memory_words_in_bounds c.requires.queued_nonzero.0 c.take-r.ensures.value c.requires.live in
+    let T = takes _ _ (domain _ _ c.args.self.asks) _ _ _ c.requires.memory_words_in_bounds c.requires.queued_nonzero.0 c.take-r.ensures.value c.requires.live in
     steps _ _ _ _ _ _ _ _ _ c.requires.memory_words_in_bounds c.requires.queued_nonzero.0 (c.requires.live.3.holds.at 0).few T.taken.place c.take-r.ensures.value c.take-r.ensures.m_after _ _ c.from-from.ensures c.get.ensures c.use_taken-turn.ensures c.end_turn.ensures

@@ -2,7 +2,7 @@ use Rattle.std.proofs.lemmas.Result.{err_from_is_err_and}
 use Rattle.coverer.proofs.Runs.{going_spent, going_end, going_stop, going_turn}
 use mathlib.Core.Path.{refl, ◌∙◌}
 use native.Mathlib.Omega.{arith}
-use Rattle.coverer.proofs.proceed.Goals as goal
+use Rattle.coverer.proofs.job.Job.proceed.Goals as goal
 
 pub loop-t-init : goal.loop-t-init
 loop-t-init c = record { long = refl; going = record { live = c.requires.live; left = c.requires.steps_le_allowance; goes = λ l R. R; frame = refl } }
@@ -16,7 +16,6 @@ step-requires c =
     let I = c.loop-t.invariant in
     record {
       memory_words_in_bounds = omega (arith, c.requires.memory_words_in_bounds, I.long);
-      asks = c.requires.asks;
       live = I.going.live;
       queued_nonzero = (c.loop-t-test.true, omega (arith, I.going.left, c.if-t-allowance.true));
     }

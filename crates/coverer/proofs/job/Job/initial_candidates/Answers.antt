@@ -11,7 +11,7 @@ use lib.Seq.{get_or-take, length-take-le}
 use mathlib.Core.List.{List}
 use mathlib.Core.Path.{◌≡◌, refl, sym, ◌∙◌, subst}
 use native.Mathlib.Omega.{arith}
-use Rattle.coverer.proofs.initial_candidates.Goals as goal
+use Rattle.coverer.proofs.job.Job.initial_candidates.Goals as goal
 
 -- the i-th of the start cells
 inside : (count i : ℕ) (ids : List ℕ) → i < count → count ≤ 6 → length ids ≡ 6 → i < length (take count ids)
@@ -37,7 +37,6 @@ start-turn-requires c =
     let F = cell _ _ _ _ c.loop-i-test.true I.six I.wide c.requires.all in
     record {
       memory_words_in_bounds = omega (arith, c.requires.memory_words_in_bounds, I.long);
-      asks = c.requires.asks;
       from_lt_places_most = omega (arith, I.six, c.loop-i-test.true);
       fit = F;
       aside_fits = omega (arith, leaves_le (get_or c.args.ids c.loop-i.i 0));
