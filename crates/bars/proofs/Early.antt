@@ -1,5 +1,7 @@
 -- The refusals 1 to 6 and 14: each is given exactly when the papers say so.
-use mathlib.Core.Path.{◌≡◌, subst}
+use mathlib.Core.Path.{◌≡◌, refl, sym, ap, ◌∙◌, subst}
+use mathlib.Core.List.{[], ◌∷◌}
+use lib.ListN.{get_or}
 use mathlib.Core.Bool.{true, false, and-eq-true_iff}
 use mathlib.Core.Logic.{◌⊎◌, inl, inr, ⊎_elim, ◌↔◌}
 use Prim.Native.Nat.{ℕ, zero, suc, ◌≤◌, ◌<◌}
@@ -11,8 +13,10 @@ use Rattle.region.specs.Region.{Area, in_domain}
 use Rattle.run.specs.declared.RegionCoverer.{RegionCoverer}
 use Rattle.run.proofs.Lists.{if_ok}
 use Rattle.run.specs.Run.{memory_words}
-use Rattle.bars.specs.declared.Bar.{Bar}
-use Rattle.bars.specs.Bars.{is_up_to, numbers_bar, edition_bar, region_bar, memory_bar, first_bar, bar_of}
+use Rattle.std.specs.Prelude.{Ok, Err}
+use Rattle.refusal.specs.Refusal.{number_of}
+use Rattle.refusal.specs.declared.Refusal.{Refusal}
+use Rattle.bars.specs.Bars.{Bar, is_up_to, numbers_bar, edition_bar, region_bar, memory_bar, first_bar, bar_of}
 
 -- "level_mod not 1..3", "unknown edition": a number that is none of those from 1 to `most`, and one that is
 abbrev pub Beyond : ℕ → ℕ → Type 0
@@ -41,53 +45,82 @@ not_up_to most n h = no_true (is_up_to most n) (λ t. let g = up_to_true most n 
 abbrev pub IsBar : ℕ → Type 0
 IsBar n = ((0 < n) × (n ≤ 6)) ⊎ (n ≡ 14)
 
+-- each of these numbers stands for one refusal
+bar_at : ℕ → Refusal
+bar_at n = get_or (Refusal.MaxLevel ∷ Refusal.MaxLevel ∷ Refusal.MinLevel ∷ Refusal.LevelMod ∷ Refusal.MaxCells ∷ Refusal.Region ∷ Refusal.Memory ∷ []) n Refusal.Edition
+
+bar_back : (r : Refusal) → IsBar (number_of r) → bar_at (number_of r) ≡ r
+unfolding bar_at
+bar_back Refusal.MaxLevel h = refl
+bar_back Refusal.MinLevel h = refl
+bar_back Refusal.LevelMod h = refl
+bar_back Refusal.MaxCells h = refl
+bar_back Refusal.Region h = refl
+bar_back Refusal.Memory h = refl
+bar_back Refusal.Edition h = refl
+bar_back Refusal.QueueFull h = absurd (⊎_elim (λ b. omega arith) (λ b. omega arith) h)
+bar_back Refusal.RawFull h = absurd (⊎_elim (λ b. omega arith) (λ b. omega arith) h)
+bar_back Refusal.Allowance h = absurd (⊎_elim (λ b. omega arith) (λ b. omega arith) h)
+bar_back Refusal.ListTooLong h = absurd (⊎_elim (λ b. omega arith) (λ b. omega arith) h)
+bar_back (Refusal.Malformed k) h = absurd (⊎_elim (λ b. omega arith) (λ b. omega arith) h)
+bar_back Refusal.NamesTooLong h = absurd (⊎_elim (λ b. omega arith) (λ b. omega arith) h)
+bar_back Refusal.TooManyOrders h = absurd (⊎_elim (λ b. omega arith) (λ b. omega arith) h)
+bar_back Refusal.FirstList h = absurd (⊎_elim (λ b. omega arith) (λ b. omega arith) h)
+bar_back Refusal.SecondList h = absurd (⊎_elim (λ b. omega arith) (λ b. omega arith) h)
+bar_back Refusal.SetTooLong h = absurd (⊎_elim (λ b. omega arith) (λ b. omega arith) h)
+bar_back Refusal.NotRanges h = absurd (⊎_elim (λ b. omega arith) (λ b. omega arith) h)
+bar_back Refusal.RangesTooLong h = absurd (⊎_elim (λ b. omega arith) (λ b. omega arith) h)
+
+pub bar_same : (r s : Refusal) → IsBar (number_of r) → IsBar (number_of s) → number_of r ≡ number_of s → r ≡ s
+bar_same r s h g e = sym (bar_back r h) ∙ ap bar_at e ∙ bar_back s g
+
 -- ---- each bar by its reason
 
-pub edition_bad : (n : ℕ) → Beyond 2 n → edition_bar n ≡ Bar.Barred 14
+pub edition_bad : (n : ℕ) → Beyond 2 n → edition_bar n ≡ Err Refusal.Edition
 unfolding edition_bar
 edition_bad n h = rw (not_up_to 2 n h, edition_bar)
 
-pub edition_open : (n : ℕ) → UpTo 2 n → edition_bar n ≡ Bar.Open
+pub edition_open : (n : ℕ) → UpTo 2 n → edition_bar n ≡ Ok tt
 unfolding edition_bar
 edition_open n h = rw (is_up_to_lem 2 n h, edition_bar)
 
-pub region_open : (a : Area) → in_domain a ≡ true → region_bar a ≡ Bar.Open
+pub region_open : (a : Area) → in_domain a ≡ true → region_bar a ≡ Ok tt
 unfolding region_bar
 region_open a h = rw (h, region_bar)
 
-pub region_bad : (a : Area) → in_domain a ≡ false → region_bar a ≡ Bar.Barred 5
+pub region_bad : (a : Area) → in_domain a ≡ false → region_bar a ≡ Err Refusal.Region
 unfolding region_bar
 region_bad a h = rw (h, region_bar)
 
-pub memory_short : (memory : ℕ) → memory < memory_words → memory_bar memory ≡ Bar.Barred 6
+pub memory_short : (memory : ℕ) → memory < memory_words → memory_bar memory ≡ Err Refusal.Memory
 unfolding memory_bar
 memory_short memory h = rw (lt-ltb memory memory_words h, memory_bar)
 
-pub memory_open : (memory : ℕ) → memory_words ≤ memory → memory_bar memory ≡ Bar.Open
+pub memory_open : (memory : ℕ) → memory_words ≤ memory → memory_bar memory ≡ Ok tt
 unfolding memory_bar
 memory_open memory h = rw (le-ltb memory memory_words h, memory_bar)
 
 module _ (c : RegionCoverer) where
-  pub numbers_deep : 30 < c.max_level → numbers_bar c ≡ Bar.Barred 1
+  pub numbers_deep : 30 < c.max_level → numbers_bar c ≡ Err Refusal.MaxLevel
   unfolding numbers_bar
   numbers_deep h = rw (lt-ltb 30 c.max_level h, numbers_bar)
 
   module _ (t : c.max_level ≤ 30) where
-    pub numbers_order : c.max_level < c.min_level → numbers_bar c ≡ Bar.Barred 2
+    pub numbers_order : c.max_level < c.min_level → numbers_bar c ≡ Err Refusal.MinLevel
     unfolding numbers_bar
     numbers_order h = rw (le-ltb 30 c.max_level t, numbers_bar, lt-ltb c.max_level c.min_level h)
 
     module _ (l : c.min_level ≤ c.max_level) where
-      pub numbers_steps : Beyond 3 c.level_mod → numbers_bar c ≡ Bar.Barred 3
+      pub numbers_steps : Beyond 3 c.level_mod → numbers_bar c ≡ Err Refusal.LevelMod
       unfolding numbers_bar
       numbers_steps h = rw (le-ltb 30 c.max_level t, numbers_bar, le-ltb c.max_level c.min_level l, not_up_to 3 c.level_mod h)
 
       module _ (m : UpTo 3 c.level_mod) where
-        pub numbers_cells : 1000 < c.max_cells → numbers_bar c ≡ Bar.Barred 4
+        pub numbers_cells : 1000 < c.max_cells → numbers_bar c ≡ Err Refusal.MaxCells
         unfolding numbers_bar
         numbers_cells h = rw (le-ltb 30 c.max_level t, numbers_bar, le-ltb c.max_level c.min_level l, is_up_to_lem 3 c.level_mod m, lt-ltb 1000 c.max_cells h)
 
-        pub numbers_open : c.max_cells ≤ 1000 → numbers_bar c ≡ Bar.Open
+        pub numbers_open : c.max_cells ≤ 1000 → numbers_bar c ≡ Ok tt
         unfolding numbers_bar
         numbers_open f = rw (le-ltb 30 c.max_level t, numbers_bar, le-ltb c.max_level c.min_level l, is_up_to_lem 3 c.level_mod m, le-ltb 1000 c.max_cells f)
 
@@ -106,14 +139,14 @@ module _ (c : RegionCoverer) (a : Area) (memory : ℕ) where
 
   -- the numbers, with what each is given for, and what holds where none is
   pub data Early : Bar → Type 0 where
-    deep : 30 < c.max_level → Early (Bar.Barred 1)
-    order : Top → c.max_level < c.min_level → Early (Bar.Barred 2)
-    steps : Top → Low → Beyond 3 c.level_mod → Early (Bar.Barred 3)
-    cells : Top → Low → UpTo 3 c.level_mod → 1000 < c.max_cells → Early (Bar.Barred 4)
-    edition : Top → Low → UpTo 3 c.level_mod → Few → Beyond 2 c.edition → Early (Bar.Barred 14)
-    region : Top → Low → UpTo 3 c.level_mod → Few → Known → in_domain a ≡ false → Early (Bar.Barred 5)
-    short : Top → Low → UpTo 3 c.level_mod → Few → Known → in_domain a ≡ true → memory < memory_words → Early (Bar.Barred 6)
-    none : Top → Low → UpTo 3 c.level_mod → Few → Known → in_domain a ≡ true → memory_words ≤ memory → Early Bar.Open
+    deep : 30 < c.max_level → Early (Err Refusal.MaxLevel)
+    order : Top → c.max_level < c.min_level → Early (Err Refusal.MinLevel)
+    steps : Top → Low → Beyond 3 c.level_mod → Early (Err Refusal.LevelMod)
+    cells : Top → Low → UpTo 3 c.level_mod → 1000 < c.max_cells → Early (Err Refusal.MaxCells)
+    edition : Top → Low → UpTo 3 c.level_mod → Few → Beyond 2 c.edition → Early (Err Refusal.Edition)
+    region : Top → Low → UpTo 3 c.level_mod → Few → Known → in_domain a ≡ false → Early (Err Refusal.Region)
+    short : Top → Low → UpTo 3 c.level_mod → Few → Known → in_domain a ≡ true → memory < memory_words → Early (Err Refusal.Memory)
+    none : Top → Low → UpTo 3 c.level_mod → Few → Known → in_domain a ≡ true → memory_words ≤ memory → Early (Ok tt)
 
   -- the number that is given is given for its reason
   pub early_is : Early (bar_of c a memory)
@@ -157,7 +190,7 @@ module _ (c : RegionCoverer) (a : Area) (memory : ℕ) where
   exactly_when b = (λ e. subst Early e early_is, early_given b)
 
   -- 1 to 6, 14 and no other
-  pub early_low : {n : ℕ} → Early (Bar.Barred n) → IsBar n
+  pub early_low : {r : Refusal} → Early (Err r) → IsBar (number_of r)
   early_low (deep _) = inl (omega arith, omega arith)
   early_low (order _ _) = inl (omega arith, omega arith)
   early_low (steps _ _ _) = inl (omega arith, omega arith)
@@ -176,8 +209,8 @@ module _ (c : RegionCoverer) (a : Area) (memory : ℕ) where
     pub region : in_domain a ≡ true
     pub long : memory_words ≤ memory
 
-  pub early_none : bar_of c a memory ≡ Bar.Open → Valid
+  pub early_none : bar_of c a memory ≡ Ok tt → Valid
   early_none e = of (subst Early e early_is)
     where
-      of : Early Bar.Open → Valid
+      of : Early (Ok tt) → Valid
       of (none t l m f n r h) = record { deep = t; order = l; «mod» = m; few = f; known = n; region = r; long = h }

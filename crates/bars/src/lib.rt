@@ -1,92 +1,72 @@
 // The refusals 1 to 6 and 14, which come before anything is touched: of a request's numbers, of its edition, of its region and of the working memory, each by
-// itself and joined in the papers' order.
+// itself and one after another in the papers' order.
 #![tactic(auto)]
 
 ghost use Rattle.std.specs.Prelude.{◌≡◌};
 ghost use Rattle.region.specs.Region.{area_of};
-ghost use Rattle.bars.specs.Bars.{first_bar, numbers_bar, edition_bar, region_bar, memory_bar, bar_of};
+ghost use Rattle.bars.specs.Bars.{numbers_bar, edition_bar, region_bar, memory_bar, bar_of};
 
+use refusal::Refusal;
 use region::Region;
 use run::{MEMORY_WORDS, RegionCoverer};
 
-// Whether a request goes on, or is refused with a number before anything is touched.
-#[derive(Clone, Copy)]
-pub enum Bar {
-    Open,
-    Barred(u64),
-}
-
-// The first of two bars.
-pub fn first_bar(a: Bar, b: Bar) -> Bar
-    ensures { result ≡ first_bar a b }
-{
-    match a {
-        Bar::Open => b,
-        Bar::Barred(n) => Bar::Barred(n),
-    }
-}
-
 // 1 to 4: the request's numbers.
-pub fn numbers_bar(c: RegionCoverer) -> Bar
+pub fn numbers_bar(c: RegionCoverer) -> Result<(), Refusal>
     ensures { result ≡ numbers_bar c }
 {
     if c.max_level > 30 {
-        return Bar::Barred(1);
+        Err(Refusal::MaxLevel)
+    } else if c.max_level < c.min_level {
+        Err(Refusal::MinLevel)
+    } else if !(1..=3).contains(&c.level_mod) {
+        Err(Refusal::LevelMod)
+    } else if c.max_cells > 1000 {
+        Err(Refusal::MaxCells)
+    } else {
+        Ok(())
     }
-    if c.max_level < c.min_level {
-        return Bar::Barred(2);
-    }
-    if c.level_mod < 1 {
-        return Bar::Barred(3);
-    }
-    if c.level_mod > 3 {
-        return Bar::Barred(3);
-    }
-    if c.max_cells > 1000 {
-        return Bar::Barred(4);
-    }
-    Bar::Open
 }
 
 // 14: the edition of the queue's order.
-pub fn edition_bar(n: u64) -> Bar
+pub fn edition_bar(n: u64) -> Result<(), Refusal>
     ensures { result ≡ edition_bar n }
 {
-    if n < 1 {
-        return Bar::Barred(14);
+    if (1..=2).contains(&n) {
+        Ok(())
+    } else {
+        Err(Refusal::Edition)
     }
-    if n > 2 {
-        return Bar::Barred(14);
-    }
-    Bar::Open
 }
 
 // 5: the region.
-pub fn region_bar(g: Region<'_>) -> Bar
+pub fn region_bar(g: Region<'_>) -> Result<(), Refusal>
     ensures { result ≡ region_bar (area_of g.entry) }
 {
-    if region::in_domain(g) {
-        Bar::Open
+    if g.in_domain() {
+        Ok(())
     } else {
-        Bar::Barred(5)
+        Err(Refusal::Region)
     }
 }
 
 // 6: the working memory.
-pub fn memory_bar(words: usize) -> Bar
+pub fn memory_bar(words: usize) -> Result<(), Refusal>
     ensures { result ≡ memory_bar words }
 {
     if words < MEMORY_WORDS {
-        Bar::Barred(6)
+        Err(Refusal::Memory)
     } else {
-        Bar::Open
+        Ok(())
     }
 }
 
 // The first of these refusals that is to be given, if any.
-pub fn first_refusal(c: RegionCoverer, g: Region<'_>, words: usize) -> Bar
+#[tactic(auto, unfolding(crate::specs::Bars::bar_of))]
+pub fn first_refusal(c: RegionCoverer, g: Region<'_>, words: usize) -> Result<(), Refusal>
     ensures { result ≡ bar_of c (area_of g.entry) words }
 {
-    let late = first_bar(region_bar(g), memory_bar(words));
-    first_bar(numbers_bar(c), first_bar(edition_bar(c.edition), late))
+    numbers_bar(c)?;
+    edition_bar(c.edition)?;
+    region_bar(g)?;
+    memory_bar(words)
 }

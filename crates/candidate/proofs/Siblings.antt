@@ -1,5 +1,6 @@
 -- What one look makes of a cell in a run; and since the four children of a cell have one level, one rule makes their sets of the two that a look gives.
 use mathlib.Core.Path.{◌≡◌, refl, sym, ap, ap₂, ◌∙◌}
+use Rattle.std.specs.Prelude.{Option, Some, None}
 use mathlib.Core.Bool.{Bool, true, false, not, cond, ◌&&◌, ◌||◌}
 use Prim.Native.Nat.{ℕ, ◌+◌, ◌*◌, ◌/◌, ◌^◌, ◌<◌}
 use native.Mathlib.Omega.{arith}
@@ -13,7 +14,6 @@ use Rattle.sight.specs.declared.Sight.{Sight}
 use Rattle.sight.specs.declared.Sights.{Sights}
 use Rattle.sight.proofs.Laws.{pick_bit, passes_by}
 use Rattle.run.specs.declared.Found.{Found}
-use Rattle.run.specs.declared.Request.{Request}
 use Rattle.run.specs.Run.{min_level, max_level, level_mod, Task, Look, fails, none, terminal, divide, look}
 use Rattle.run.specs.Masks.{found_at, found, found_part, place_in, up_to}
 use Rattle.run.proofs.Looks.{look_by, look_by_lem}
@@ -43,29 +43,11 @@ look_five true false false false true = refl
 look_five true false false false false = refl
 
 look_as_lem : (T : Task) (id : ℕ) → look T id ≡ look_as (crossing_as T.asked (level_of id)) (sight_of T.hits T.within (asks_whole T.asked (level_of id)) id)
-unfolding sight_of asks_whole crossing_as
+unfolding sight_of
 look_as_lem T id = look_by_lem T id ∙ look_five (T.hits id) (ltb (level_of id) (min_level T.asked)) (T.within id) (ltb (max_level T.asked) (level_of id + level_mod T.asked)) T.asked.inner
 
 pub seen_as : (T : Task) (id level : ℕ) (whole : Bool) (s : Sight) → level ≡ level_of id → whole ≡ asks_whole T.asked level → s ≡ sight_of T.hits T.within whole id → look_as (crossing_as T.asked level) s ≡ look T id
 seen_as T id level whole s el ew es = rw (es, ew, el) (sym (look_as_lem T id))
-
--- what a crossing cell is to the run tells whether it asks for more, at min or deeper
-abbrev asks_by : Candidate → Bool → Bool
-asks_by Candidate.Kept deep = false
-asks_by Candidate.Queued deep = deep
-asks_by Candidate.None deep = true
-
-asks_three : (l b i : Bool) → asks_by (candidate_of (cond l divide (cond b (cond i none terminal) divide))) (not l) ≡ (not l && (i || not b))
-unfolding candidate_of
-asks_three true b i = refl
-asks_three false true true = refl
-asks_three false true false = refl
-asks_three false false true = refl
-asks_three false false false = refl
-
-pub asks_by_lem : (q : Request) (level : ℕ) (c : Candidate) → c ≡ candidate_of (crossing_as q level) → asks_by c (not (ltb level (min_level q))) ≡ asks_whole q level
-unfolding crossing_as asks_whole
-asks_by_lem q level c e = rw e (asks_three (ltb level (min_level q)) (ltb (max_level q) (level + level_mod q)) q.inner)
 
 -- ---- four
 
@@ -83,39 +65,39 @@ up_four f id p t e =
     rw (e 0 (omega arith), e 1 (omega arith), e 2 (omega arith), e 3 (omega arith)) (ap₂ sets (join_four (p 0) (p 1) (p 2) (p 3)) (join_four (t 0) (t 1) (t 2) (t 3)))
 
 -- whether a cell is one of the children, and a terminal one, by what a crossing cell of its level is to the run
-abbrev is_present : Candidate → Sight → Bool
-is_present Candidate.Kept s = passes s
-is_present Candidate.Queued s = passes s
-is_present Candidate.None s = is_inside s
+abbrev is_present : Option Candidate → Sight → Bool
+is_present (Some Candidate.Kept) s = passes s
+is_present (Some Candidate.Queued) s = passes s
+is_present None s = is_inside s
 
-abbrev is_terminal : Candidate → Sight → Bool
-is_terminal Candidate.Kept s = passes s
-is_terminal Candidate.Queued s = is_inside s
-is_terminal Candidate.None s = is_inside s
+abbrev is_terminal : Option Candidate → Sight → Bool
+is_terminal (Some Candidate.Kept) s = passes s
+is_terminal (Some Candidate.Queued) s = is_inside s
+is_terminal None s = is_inside s
 
 -- a look as sets of one, by the candidate that it makes
 look_found : (x : Look) → found_at x ≡ sets (one (is_present (candidate_of x) Sight.Crossing)) (one (is_terminal (candidate_of x) Sight.Crossing))
-unfolding found_at candidate_of one
+unfolding found_at one
 look_found fails = refl
 look_found none = refl
 look_found terminal = refl
 look_found divide = refl
 
-cell_found : (x : Look) (c : Candidate) (s : Sight) → c ≡ candidate_of x → found_at (look_as x s) ≡ sets (one (is_present c s)) (one (is_terminal c s))
+cell_found : (x : Look) (c : Option Candidate) (s : Sight) → c ≡ candidate_of x → found_at (look_as x s) ≡ sets (one (is_present c s)) (one (is_terminal c s))
 unfolding found_at one
-cell_found x Candidate.Kept Sight.Outside e = refl
-cell_found x Candidate.Queued Sight.Outside e = refl
-cell_found x Candidate.None Sight.Outside e = refl
+cell_found x (Some Candidate.Kept) Sight.Outside e = refl
+cell_found x (Some Candidate.Queued) Sight.Outside e = refl
+cell_found x None Sight.Outside e = refl
 cell_found x c Sight.Crossing e = look_found x ∙ rw (← e)
-cell_found x Candidate.Kept Sight.Inside e = refl
-cell_found x Candidate.Queued Sight.Inside e = refl
-cell_found x Candidate.None Sight.Inside e = refl
+cell_found x (Some Candidate.Kept) Sight.Inside e = refl
+cell_found x (Some Candidate.Queued) Sight.Inside e = refl
+cell_found x None Sight.Inside e = refl
 
 -- the sets of the four children
-abbrev sets_by : Candidate → Sights → Found
-sets_by Candidate.Kept l = sets l.passing l.passing
-sets_by Candidate.Queued l = sets l.passing l.inside
-sets_by Candidate.None l = sets l.inside l.inside
+abbrev sets_by : Option Candidate → Sights → Found
+sets_by (Some Candidate.Kept) l = sets l.passing l.passing
+sets_by (Some Candidate.Queued) l = sets l.passing l.inside
+sets_by None l = sets l.inside l.inside
 
 module _ (T : Task) (id : ℕ) (C : Cell id) (deep : level_of id < 30) where
   level_under : (k : ℕ) → k < 4 → level_of (child_of id k) ≡ level_of id + 1
@@ -123,7 +105,7 @@ module _ (T : Task) (id : ℕ) (C : Cell id) (deep : level_of id < 30) where
       let l : level_of id ≡ C.0 = level_cell id C.0 C.1 C.2 in
       level_cell (child_of id k) (C.0 + 1) (4 * C.1 + k) (child_cell k C.2 (omega arith) g) ∙ sym (ap (λ (n : ℕ). n + 1) l)
 
-  module _ (c : Candidate) (e : c ≡ candidate_of (crossing_as T.asked (level_of id + 1))) where
+  module _ (c : Option Candidate) (e : c ≡ candidate_of (crossing_as T.asked (level_of id + 1))) where
     abbrev sight_below : ℕ → Sight
     sight_below x = sight_of T.hits T.within (asks_whole T.asked (level_of id + 1)) x
 
@@ -139,14 +121,14 @@ module _ (T : Task) (id : ℕ) (C : Cell id) (deep : level_of id < 30) where
     unfolding sights_of four_sights
     four_found l f = rw f (by c ∙ sym four)
       where
-        by : (c : Candidate) → sets_by c (sights_of sight_below id)
+        by : (c : Option Candidate) → sets_by c (sights_of sight_below id)
             ≡ sets (four_bits (one (is_present c (sight_below (child_of id 0)))) (one (is_present c (sight_below (child_of id 1)))) (one (is_present c (sight_below (child_of id 2)))) (one (is_present c (sight_below (child_of id 3)))))
             (four_bits (one (is_terminal c (sight_below (child_of id 0)))) (one (is_terminal c (sight_below (child_of id 1)))) (one (is_terminal c (sight_below (child_of id 2)))) (one (is_terminal c (sight_below (child_of id 3)))))
-        by Candidate.Kept = refl
-        by Candidate.Queued = refl
-        by Candidate.None = refl
+        by (Some Candidate.Kept) = refl
+        by (Some Candidate.Queued) = refl
+        by None = refl
 
-  pub four_seen : (level : ℕ) (whole : Bool) (c : Candidate) (l : Sights) → level ≡ level_of id → c ≡ candidate_of (crossing_as T.asked (level + 1)) → whole ≡ asks_whole T.asked (level + 1)
+  pub four_seen : (level : ℕ) (whole : Bool) (c : Option Candidate) (l : Sights) → level ≡ level_of id → c ≡ candidate_of (crossing_as T.asked (level + 1)) → whole ≡ asks_whole T.asked (level + 1)
       → l ≡ sights_of (sight_of T.hits T.within whole) id → sets_by c l ≡ found T 1 id
   unfolding sights_of
   four_seen level whole c l el ec ew es = four_found c (rw (← el) ec) l (rw (← el, ← ew) es)

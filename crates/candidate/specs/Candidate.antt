@@ -1,5 +1,5 @@
 -- What the code's values stand for in the defined run. Assumes nothing.
-use Rattle.std.specs.Prelude.{◌≡◌, Bool, true, not, cond, ◌&&◌, ◌||◌, ℕ, ◌+◌, ◌*◌, ◌^◌, ◌≤◌, ◌<◌, ltb}
+use Rattle.std.specs.Prelude.{◌≡◌, Bool, true, not, cond, ◌&&◌, ◌||◌, ℕ, ◌+◌, ◌*◌, ◌^◌, ◌≤◌, ◌<◌, ltb, Option, Some, None}
 use Rattle.region.specs.Region.{Area, in_domain, intersects_cell, contains_cell}
 use Rattle.run.specs.declared.Found.{Found}
 use Rattle.run.specs.declared.Request.{Request}
@@ -19,19 +19,19 @@ pub record Asks (q : Request) (a : Area) : Type 0 where
   pub region : in_domain a ≡ true
 
 -- whether the run asks of a cell of this level if it lies inside: "At min or deeper", but not of an outer one that is "terminal if level + level_mod > max"
-unfoldable pub asks_whole : Request → ℕ → Bool
+abbrev pub asks_whole : Request → ℕ → Bool
 asks_whole q level = not (ltb level (min_level q)) && (q.inner || not (ltb (max_level q) (level + level_mod q)))
 
 -- what the run takes a cell of this level for that intersects and isn't contained
-unfoldable pub crossing_as : Request → ℕ → Look
+abbrev pub crossing_as : Request → ℕ → Look
 crossing_as q level = cond (ltb level (min_level q)) divide (cond (ltb (max_level q) (level + level_mod q)) (cond q.inner none terminal) divide)
 
--- kept, queued, or none
-unfoldable pub candidate_of : Look → Candidate
-candidate_of fails = Candidate.None
-candidate_of none = Candidate.None
-candidate_of terminal = Candidate.Kept
-candidate_of divide = Candidate.Queued
+-- kept, queued, or no candidate
+abbrev pub candidate_of : Look → Option Candidate
+candidate_of fails = None
+candidate_of none = None
+candidate_of terminal = Some Candidate.Kept
+candidate_of divide = Some Candidate.Queued
 
 -- f has room as the k-th of four parts of `width` places each, above acc
 pub record Roomy (acc f : Found) (width k : ℕ) : Type 0 where

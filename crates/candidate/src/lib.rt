@@ -13,57 +13,58 @@ use region::Region;
 use run::{Found, Request};
 use sight::Sight;
 
-// What a cell is to a run: terminal, to be expanded, or neither.
+// The sets of no children.
+const NONE: Found = Found {
+    present: 0,
+    terminal: 0,
+};
+
+// What a candidate is to a run: terminal, or to be expanded.
 #[derive(Clone, Copy)]
 pub enum Candidate {
     Kept,
     Queued,
-    None,
 }
 
-// What a crossing cell of this level is to a run.
-fn crossing(q: Request, level: u64) -> Candidate
+// What a crossing cell of this level is to a run: no candidate, where it would be terminal in an inner run.
+fn crossing(q: Request, level: u64) -> Option<Candidate>
     requires { (level ≤ 30) × (level_mod q ≤ 3) }
     ensures { result ≡ candidate_of (crossing_as q level) }
 {
-    if level < q.coverer.min_level {
-        return Candidate::Queued;
+    if level < q.coverer.min_level || level + q.coverer.level_mod <= q.coverer.max_level {
+        Some(Candidate::Queued)
+    } else if q.inner {
+        None
+    } else {
+        Some(Candidate::Kept)
     }
-    if level + q.coverer.level_mod <= q.coverer.max_level {
-        return Candidate::Queued;
-    }
-    if q.inner {
-        return Candidate::None;
-    }
-    Candidate::Kept
 }
 
 // Whether the run asks of a cell of this level if it lies inside: at min or deeper, but for an outer one that is kept in any case.
-fn asks_whole(q: Request, level: u64, crossing: Candidate) -> bool
+fn asks_whole(q: Request, level: u64, crossing: Option<Candidate>) -> bool
     requires { crossing ≡ candidate_of (crossing_as q level) }
     ensures { result ≡ asks_whole q level }
 {
     match crossing {
-        Candidate::Kept => false,
-        Candidate::Queued => !(level < q.coverer.min_level),
-        Candidate::None => true,
+        Some(Candidate::Kept) => false,
+        Some(Candidate::Queued) => level >= q.coverer.min_level,
+        None => true,
     }
 }
 
 // What the cell is to the run: kept if it is terminal, queued if it is to be expanded, none if it lies outside or an inner run can't use it. One look, for no
 // more than the run asks.
-pub fn new_candidate(q: Request, g: Region<'_>, id: u64) -> Candidate
+pub fn new_candidate(q: Request, g: Region<'_>, id: u64) -> Option<Candidate>
     requires asks { Asks q (area_of g) }
     requires cell { Cell id }
     ensures { result ≡ candidate_of (look (task_of q (area_of g.entry)) id) }
 {
     let level = cellid::level(id);
     let c = crossing(q, level);
-    let s = region::look_at(g, id, asks_whole(q, level, c));
-    match s {
-        Sight::Outside => Candidate::None,
+    match g.look_at(id, asks_whole(q, level, c)) {
+        Sight::Outside => None,
         Sight::Crossing => c,
-        Sight::Inside => Candidate::Kept,
+        Sight::Inside => Some(Candidate::Kept),
     }
 }
 
@@ -75,17 +76,17 @@ fn children(q: Request, g: Region<'_>, id: u64) -> Found
 {
     let under = cellid::level(id) + 1;
     let c = crossing(q, under);
-    let l = region::look_children(g, id, asks_whole(q, under, c));
+    let l = g.look_children(id, asks_whole(q, under, c));
     match c {
-        Candidate::Kept => Found {
+        Some(Candidate::Kept) => Found {
             present: l.passing,
             terminal: l.passing,
         },
-        Candidate::Queued => Found {
+        Some(Candidate::Queued) => Found {
             present: l.passing,
             terminal: l.inside,
         },
-        Candidate::None => Found {
+        None => Found {
             present: l.inside,
             terminal: l.inside,
         },
@@ -115,24 +116,16 @@ fn expand_children(q: Request, g: Region<'_>, id: u64, left: u64) -> Found
     }
     let less = left - 1;
     let width: u64 = 1 << (2 * less);
-    let l = region::look_children(g, id, false);
+    let l = g.look_children(id, false);
     let passing = l.passing;
-    let mut acc = Found {
-        present: 0,
-        terminal: 0,
-    };
-    let mut k: u64 = 0;
-    while k < 4 {
+    let mut acc = NONE;
+    for k in 0..4 {
         let f = if (passing >> k) & 1 == 1 {
             expand_children(q, g, cellid::child(id, k), less)
         } else {
-            Found {
-                present: 0,
-                terminal: 0,
-            }
+            NONE
         };
         acc = placed(acc, f, width, k);
-        k += 1;
     }
     acc
 }
@@ -143,13 +136,9 @@ pub fn expand(q: Request, g: Region<'_>, id: u64) -> Found
     requires cell { Cell id × (level_of id + depth q id ≤ 30) }
     ensures { result ≡ found (task_of q (area_of g.entry)) (depth q id) id }
 {
-    if cellid::level(id) < q.coverer.min_level {
+    if cellid::level(id) < q.coverer.min_level || q.coverer.level_mod == 1 {
         children(q, g, id)
     } else {
-        if q.coverer.level_mod == 1 {
-            children(q, g, id)
-        } else {
-            expand_children(q, g, id, q.coverer.level_mod)
-        }
+        expand_children(q, g, id, q.coverer.level_mod)
     }
 }

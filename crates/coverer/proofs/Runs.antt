@@ -32,6 +32,7 @@ use Rattle.records.specs.Records.{from_r, record_of}
 use Rattle.queue.specs.declared.Engine.{Engine}
 use Rattle.queue.specs.Queue.{next_r, rest_r}
 use Rattle.queue.proofs.Laws.{in_queue}
+use Rattle.std.specs.Prelude.{Option, Some, None}
 use Rattle.candidate.specs.declared.Candidate.{Candidate}
 use Rattle.candidate.specs.Candidate.{candidate_of}
 use Rattle.coverer.specs.declared.Counts.{Counts}
@@ -43,15 +44,13 @@ use Rattle.coverer.proofs.Adds.{low_leaves}
 
 -- ---- what a candidate says of the look
 
-kept_look : (v : Look) → candidate_of v ≡ Candidate.Kept → v ≡ terminal
-unfolding candidate_of
+kept_look : (v : Look) → candidate_of v ≡ Some Candidate.Kept → v ≡ terminal
 kept_look fails e = let z : ◌≡◌ {A = ℕ} 0 1 = cc in absurd (omega arith)
 kept_look none e = let z : ◌≡◌ {A = ℕ} 0 1 = cc in absurd (omega arith)
 kept_look terminal e = refl
 kept_look divide e = let z : ◌≡◌ {A = ℕ} 0 1 = cc in absurd (omega arith)
 
-queued_look : (v : Look) → candidate_of v ≡ Candidate.Queued → v ≡ divide
-unfolding candidate_of
+queued_look : (v : Look) → candidate_of v ≡ Some Candidate.Queued → v ≡ divide
 queued_look fails e = let z : ◌≡◌ {A = ℕ} 0 1 = cc in absurd (omega arith)
 queued_look none e = let z : ◌≡◌ {A = ℕ} 0 1 = cc in absurd (omega arith)
 queued_look terminal e = let z : ◌≡◌ {A = ℕ} 0 1 = cc in absurd (omega arith)
@@ -133,36 +132,36 @@ module _ (C : Course) where
 
 -- ---- a start cell
 
-module _ (T : Task) (id : ℕ) (c : Candidate) (is : c ≡ candidate_of (look T id)) where
-  pub start_kept_ok : Fit T.asked id → c ≡ Candidate.Kept → ChildOk T (record { id = id; ends = true })
+module _ (T : Task) (id : ℕ) (c : Option Candidate) (is : c ≡ candidate_of (look T id)) where
+  pub start_kept_ok : Fit T.asked id → c ≡ Some Candidate.Kept → ChildOk T (record { id = id; ends = true })
   start_kept_ok F e = record { fit = F; seen = kept_look (look T id) (sym is ∙ e) }
 
-  pub start_queued_ok : Fit T.asked id → c ≡ Candidate.Queued → ChildOk T (record { id = id; ends = false })
+  pub start_queued_ok : Fit T.asked id → c ≡ Some Candidate.Queued → ChildOk T (record { id = id; ends = false })
   start_queued_ok F e = record { fit = F; seen = queued_look (look T id) (sym is ∙ e) }
 
 module _ (E : Engine) (T : Task) (i : ℕ) where
-  module _ (m : List ℕ) (t : Counts) (id : ℕ) (c : Candidate) (is : c ≡ candidate_of (look T id)) where
-    pub start_kept : (m' : List ℕ) (r : Turn) → c ≡ Candidate.Kept → Does E T i (add (in_edition T) (grown i id) true) m t m' r
+  module _ (m : List ℕ) (t : Counts) (id : ℕ) (c : Option Candidate) (is : c ≡ candidate_of (look T id)) where
+    pub start_kept : (m' : List ℕ) (r : Turn) → c ≡ Some Candidate.Kept → Does E T i (add (in_edition T) (grown i id) true) m t m' r
         → Does E T i (start_as (in_edition T) (look T id) (grown i id)) m t m' r
     unfolding start_as
     start_kept m' r e = does_as E T i (add (in_edition T) (grown i id) true) (start_as (in_edition T) (look T id) (grown i id)) m t m' r
         (λ v s S. ap (λ (x : Look). start_as (in_edition T) x (grown i id) s) (kept_look (look T id) (sym is ∙ e)))
 
-    pub start_queued : (m' : List ℕ) (r : Turn) → c ≡ Candidate.Queued → Does E T i (add (in_edition T) (grown i id) false) m t m' r
+    pub start_queued : (m' : List ℕ) (r : Turn) → c ≡ Some Candidate.Queued → Does E T i (add (in_edition T) (grown i id) false) m t m' r
         → Does E T i (start_as (in_edition T) (look T id) (grown i id)) m t m' r
     unfolding start_as
     start_queued m' r e = does_as E T i (add (in_edition T) (grown i id) false) (start_as (in_edition T) (look T id) (grown i id)) m t m' r
         (λ v s S. ap (λ (x : Look). start_as (in_edition T) x (grown i id) s) (queued_look (look T id) (sym is ∙ e)))
 
-  none_gives : (v : ℕ → ℕ) (m : List ℕ) (t : Counts) (id n : ℕ) (s : State) (x : Look) → n ≡ leaves_of id → look T id ≡ x → candidate_of x ≡ Candidate.None → Stands E T i v m t s
+  none_gives : (v : ℕ → ℕ) (m : List ℕ) (t : Counts) (id n : ℕ) (s : State) (x : Look) → n ≡ leaves_of id → look T id ≡ x → candidate_of x ≡ None → Stands E T i v m t s
       → Gives E T i v m (Ok (aside_of T.asked.inner t n)) (start_as (in_edition T) x (grown i id) s)
-  unfolding Gives start_as candidate_of MeansBy sum_of
+  unfolding Gives start_as MeansBy sum_of
   none_gives v m t id n s fails e l c S = (set_aside T.asked i (id ∷ []) s, refl, sets_aside E T i v m t n (id ∷ []) s (λ o. e ∙ omega arith) S)
   none_gives v m t id n s none e l c S = (s, refl, rw (aside_in T.asked.inner t n (look_means T id none l)) S)
   none_gives v m t id n s terminal e l c S = let z : ◌≡◌ {A = ℕ} 0 1 = cc in absurd (omega arith)
   none_gives v m t id n s divide e l c S = let z : ◌≡◌ {A = ℕ} 0 1 = cc in absurd (omega arith)
 
-  pub start_none : (m : List ℕ) (t u : Counts) (id n : ℕ) (c : Candidate) → Fit T.asked id → c ≡ candidate_of (look T id) → c ≡ Candidate.None → n ≡ low_bit id → u ≡ aside_of T.asked.inner t n
+  pub start_none : (m : List ℕ) (t u : Counts) (id n : ℕ) (c : Option Candidate) → Fit T.asked id → c ≡ candidate_of (look T id) → c ≡ None → n ≡ low_bit id → u ≡ aside_of T.asked.inner t n
       → Does E T i (start_as (in_edition T) (look T id) (grown i id)) m t m (Ok u)
   start_none m t u id n c F is e en eu =
       record { gives = λ v s S. rw eu (none_gives v m t id n s (look T id) (en ∙ low_leaves id F.cell) refl (sym is ∙ e) S); frame = refl }

@@ -313,9 +313,9 @@ impl<'a> Job<'a> {
     {
         let c = candidate::new_candidate(self.request, self.region, id);
         match c {
-            Candidate::Kept => self.add_candidate(m, t, from, id, true),
-            Candidate::Queued => self.add_candidate(m, t, from, id, false),
-            Candidate::None => Ok(set_aside(self.request, t, cellid::lsb(id))),
+            Some(Candidate::Kept) => self.add_candidate(m, t, from, id, true),
+            Some(Candidate::Queued) => self.add_candidate(m, t, from, id, false),
+            None => Ok(set_aside(self.request, t, cellid::lsb(id))),
         }
     }
 

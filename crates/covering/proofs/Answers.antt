@@ -32,8 +32,10 @@ use Rattle.coverer.specs.Engine.{words_at, past}
 use Rattle.coverer.proofs.Memory.{words_length, cleared_front, only_words_lem, only_room, only_past}
 use Rattle.covering.specs.declared.Answer.{Answer}
 use Rattle.covering.specs.declared.Ending.{Ending}
-use Rattle.bars.specs.declared.Bar.{Bar}
-use Rattle.bars.specs.Bars.{bar_of}
+use Rattle.std.specs.Prelude.{Ok, Err}
+use Rattle.refusal.specs.Refusal.{number_of}
+use Rattle.refusal.specs.declared.Refusal.{Refusal}
+use Rattle.bars.specs.Bars.{Bar, bar_of}
 use Rattle.covering.specs.Covering.{Result, refused, done, fitted, checked, list_of, left_by, ended_as, ran_of, refusal, answer_of, output_after, memory_after, Answered, answer_laid}
 use Rattle.bars.proofs.Early.{Valid, early_none}
 use Rattle.covering.proofs.Starts.{ran_cells}
@@ -47,12 +49,12 @@ answered_as {m = m} {o = o} e a x y z = record {
 }
 
 -- 1 to 6 leave everything as it was
-pub answered_barred : (b : Bar) (R : Result) (n : ℕ) (r : Answer) (m o : List ℕ) → b ≡ Bar.Barred n → r ≡ refusal n → Answered (checked b R) r m m o o
+pub answered_barred : (b : Bar) (R : Result) (n : Refusal) (r : Answer) (m o : List ℕ) → b ≡ Err n → r ≡ refusal (number_of n) → Answered (checked b R) r m m o o
 unfolding checked answer_of memory_after output_after
 answered_barred b R n r m o e d = rw (e, checked) (record { answer = d; memory = refl; output = refl })
 
 -- where nothing bars it, a request is answered as what it comes to
-pub answered_open : (b : Bar) (R : Result) (r : Answer) (m m' o o' : List ℕ) → b ≡ Bar.Open → Answered R r m m' o o' → Answered (checked b R) r m m' o o'
+pub answered_open : (b : Bar) (R : Result) (r : Answer) (m m' o o' : List ℕ) → b ≡ Ok tt → Answered R r m m' o o' → Answered (checked b R) r m m' o o'
 unfolding checked
 answered_open b R r m m' o o' e A = rw (e, checked) A
 
@@ -206,7 +208,7 @@ ran_done (Run.going s) v e =
     let x : v.count ≡ length s.raw = ap (λ (w : Ran). w.count) z in
     record { state = s; is = refl; counted = x ∙ sym (length-map s.raw (λ (w : Grown). w.id)); taken = ap (λ (w : Ran). w.steps) z; totals = ap (λ (w : Ran). w.aside) z }
 
-module _ (e : Ending) (inner : Bool) (c : RegionCoverer) (a : Area) (allowance : ℕ) (m o : List ℕ) (none : bar_of c a (length m) ≡ Bar.Open) (m₁ : List ℕ) (M : m₁ ≡ engine_memory (ran_of inner c a allowance) m) where
+module _ (e : Ending) (inner : Bool) (c : RegionCoverer) (a : Area) (allowance : ℕ) (m o : List ℕ) (none : bar_of c a (length m) ≡ Ok tt) (m₁ : List ℕ) (M : m₁ ≡ engine_memory (ran_of inner c a allowance) m) where
   -- 7, 8 or 9
   pub respond_late : (n : Refusal) (r : Answer) → Err n ≡ engine_answer (ran_of inner c a allowance) → r ≡ refusal (number_of n) → Answered (ended_as e c (length o) (ran_of inner c a allowance)) r m m₁ o o
   unfolding ended_as engine_memory

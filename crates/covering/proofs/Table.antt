@@ -25,12 +25,13 @@ use Rattle.run.proofs.Lists.{if_ok}
 use Rattle.run.proofs.Steps.{run_refuses}
 use Rattle.coverer.specs.Coverer.{cleared, outcome_of}
 use Rattle.covering.specs.declared.Answer.{Answer}
-use Rattle.bars.specs.declared.Bar.{Bar}
+use Rattle.std.specs.Prelude.{Ok, Err}
+use Rattle.refusal.specs.declared.Refusal.{Refusal}
 use Rattle.covering.specs.declared.Ending.{Ending}
 use Rattle.covering.specs.declared.Kind.{Kind}
-use Rattle.bars.specs.Bars.{bar_of, numbers_bar, region_bar, memory_bar, first_bar}
+use Rattle.bars.specs.Bars.{Bar, bar_of, numbers_bar, region_bar, memory_bar, first_bar}
 use Rattle.covering.specs.Covering.{Result, barred, refused, done, fitted, checked, list_of, ended_as, ran_of, comes_to, result_of, refusal, answer_of, output_after, memory_after, Answered}
-use Rattle.bars.proofs.Early.{Early, IsBar, UpTo, edition_open, early_is, early_given, early_low, Valid, early_none}
+use Rattle.bars.proofs.Early.{Early, IsBar, bar_same, UpTo, edition_open, early_is, early_given, early_low, Valid, early_none}
 
 -- the paper's number of a result
 abbrev pub number_of : Result → ℕ
@@ -44,24 +45,24 @@ number_refused n = refl
 
 module _ (c : RegionCoverer) (a : Area) (memory : ℕ) (R : Result) where
   data First : ℕ → Type 0 where
-    given : {n : ℕ} → Early c a memory (Bar.Barred n) → First n
-    passed : Early c a memory Bar.Open → First (number_of R)
+    given : {r : Refusal} → Early c a memory (Err r) → First (Paper.number_of r)
+    passed : Early c a memory (Ok tt) → First (number_of R)
 
   first_is : First (number_of (checked (bar_of c a memory) R))
   unfolding checked answer_of
   first_is = of (bar_of c a memory) (early_is c a memory)
     where
       of : (b : Bar) → Early c a memory b → First (number_of (checked b R))
-      of Bar.Open E = passed E
-      of (Bar.Barred n) E = given E
+      of (Ok u) E = passed E
+      of (Err r) E = given E
 
-  first_given : (n : ℕ) → Early c a memory (Bar.Barred n) → number_of (checked (bar_of c a memory) R) ≡ n
+  first_given : (r : Refusal) → Early c a memory (Err r) → number_of (checked (bar_of c a memory) R) ≡ Paper.number_of r
   unfolding checked answer_of
-  first_given n E = ap (λ (b : Bar). number_of (checked b R)) (early_given c a memory (Bar.Barred n) E)
+  first_given r E = ap (λ (b : Bar). number_of (checked b R)) (early_given c a memory (Err r) E)
 
-  first_passed : Early c a memory Bar.Open → checked (bar_of c a memory) R ≡ R
+  first_passed : Early c a memory (Ok tt) → checked (bar_of c a memory) R ≡ R
   unfolding checked
-  first_passed E = ap (λ (b : Bar). checked b R) (early_given c a memory Bar.Open E)
+  first_passed E = ap (λ (b : Bar). checked b R) (early_given c a memory (Ok tt) E)
 
 -- a finished list: 10 where it is longer than the output, else a success
 module _ (room : ℕ) (l : List ℕ) (steps : ℕ) (aside : Totals) where
@@ -150,15 +151,15 @@ module _ (k : Kind) (c : RegionCoverer) (a : Area) (allowance memory room : ℕ)
   number = number_of (result_of k c a allowance memory room)
 
   data Given : ℕ → Type 0 where
-    first : {n : ℕ} → Early c a memory (Bar.Barred n) → Given n
-    late : {n : ℕ} → Early c a memory Bar.Open → RunRefused k c a allowance n → Given n
-    ended : {n : ℕ} {l : List ℕ} {steps : ℕ} {aside : Totals} → Early c a memory Bar.Open → Finished k c a allowance l steps aside → Fitted room l steps aside n → Given n
+    first : {r : Refusal} → Early c a memory (Err r) → Given (Paper.number_of r)
+    late : {n : ℕ} → Early c a memory (Ok tt) → RunRefused k c a allowance n → Given n
+    ended : {n : ℕ} {l : List ℕ} {steps : ℕ} {aside : Totals} → Early c a memory (Ok tt) → Finished k c a allowance l steps aside → Fitted room l steps aside n → Given n
 
   given_is : Given number
   unfolding result_of answer_of
   given_is = from (first_is c a memory (comes_to k c a allowance room))
     where
-      then : Early c a memory Bar.Open → {R : Result} → Way c a allowance room k R → Given (number_of R)
+      then : Early c a memory (Ok tt) → {R : Result} → Way c a allowance room k R → Given (number_of R)
       then E (stopped S) = late E S
       then E (finished l steps aside F) = ended E F (fitted_is room l steps aside)
 
@@ -168,26 +169,32 @@ module _ (k : Kind) (c : RegionCoverer) (a : Area) (allowance memory room : ℕ)
 
   given_number : (n : ℕ) → Given n → number ≡ n
   unfolding result_of
-  given_number n (first E) = first_given c a memory (comes_to k c a allowance room) n E
+  given_number n (first {r} E) = first_given c a memory (comes_to k c a allowance room) r E
   given_number n (late E S) = ap number_of (first_passed c a memory (comes_to k c a allowance room) E ∙ stopped_comes c a allowance room k n S) ∙ number_refused n
   given_number n (ended {l = l} {steps} {aside} E F h) =
       ap number_of (first_passed c a memory (comes_to k c a allowance room) E ∙ finished_comes c a allowance room k l steps aside F) ∙ fitted_given room l steps aside n h
 
+  early_of : {n : ℕ} → IsBar n → Given n → (r : Refusal) × (Paper.number_of r ≡ n) × Early c a memory (Err r)
+  early_of h (first E) = (_, refl, E)
+  early_of {n} h (late E S) = absurd (⊎_elim (λ b. omega (arith, (stopped_late c a allowance room k n S).0)) (λ b. omega (arith, (stopped_late c a allowance room k n S).1)) h)
+  early_of h (ended E F (long q)) = absurd (⊎_elim (λ b. omega arith) (λ b. omega arith) h)
+  early_of h (ended E F (fits q)) = absurd (⊎_elim (λ b. omega arith) (λ b. omega arith) h)
+
+  pub is_early : (n : ℕ) → IsBar n → number ≡ n → (r : Refusal) × (Paper.number_of r ≡ n) × Early c a memory (Err r)
+  is_early n h x = early_of h (subst Given x given_is)
+
   -- 1 to 6 and 14: `Early` has the rows, each with the earlier ones not true
-  pub when_early : (n : ℕ) → IsBar n → (number ≡ n) ↔ Early c a memory (Bar.Barred n)
-  when_early n h = (λ x. of n h (subst Given x given_is), λ E. given_number n (first E))
-    where
-      of : (n : ℕ) → IsBar n → Given n → Early c a memory (Bar.Barred n)
-      of n h (first E) = E
-      of n h (late E S) = absurd (⊎_elim (λ b. omega (arith, (stopped_late c a allowance room k n S).0)) (λ b. omega (arith, (stopped_late c a allowance room k n S).1)) h)
-      of n h (ended E F (long q)) = absurd (⊎_elim (λ b. omega arith) (λ b. omega arith) h)
-      of n h (ended E F (fits q)) = absurd (⊎_elim (λ b. omega arith) (λ b. omega arith) h)
+  pub when_early : (r : Refusal) → IsBar (Paper.number_of r) → (number ≡ Paper.number_of r) ↔ Early c a memory (Err r)
+  when_early r h = (
+    λ x. let w = is_early (Paper.number_of r) h x in subst (λ (s : Refusal). Early c a memory (Err s)) (bar_same w.0 r (early_low c a memory w.2) h w.1) w.2,
+    λ E. given_number (Paper.number_of r) (first E),
+  )
 
   -- 7 to 9: none of these, and the defined run is refused with the number
-  pub when_late : (n : ℕ) → 7 ≤ n → n ≤ 9 → (number ≡ n) ↔ (Early c a memory Bar.Open × RunRefused k c a allowance n)
+  pub when_late : (n : ℕ) → 7 ≤ n → n ≤ 9 → (number ≡ n) ↔ (Early c a memory (Ok tt) × RunRefused k c a allowance n)
   when_late n h p = (λ x. of n h p (subst Given x given_is), λ w. given_number n (late w.0 w.1))
     where
-      of : (n : ℕ) → 7 ≤ n → n ≤ 9 → Given n → Early c a memory Bar.Open × RunRefused k c a allowance n
+      of : (n : ℕ) → 7 ≤ n → n ≤ 9 → Given n → Early c a memory (Ok tt) × RunRefused k c a allowance n
       of n h p (first E) = absurd (⊎_elim (λ b. omega arith) (λ b. omega arith) (early_low c a memory E))
       of n h p (late E S) = (E, S)
       of n h p (ended E F (long q)) = absurd (omega arith)
@@ -195,7 +202,7 @@ module _ (k : Kind) (c : RegionCoverer) (a : Area) (allowance memory room : ℕ)
 
   -- a finished list, its steps and its set-aside totals, of which Q is true
   abbrev pub FinishedWith : (List ℕ → Type 0) → Type 0
-  FinishedWith Q = Early c a memory Bar.Open × ((l : List ℕ) × (steps : ℕ) × (aside : Totals) × Finished k c a allowance l steps aside × Q l)
+  FinishedWith Q = Early c a memory (Ok tt) × ((l : List ℕ) × (steps : ℕ) × (aside : Totals) × Finished k c a allowance l steps aside × Q l)
 
   -- 10: the list is finished, and longer than the output
   pub when_long : (number ≡ 10) ↔ FinishedWith (λ l. room < length l)
@@ -235,7 +242,7 @@ fast_numbers c a allowance memory room n h p x = ((when_late Kind.Fast c a allow
 -- "fast ignores it": whichever of the two editions a request names
 pub fast_ignores : (c : RegionCoverer) (a : Area) (allowance memory room n : ℕ) → UpTo 2 c.edition → UpTo 2 n
     → result_of Kind.Fast (with_edition c n) a allowance memory room ≡ result_of Kind.Fast c a allowance memory room
-unfolding result_of comes_to bar_of numbers_bar
+unfolding result_of comes_to bar_of
 fast_ignores c a allowance memory room n h k =
     ap (λ (b : Bar). checked (first_bar (numbers_bar c) (first_bar b (first_bar (region_bar a) (memory_bar memory)))) (comes_to Kind.Fast c a allowance room)) (edition_open n k ∙ sym (edition_open c.edition h))
 
@@ -261,8 +268,8 @@ module _ (k : Kind) (c : RegionCoverer) (a : Area) (allowance memory room : ℕ)
   result_sound = of (bar_of c a memory) (early_is c a memory)
     where
       of : (b : Bar) → Early c a memory b → Sound room (checked b (comes_to k c a allowance room))
-      of Bar.Open E = comes_sound (comes_is c a allowance room k)
-      of (Bar.Barred n) E = ⊎_elim (λ b. b.0) (λ b. omega arith) (early_low c a memory E)
+      of (Ok u) E = comes_sound (comes_is c a allowance room k)
+      of (Err r) E = ⊎_elim (λ b. b.0) (λ b. omega arith) (early_low c a memory E)
 
 -- ---- what a refusal leaves
 
@@ -286,10 +293,12 @@ module _ (k : Kind) (c : RegionCoverer) (a : Area) (allowance memory room : ℕ)
   -- 1 to 6 and 14: "unchanged"
   pub refusal_early : (n : ℕ) → IsBar n → number_of (result_of k c a allowance memory room) ≡ n → memory_after (result_of k c a allowance memory room) m ≡ m
   unfolding result_of checked memory_after
-  refusal_early n h x = ap (λ (b : Bar). memory_after (checked b (comes_to k c a allowance room)) m) (early_given c a memory (Bar.Barred n) ((when_early k c a allowance memory room n h).0 x))
+  refusal_early n h x =
+      let w = is_early k c a allowance memory room n h x in
+      ap (λ (b : Bar). memory_after (checked b (comes_to k c a allowance room)) m) (early_given c a memory (Err w.0) w.2)
 
   -- 7 to 10, and a success: the words of a run are zero
-  pub refusal_late : Early c a memory Bar.Open → memory_after (result_of k c a allowance memory room) m ≡ cleared 0 memory_words m
+  pub refusal_late : Early c a memory (Ok tt) → memory_after (result_of k c a allowance memory room) m ≡ cleared 0 memory_words m
   unfolding result_of
   refusal_late E = ap (λ (R : Result). memory_after R m) (first_passed c a memory (comes_to k c a allowance room) E) ∙ comes_cleared (comes_is c a allowance room k)
 
@@ -334,7 +343,7 @@ answered_done k c a allowance r mem mem' out out' A z =
     let d : r ≡ record { number = 0; count = length l; steps = w.1.1; aside = w.1.2 } = A.answer ∙ ap answer_of e ∙ f.0 in
     let t : l ≡ take r.count out' = sym (ap (λ (a : Answer). take a.count out') d ∙ ap (take (length l)) (A.output ∙ ap (λ (W : Result). output_after W out) e) ∙ f.1) in
     record {
-      valid = early_none c a (length mem) (early_given c a (length mem) Bar.Open w.0);
+      valid = early_none c a (length mem) (early_given c a (length mem) (Ok tt) w.0);
       counted = ap (λ (a : Answer). a.count) d ∙ ap length t;
       finished = finished_as k c a allowance l _ w.1.1 _ w.1.2 _ t (sym (ap (λ (a : Answer). a.steps) d)) (sym (ap (λ (a : Answer). a.aside) d)) w.1.3;
     }

@@ -19,8 +19,8 @@ use Rattle.coverer.specs.Coverer.{course_of, cleared}
 use Rattle.coverer.specs.Watch.{seen_of, seen_over}
 use Rattle.coverer.proofs.Memory.{cleared_front}
 use Rattle.coverer.proofs.Watching.{seen_room}
-use Rattle.bars.specs.declared.Bar.{Bar}
-use Rattle.bars.specs.Bars.{bar_of}
+use Rattle.refusal.specs.Refusal.{number_of}
+use Rattle.bars.specs.Bars.{Bar, bar_of}
 use Rattle.bars.proofs.Early.{early_none}
 use Rattle.covering.specs.Covering.{asked_of}
 use Rattle.covering.specs.Watch.{numbered, after_of, seen_as, output_seen, memory_seen, Watched}
@@ -29,23 +29,23 @@ use Rattle.covering.proofs.Starts.{bound_past}
 -- how a run stands is told only where the output has room for it
 pub watched_room : (b : Bar) (T : Task) (room : ℕ) (o : Outcome) (v : Seen) → Ok v ≡ seen_as b T room o → v.kept + 3 * v.queued ≤ room
 unfolding seen_as
-watched_room Bar.Open T room o v e = seen_room T room o v.kept v.queued v.steps v.aside (same (seen_of T room o) v e)
+watched_room (Ok u) T room o v e = seen_room T room o v.kept v.queued v.steps v.aside (same (seen_of T room o) v e)
   where
     same : (r : Result Seen Refusal) (v : Seen) → Ok v ≡ numbered r → Ok v ≡ r
     same (Ok w) v e = let z : v ≡ w = cc in ap (λ (x : Seen). Ok x) z
     same (Err r) v e = let z : ◌≡◌ {A = ℕ} 0 1 = cc in absurd (omega arith)
-watched_room (Bar.Barred n) T room o v e = let z : ◌≡◌ {A = ℕ} 0 1 = cc in absurd (omega arith)
+watched_room (Err r) T room o v e = let z : ◌≡◌ {A = ℕ} 0 1 = cc in absurd (omega arith)
 
 module _ (inner : Bool) (c : RegionCoverer) (a : Area) (steps : ℕ) where
   abbrev T : Task
   T = task_of (asked_of c inner) a
 
-  pub watched_barred : (n : ℕ) (m out : List ℕ) → bar_of c a (length m) ≡ Bar.Barred n → Watched inner c a steps (Err n) m m out out
+  pub watched_barred : (r : Refusal) (m out : List ℕ) → bar_of c a (length m) ≡ Err r → Watched inner c a steps (Err (number_of r)) m m out out
   unfolding seen_as memory_seen output_seen
-  watched_barred n m out e = record { answer = rw (e, seen_as); memory = rw (e, memory_seen); output = rw (e, output_seen) }
+  watched_barred r m out e = record { answer = rw (e, seen_as); memory = rw (e, memory_seen); output = rw (e, output_seen) }
 
   -- the start cells stand in their array, and in the memory's first words meanwhile
-  pub watched_open : (k : ℕ) (ids t m m₁ m₂ out out₂ : List ℕ) (r : Result Seen ℕ) → bar_of c a (length m) ≡ Bar.Open → k ≡ length (starts_for c (bound_of a)) → ids ≡ starts_for c (bound_of a) ++ t
+  pub watched_open : (k : ℕ) (ids t m m₁ m₂ out out₂ : List ℕ) (r : Result Seen ℕ) → bar_of c a (length m) ≡ Ok tt → k ≡ length (starts_for c (bound_of a)) → ids ≡ starts_for c (bound_of a) ++ t
       → length m₁ ≡ length m → m₁ ≡ in_place (length (bound_of a)) (starts_for c (bound_of a)) m
       → (r ≡ numbered (seen_of T (length out) (after (course_of (asked_of c inner) a) (take k ids) steps))) × (out₂ ≡ seen_over T (after (course_of (asked_of c inner) a) (take k ids) steps) out) × (m₂ ≡ cleared 0 memory_words m₁)
       → Watched inner c a steps r m m₂ out out₂

@@ -1,6 +1,6 @@
 -- The public answers (paper 01, "Request numbers"): what each request comes to, and what stands in the working memory and in the output afterwards.
 -- Quoted lines are the paper's words.
-use Rattle.std.specs.Prelude.{◌≡◌, Bool, true, false, Option, Some, None, List, ◌++◌, ℕ, leb, length, drop}
+use Rattle.std.specs.Prelude.{◌≡◌, Bool, true, false, Option, Some, None, List, ◌++◌, ℕ, leb, length, drop, Ok, Err}
 use Rattle.refusal.specs.Refusal.{number_of}
 use Rattle.region.specs.Region.{Area, bound_of}
 use Rattle.cellunion.specs.CellUnion.{normalise}
@@ -16,8 +16,7 @@ use Rattle.run.specs.Run as Run
 use Rattle.coverer.specs.Coverer.{outcome_of, cleared}
 use Rattle.cellunion.specs.Memory.{normalised}
 use Rattle.covering.specs.declared.Answer.{Answer}
-use Rattle.bars.specs.declared.Bar.{Bar}
-use Rattle.bars.specs.Bars.{bar_of}
+use Rattle.bars.specs.Bars.{Bar, bar_of}
 use Rattle.covering.specs.declared.Ending.{Ending}
 use Rattle.covering.specs.declared.Kind.{Kind}
 
@@ -36,8 +35,8 @@ fitted room l steps aside = elim (leb (length l) room) [ true ↦ done l steps a
 
 -- 1 to 6 and 14 come before anything else
 unfoldable pub checked : Bar → Result → Result
-checked Bar.Open R = R
-checked (Bar.Barred n) R = barred n
+checked (Ok u) R = R
+checked (Err r) R = barred (number_of r)
 
 -- the list that is asked for: the raw result list in the order kept, the normalised one, or the final one ("`covering` and `interior_covering` do both")
 unfoldable pub list_of : Ending → RegionCoverer → List ℕ → List ℕ

@@ -12,8 +12,7 @@ use Rattle.fast.specs.Memory.{starts_for}
 use Rattle.coverer.specs.declared.Seen.{Seen}
 use Rattle.coverer.specs.Coverer.{course_of, cleared}
 use Rattle.coverer.specs.Watch.{seen_of, seen_over}
-use Rattle.bars.specs.declared.Bar.{Bar}
-use Rattle.bars.specs.Bars.{bar_of}
+use Rattle.bars.specs.Bars.{Bar, bar_of}
 use Rattle.covering.specs.Covering.{asked_of}
 
 -- the defined run of a request after so many steps, from its start cells
@@ -26,16 +25,16 @@ numbered (Ok v) = Ok v
 numbered (Err r) = Err (number_of r)
 
 unfoldable pub seen_as : Bar → Task → ℕ → Outcome → Result Seen ℕ
-seen_as Bar.Open T room o = numbered (seen_of T room o)
-seen_as (Bar.Barred n) T room o = Err n
+seen_as (Ok u) T room o = numbered (seen_of T room o)
+seen_as (Err r) T room o = Err (number_of r)
 
 unfoldable pub output_seen : Bar → Task → Outcome → List ℕ → List ℕ
-output_seen Bar.Open T o out = seen_over T o out
-output_seen (Bar.Barred n) T o out = out
+output_seen (Ok u) T o out = seen_over T o out
+output_seen (Err r) T o out = out
 
 unfoldable pub memory_seen : Bar → List ℕ → List ℕ
-memory_seen Bar.Open mem = cleared 0 memory_words mem
-memory_seen (Bar.Barred n) mem = mem
+memory_seen (Ok u) mem = cleared 0 memory_words mem
+memory_seen (Err r) mem = mem
 
 -- what `watch` ensures of its answer, the working memory and the output
 pub record Watched (inner : Bool) (c : RegionCoverer) (a : Area) (steps : ℕ) (r : Result Seen ℕ) (mem mem' out out' : List ℕ) : Type 0 where

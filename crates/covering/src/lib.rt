@@ -2,11 +2,10 @@
 // the caller: levels, region, memory and allowance are checked here. A refusal is one of paper 01's numbers; it leaves the output unchanged.
 #![tactic(auto)]
 
-ghost use Rattle.std.specs.Prelude.{◌≤◌, ◌<◌, ◌≡◌, length, take};
+ghost use Rattle.std.specs.Prelude.{◌≤◌, ◌<◌, ◌≡◌, length, take, Ok};
 ghost use Rattle.cellid.specs.CellId.{Cell};
 ghost use Rattle.order.specs.Order.{All};
 ghost use Rattle.cellunion.specs.Memory.{room_for, laid_over};
-ghost use Rattle.bars.specs.declared.Bar.{Bar};
 ghost use Rattle.bars.specs.Bars.{bar_of};
 ghost use Rattle.covering.specs.declared.Kind.{Kind};
 ghost use Rattle.covering.specs.declared.Ending.{Ending};
@@ -19,7 +18,6 @@ ghost use Rattle.run.specs.Run.{raw_most, queue_words, memory_words};
 ghost use Rattle.coverer.specs.Coverer.{cleared, only_words, engine_answer, engine_memory};
 ghost use Rattle.coverer.specs.Engine.{words_at};
 
-use bars::Bar;
 use coverer::{Ran, Seen};
 use queue::Engine;
 use refusal::Refusal;
@@ -115,7 +113,7 @@ fn run_from_starts(
     allowance: u32,
     mem: &mut [u64],
 ) -> Result<Ran, Refusal>
-    requires { bar_of c (area_of g) (length mem.old) ≡ Bar.Open }
+    requires { bar_of c (area_of g) (length mem.old) ≡ Ok tt }
     ensures { (result ≡ engine_answer (ran_of inner c (area_of g.entry) allowance)) × (mem.new ≡ engine_memory (ran_of inner c (area_of g.entry) allowance) mem.old) }
 {
     let starts = fast::starts(c, g, mem);
@@ -155,7 +153,7 @@ fn run_and_finish(
     mem: &mut [u64],
     out: &mut [u64],
 ) -> Answer
-    requires { bar_of c (area_of g) (length mem.old) ≡ Bar.Open }
+    requires { bar_of c (area_of g) (length mem.old) ≡ Ok tt }
     ensures { Answered (ended_as e c (length out.old) (ran_of inner c (area_of g.entry) allowance)) result mem.old mem.new out.old out.new }
 {
     match run_from_starts(engine, inner, c, g, allowance, mem) {
@@ -166,7 +164,7 @@ fn run_and_finish(
 
 // The quick covering of a request that is not barred.
 fn lay_fast(c: RegionCoverer, g: Region<'_>, mem: &mut [u64], out: &mut [u64]) -> Answer
-    requires { bar_of c (area_of g) (length mem.old) ≡ Bar.Open }
+    requires { bar_of c (area_of g) (length mem.old) ≡ Ok tt }
     ensures { Answered (fitted (length out.old) (fast_covering_for c (bound_of (area_of g.entry))) 0 no_totals) result mem.old mem.new out.old out.new }
 {
     let laid = fast::fast_covering(c, g, mem, out);
@@ -184,7 +182,7 @@ fn come_to(
     mem: &mut [u64],
     out: &mut [u64],
 ) -> Answer
-    requires { bar_of c (area_of g) (length mem.old) ≡ Bar.Open }
+    requires { bar_of c (area_of g) (length mem.old) ≡ Ok tt }
     ensures { Answered (comes_to kind c (area_of g.entry) allowance (length out.old)) result mem.old mem.new out.old out.new }
 {
     match kind {
@@ -209,8 +207,8 @@ pub fn respond(
 {
     let first = bars::first_refusal(c, g, mem.len());
     match first {
-        Bar::Open => come_to(engine, kind, c, g, allowance, mem, out),
-        Bar::Barred(number) => refuse(number),
+        Ok(()) => come_to(engine, kind, c, g, allowance, mem, out),
+        Err(refusal) => refuse(refusal.number()),
     }
 }
 
@@ -357,7 +355,7 @@ fn watch_from_starts(
     mem: &mut [u64],
     out: &mut [u64],
 ) -> Result<Seen, u64>
-    requires { bar_of c (area_of g) (length mem.old) ≡ Bar.Open }
+    requires { bar_of c (area_of g) (length mem.old) ≡ Ok tt }
     ensures { Watched inner c (area_of g.entry) steps result mem.old mem.new out.old out.new }
 {
     let starts = fast::starts(c, g, mem);
@@ -385,7 +383,7 @@ pub fn watch(
 {
     let first = bars::first_refusal(c, g, mem.len());
     match first {
-        Bar::Open => watch_from_starts(engine, inner, c, g, steps, mem, out),
-        Bar::Barred(number) => Err(number),
+        Ok(()) => watch_from_starts(engine, inner, c, g, steps, mem, out),
+        Err(refusal) => Err(refusal.number()),
     }
 }

@@ -162,7 +162,7 @@ pub fn fast_covering(
     ensures value { (result ≡ room_for (fast_covering_for c (bound_of (area_of g.entry))) out.old) × (out.new ≡ laid_over (fast_covering_for c (bound_of (area_of g.entry))) out.old) }
     ensures mem_after { mem.new ≡ in_place (length (bound_of (area_of g.entry))) (merged_covering_for c (bound_of (area_of g.entry))) mem.old }
 {
-    let n = region::cell_union_bound(g, mem);
+    let n = g.cell_union_bound(mem);
     normalize_covering(c, mem, n, out)
 }
 
@@ -236,7 +236,7 @@ pub fn starts(c: RegionCoverer, g: region::Region<'_>, mem: &mut [u64]) -> Start
     ensures count_value { (result.count ≡ length (starts_for c (bound_of (area_of g.entry)))) × (result.ids ≡ starts_for c (bound_of (area_of g.entry)) ++ zeros (6 - length (starts_for c (bound_of (area_of g.entry))))) }
     ensures mem_after { mem.new ≡ in_place (length (bound_of (area_of g.entry))) (starts_for c (bound_of (area_of g.entry))) mem.old }
 {
-    let n = region::cell_union_bound(g, mem);
+    let n = g.cell_union_bound(mem);
     let count = start_cells(c, mem, n);
     let mut ids = six_words();
     cellunion::copy(mem, count, &mut ids);

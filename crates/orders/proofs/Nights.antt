@@ -13,8 +13,8 @@ use borrow.Author.Tests.{ltb-true}
 use Rattle.refusal.specs.declared.Refusal.{Refusal}
 use Rattle.cellunion.specs.Memory.{zeros, laid}
 use Rattle.cellunion.proofs.Memory.{laid_nil, length_laid, laid_append, laid_start, length_zeros}
-use Rattle.bars.specs.declared.Bar.{Bar}
-use Rattle.bars.specs.Bars.{bar_of}
+use Rattle.std.specs.Prelude.{Ok, Err}
+use Rattle.bars.specs.Bars.{Bar, bar_of}
 use Rattle.bars.proofs.Early.{early_none}
 use Rattle.region.specs.Region.{Area}
 use Rattle.run.specs.declared.RegionCoverer.{RegionCoverer}
@@ -69,8 +69,8 @@ cleared_long (done l steps aside) mem h = zeros_long (memory_words - 0) mem h
 
 checked_long : (c : RegionCoverer) (a : Area) (mem : List ℕ) (R : Result) (b : Bar) → bar_of c a (length mem) ≡ b → length (memory_after (checked b R) mem) ≡ length mem
 unfolding checked memory_after
-checked_long c a mem R Bar.Open e = cleared_long R mem (early_none c a (length mem) e).long
-checked_long c a mem R (Bar.Barred n) e = refl
+checked_long c a mem R (Ok u) e = cleared_long R mem (early_none c a (length mem) e).long
+checked_long c a mem R (Err r) e = refl
 
 -- fewer words than a run needs are never cleared: such an order is barred
 memory_long : (o : Order) (mem : List ℕ) (room : ℕ) → length (memory_after (result_for o (length mem) room) mem) ≡ length mem

@@ -8,7 +8,6 @@ ghost use Rattle.region.specs.Region.{area_of, in_domain};
 ghost use Rattle.fast.specs.Memory.{NumbersFit, Cells};
 ghost use Rattle.input.specs.Feed.{Ready};
 
-use bars::Bar;
 use cell::{Cap, Cell};
 use hilbert::FaceIj;
 use input::{Feed, Found, Streams};
@@ -54,11 +53,11 @@ fn cell_id(id: u64) -> u64
 // it is no number.
 fn in_domain(k: u64, a: u64, g: Cap) -> bool {
     match k {
-        1 => region::is_finite(g.center.x),
-        2 => region::is_finite(g.center.x),
+        1 => g.center.x.is_finite(),
+        2 => g.center.x.is_finite(),
         3 => g.center.is_unit(),
         5 => region::cap_in_domain(requests::cap_of(0x3ff0_0000_0000_0000, 0, 0, a)),
-        6 => region::is_finite(g.center.mul(0.0).norm2()),
+        6 => g.center.mul(0.0).norm2().is_finite(),
         7 => cellid::is_valid(a),
         8 => g.center.is_unit(),
         9 => region::cap_in_domain(g),
@@ -311,7 +310,7 @@ fn put_bound(g: Region<'_>, page: &mut Page) -> usize
     requires { in_domain (area_of g) ≡ true }
 {
     let mut mem = memory();
-    let count = region::cell_union_bound(g, &mut mem);
+    let count = g.cell_union_bound(&mut mem);
     put_list(page, &mem, count)
 }
 
@@ -343,8 +342,8 @@ fn put_children(g: Region<'_>, id: u64, page: &mut Page, at: usize) -> usize
     requires { (in_domain (area_of g) ≡ true) × CellId.Cell id }
 {
     if cellid::level(id) < 30 {
-        let l = region::look_children(g, id, true);
-        let less = region::look_children(g, id, false);
+        let l = g.look_children(id, true);
+        let less = g.look_children(id, false);
         let n = put_number(page, at, l.passing);
         let m = put_number(page, n, l.inside);
         return put_number(page, m, less.passing);
@@ -356,8 +355,8 @@ fn put_children(g: Region<'_>, id: u64, page: &mut Page, at: usize) -> usize
 fn put_look(g: Region<'_>, id: u64, page: &mut Page) -> usize
     requires { (in_domain (area_of g) ≡ true) × CellId.Cell id }
 {
-    let n = replies::put_decimal(page, 0, sight_number(region::look_at(g, id, true)));
-    let m = put_number(page, n, region::look_at(g, id, false).passes() as u64);
+    let n = replies::put_decimal(page, 0, sight_number(g.look_at(id, true)));
+    let m = put_number(page, n, g.look_at(id, false).passes() as u64);
     put_children(g, id, page, m)
 }
 
@@ -371,8 +370,8 @@ fn put_region(k: u64, c: RegionCoverer, g: Region<'_>, id: u64, page: &mut Page)
     match k {
         16 => put_bound(g, page),
         17 => put_starts(c, g, page),
-        21 => put_truth(page, region::look_at(g, id, true).is_inside()),
-        22 => put_truth(page, region::look_at(g, id, false).passes()),
+        21 => put_truth(page, g.look_at(id, true).is_inside()),
+        22 => put_truth(page, g.look_at(id, false).passes()),
         _ => put_look(g, id, page),
     }
 }
@@ -382,13 +381,13 @@ fn answer_region(k: u64, c: RegionCoverer, g: Region<'_>, last: u64, page: &mut 
     let id = cell_id(last);
     let first = bars::first_refusal(c, g, MEMORY_WORDS);
     match first {
-        Bar::Open => {
+        Ok(()) => {
             if id == last {
                 return put_region(k, c, g, id, page);
             }
             0
         }
-        Bar::Barred(_) => 0,
+        Err(_) => 0,
     }
 }
 
@@ -481,13 +480,13 @@ fn answer_list(
     let m = cells_in_front(ids, n);
     let first = bars::first_refusal(c, Region::Cell(0x1000_0000_0000_0000), MEMORY_WORDS);
     match first {
-        Bar::Open => {
+        Ok(()) => {
             if m == n {
                 return put_answer(k, c, ids, m, page);
             }
             0
         }
-        Bar::Barred(_) => 0,
+        Err(_) => 0,
     }
 }
 

@@ -28,8 +28,8 @@ use Rattle.run.specs.Ground.{Passes, grown_from}
 use Rattle.run.specs.Sixes.{aside_from, aside_six}
 use Rattle.candidate.specs.Candidate.{task_of}
 use Rattle.coverer.specs.Coverer.{course_of, outcome_of}
-use Rattle.bars.specs.declared.Bar.{Bar}
-use Rattle.bars.specs.Bars.{bar_of}
+use Rattle.std.specs.Prelude.{Ok}
+use Rattle.bars.specs.Bars.{Bar, bar_of}
 use Rattle.covering.specs.declared.Ending.{Ending}
 use Rattle.covering.specs.declared.Kind.{Kind}
 use Rattle.covering.specs.Covering.{done, fitted, checked, list_of, ended_as, asked_of, ran_of, comes_to, result_of}
@@ -107,6 +107,6 @@ module _ (c : RegionCoverer) (allowance room : ℕ) where
   no_answer (Kind.Inner e) = no_end true e
   no_answer Kind.Fast = no_room room
 
-pub empty_list : (k : Kind) (c : RegionCoverer) (allowance memory room : ℕ) → bar_of c (list_area []) memory ≡ Bar.Open → result_of k c (list_area []) allowance memory room ≡ done [] 0 no_totals
+pub empty_list : (k : Kind) (c : RegionCoverer) (allowance memory room : ℕ) → bar_of c (list_area []) memory ≡ Ok tt → result_of k c (list_area []) allowance memory room ≡ done [] 0 no_totals
 unfolding result_of checked
 empty_list k c allowance memory room e = ap (λ (b : Bar). checked b (comes_to k c (list_area []) allowance room)) e ∙ no_answer c allowance room k

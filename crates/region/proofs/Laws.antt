@@ -1,29 +1,41 @@
 -- What a region's tests and bound promise.
-use mathlib.Core.Path.{◌≡◌, refl, ap, ◌∙◌}
-use mathlib.Core.List.{List, []}
-use mathlib.Core.Bool.{Bool, true, false}
+use mathlib.Core.Path.{◌≡◌, refl}
+use mathlib.Core.List.{[]}
+use mathlib.Core.Bool.{Bool, true, false, ◌&&◌}
 use mathlib.Core.Logic.{inl}
-use Prim.Native.Nat.{ℕ, ◌-◌, ◌≤◌, ◌<◌}
+use Rattle.std.specs.Float.{Float, nan, inf, fin, float_is_finite}
+use Rattle.std.specs.Float.Ieee.{le}
+use Rattle.std.specs.Float.Ieee.Scale.{finite}
+use Rattle.point.specs.Vector.{is_unit}
+use Rattle.point.specs.ChordAngle.{straight}
+use Prim.Native.Nat.{ℕ, ◌≤◌, ◌<◌}
 use native.Mathlib.Omega.{arith}
-use lib.ListN.{length, take, replicate, length-append}
-use lib.Seq.{take_at}
+use lib.ListN.{length}
 use Rattle.cellid.specs.CellId.{Cell, level_of, child_of, holds, meets}
 use Rattle.cellid.proofs.Laws.{true_or}
 use Rattle.cellid.proofs.Leaves.{meets_either, child_valid}
 use Rattle.order.specs.Order.{All}
-use Rattle.cellunion.specs.Memory.{laid}
 use Rattle.cell.specs.Cell.{cell_of, cap_bound}
 use Rattle.cell.specs.declared.Cap.{Cap}
 use Rattle.cap.specs.Cap.{is_empty_cap}
-use Rattle.cap.specs.Bound.{union_bound, in_six}
-use Rattle.cap.specs.declared.Bound.{Bound}
 use Rattle.sight.specs.Sight.{sight_of, sights_of, passes, is_inside}
 use Rattle.sight.proofs.Laws.{passes_by, inside_by}
 use Rattle.cap.proofs.Laws as CapLaws
 use Rattle.cap.proofs.BoundLaws as BoundLaws
 use Rattle.picklist.specs.PickList.{picks_most, some}
 use Rattle.picklist.proofs.Laws.{pick_is, list_holds_meets}
-use Rattle.region.specs.Region.{Area, cap_area, cell_area, list_area, in_domain, intersects_cell, contains_cell, sight_at, bound_of}
+use Rattle.region.specs.Region.{Area, cap_area, cell_area, list_area, cap_in_domain, in_domain, intersects_cell, contains_cell, sight_at, bound_of}
+
+-- ---- a cap's domain, by std's finite
+is_finite_lem : (x : Float) → finite x ≡ float_is_finite x
+unfolding float_is_finite
+is_finite_lem nan = refl
+is_finite_lem (inf s) = refl
+is_finite_lem (fin s m e) = refl
+
+pub cap_in_domain_lem : (c : Cap) → cap_in_domain c ≡ (float_is_finite c.center.x && (float_is_finite c.center.y && (float_is_finite c.center.z && (is_unit c.center && (float_is_finite c.radius && le c.radius straight)))))
+unfolding cap_in_domain
+cap_in_domain_lem c = rw (is_finite_lem c.center.x, is_finite_lem c.center.y, is_finite_lem c.center.z, is_finite_lem c.radius)
 
 -- ---- containing implies intersecting
 pub contains_intersects : (a : Area) (id : ℕ) → in_domain a ≡ true → Cell id → contains_cell a id ≡ true → intersects_cell a id ≡ true
@@ -73,10 +85,3 @@ unfolding bound_of in_domain
 bound_cells (cap_area cap) h = BoundLaws.bound_cells cap
 bound_cells (cell_area own) h = BoundLaws.bound_cells (cap_bound (cell_of own))
 bound_cells (list_area ids) h = ((pick_is ids).0 h).1
-
--- a bound of at most six, in its array
-pub six_asks : (c : Cap) (room : ℕ) (b : Bound) → picks_most ≤ room → b ≡ in_six (union_bound c) → (b.count ≤ length b.ids) × (b.count ≤ room)
-six_asks c room b h e = rw e (simp length-append (omega arith), omega (arith, BoundLaws.bound_short c))
-
-pub six_laid : (l m m' : List ℕ) (b : Bound) (r : ℕ) → b ≡ in_six l → (r ≡ b.count) × (m' ≡ laid 0 (take b.count b.ids) m) → (r ≡ length l) × (m' ≡ laid 0 l m)
-six_laid l m m' b r e h = (h.0 ∙ ap (λ (x : Bound). x.count) e, h.1 ∙ ap (λ (x : Bound). laid 0 (take x.count x.ids) m) e ∙ ap (λ (t : List ℕ). laid 0 t m) (take_at l (replicate (6 - length l) 0) (length l) refl))

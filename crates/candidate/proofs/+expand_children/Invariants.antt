@@ -11,6 +11,3 @@ decreases-expand_children l = l.left
 
 abbrev pub invariant-loop-k : goal.invariant-loop-k
 invariant-loop-k l = record { few : l.k ≤ 4; so_far : l.acc ≡ up_to (found_part (task_of l.fn.q (area_of l.fn.g)) (l.fn.left - 1)) (2 ^ (2 * (l.fn.left - 1))) l.fn.id l.k }
-
-abbrev pub decreases-loop-k : goal.decreases-loop-k
-decreases-loop-k l = 4 - l.k

@@ -10,19 +10,16 @@ pub crossing-c-requires : goal.crossing-c-requires
 crossing-c-requires c = (rw c.level-level.ensures (level_le c.args.id), c.requires.asks.few)
 
 pub returns-in-Outside : goal.returns-in-Outside
-unfolding candidate_of
 returns-in-Outside c =
     let z = c.args in
-    ap candidate_of (seen_as (task_of z.q (area_of z.g)) z.id _ _ _ c.level-level.ensures c.asks_whole.ensures (sym c.in-Outside.is ∙ c.look_at-s.ensures))
+    ap candidate_of (seen_as (task_of z.q (area_of z.g)) z.id _ _ _ c.level-level.ensures c.asks_whole.ensures (sym c.in-Outside.is ∙ c.look_at.ensures))
 
 pub returns-in-Crossing : goal.returns-in-Crossing
-unfolding candidate_of
 returns-in-Crossing c =
     let z = c.args in
-    c.crossing-c.ensures ∙ ap candidate_of (seen_as (task_of z.q (area_of z.g)) z.id _ _ _ c.level-level.ensures c.asks_whole.ensures (sym c.in-Crossing.is ∙ c.look_at-s.ensures))
+    c.crossing-c.ensures ∙ ap candidate_of (seen_as (task_of z.q (area_of z.g)) z.id _ _ _ c.level-level.ensures c.asks_whole.ensures (sym c.in-Crossing.is ∙ c.look_at.ensures))
 
 pub returns-in-Inside : goal.returns-in-Inside
-unfolding candidate_of
 returns-in-Inside c =
     let z = c.args in
-    ap candidate_of (seen_as (task_of z.q (area_of z.g)) z.id _ _ _ c.level-level.ensures c.asks_whole.ensures (sym c.in-Inside.is ∙ c.look_at-s.ensures))
+    ap candidate_of (seen_as (task_of z.q (area_of z.g)) z.id _ _ _ c.level-level.ensures c.asks_whole.ensures (sym c.in-Inside.is ∙ c.look_at.ensures))

@@ -5,13 +5,13 @@ use Rattle.covering.proofs.Answers.{answered_barred, answered_open}
 use Rattle.covering.proofs.respond.Goals as goal
 
 pub come_to-requires : goal.come_to-requires
-come_to-requires c = sym c.first_refusal-first.ensures ∙ c.in-Open.is
+come_to-requires c = sym c.first_refusal-first.ensures ∙ c.in-Ok.is
 
-pub returns-in-Open : goal.returns-in-Open
+pub returns-in-Ok : goal.returns-in-Ok
 unfolding result_of
-returns-in-Open c =
-    answered_open _ _ _ _ _ _ _ (sym c.first_refusal-first.ensures ∙ c.in-Open.is) c.come_to.ensures
+returns-in-Ok c =
+    answered_open _ _ _ _ _ _ _ (sym c.first_refusal-first.ensures ∙ c.in-Ok.is) c.come_to.ensures
 
-pub returns-in-Barred : goal.returns-in-Barred
+pub returns-in-Err : goal.returns-in-Err
 unfolding result_of
-returns-in-Barred c = answered_barred _ _ _ _ _ _ (sym c.first_refusal-first.ensures ∙ c.in-Barred.is) c.refuse.ensures
+returns-in-Err c = answered_barred _ _ _ _ _ _ (sym c.first_refusal-first.ensures ∙ c.in-Err.is) (rw c.number.ensures at c.refuse.ensures)

@@ -1,6 +1,6 @@
--- `region::in_domain` meets its contract.
+-- `region::Region::in_domain` meets its contract.
 use Rattle.region.specs.Region.{area_of, in_domain}
-use Rattle.region.proofs.in_domain.Goals as goal
+use Rattle.region.proofs.Region.in_domain.Goals as goal
 
 pub returns-in-Cap : goal.returns-in-Cap
 unfolding area_of in_domain

@@ -1,10 +1,10 @@
--- `region::look_at` meets its contract.
+-- `region::Region::look_at` meets its contract.
 use mathlib.Core.Path.{◌∙◌}
 use Rattle.cellid.proofs.Laws.{cell_pos, valid_is, valid_fits}
 use Rattle.sight.specs.Sight.{sight_of}
 use Rattle.region.specs.Region.{area_of, in_domain, intersects_cell, contains_cell}
 use Rattle.region.proofs.Laws.{cell_sight}
-use Rattle.region.proofs.look_at.Goals as goal
+use Rattle.region.proofs.Region.look_at.Goals as goal
 
 pub look_at-requires-in-Cell : goal.look_at-requires-in-Cell
 unfolding area_of in_domain

@@ -1,10 +1,10 @@
--- `region::look_children` meets its contract.
+-- `region::Region::look_children` meets its contract.
 use mathlib.Core.Path.{◌∙◌}
 use Rattle.cellid.proofs.Laws.{valid_is, valid_fits}
 use Rattle.sight.specs.Sight.{sights_of, sight_of}
 use Rattle.region.specs.Region.{area_of, in_domain, intersects_cell, contains_cell}
 use Rattle.region.proofs.Laws.{cell_sights}
-use Rattle.region.proofs.look_children.Goals as goal
+use Rattle.region.proofs.Region.look_children.Goals as goal
 
 pub look_children-requires-in-Cell : goal.look_children-requires-in-Cell
 unfolding area_of in_domain
