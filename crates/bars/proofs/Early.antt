@@ -26,16 +26,13 @@ abbrev pub UpTo : ℕ → ℕ → Type 0
 UpTo most n = (0 < n) × (n ≤ most)
 
 up_to_true : (most n : ℕ) → is_up_to most n ≡ true → UpTo most n
-unfolding is_up_to
 up_to_true most n t = let a = (and-eq-true_iff (leb 1 n) (leb n most)).0 t in let x : 1 ≤ n = leb-true _ _ a.0 in let y : n ≤ most = leb-true _ _ a.1 in (omega arith, y)
 
 up_to_false : (most n : ℕ) → is_up_to most n ≡ false → Beyond most n
-unfolding is_up_to
 up_to_false most zero t = inl (omega arith)
 up_to_false most (suc n) t = inr (leb-false (suc n) most (rw (le-leb 1 (suc n) (omega arith)) at t))
 
 is_up_to_lem : (most n : ℕ) → UpTo most n → is_up_to most n ≡ true
-unfolding is_up_to
 is_up_to_lem most n h = rw (le-leb 1 n (omega arith), le-leb n most (omega arith))
 
 not_up_to : (most n : ℕ) → Beyond most n → is_up_to most n ≡ false
@@ -77,51 +74,40 @@ bar_same r s h g e = sym (bar_back r h) ∙ ap bar_at e ∙ bar_back s g
 -- ---- each bar by its reason
 
 pub edition_bad : (n : ℕ) → Beyond 2 n → edition_bar n ≡ Err Refusal.Edition
-unfolding edition_bar
 edition_bad n h = rw (not_up_to 2 n h, edition_bar)
 
 pub edition_open : (n : ℕ) → UpTo 2 n → edition_bar n ≡ Ok tt
-unfolding edition_bar
 edition_open n h = rw (is_up_to_lem 2 n h, edition_bar)
 
 pub region_open : (a : Area) → in_domain a ≡ true → region_bar a ≡ Ok tt
-unfolding region_bar
 region_open a h = rw (h, region_bar)
 
 pub region_bad : (a : Area) → in_domain a ≡ false → region_bar a ≡ Err Refusal.Region
-unfolding region_bar
 region_bad a h = rw (h, region_bar)
 
 pub memory_short : (memory : ℕ) → memory < memory_words → memory_bar memory ≡ Err Refusal.Memory
-unfolding memory_bar
 memory_short memory h = rw (lt-ltb memory memory_words h, memory_bar)
 
 pub memory_open : (memory : ℕ) → memory_words ≤ memory → memory_bar memory ≡ Ok tt
-unfolding memory_bar
 memory_open memory h = rw (le-ltb memory memory_words h, memory_bar)
 
 module _ (c : RegionCoverer) where
   pub numbers_deep : 30 < c.max_level → numbers_bar c ≡ Err Refusal.MaxLevel
-  unfolding numbers_bar
   numbers_deep h = rw (lt-ltb 30 c.max_level h, numbers_bar)
 
   module _ (t : c.max_level ≤ 30) where
     pub numbers_order : c.max_level < c.min_level → numbers_bar c ≡ Err Refusal.MinLevel
-    unfolding numbers_bar
     numbers_order h = rw (le-ltb 30 c.max_level t, numbers_bar, lt-ltb c.max_level c.min_level h)
 
     module _ (l : c.min_level ≤ c.max_level) where
       pub numbers_steps : Beyond 3 c.level_mod → numbers_bar c ≡ Err Refusal.LevelMod
-      unfolding numbers_bar
       numbers_steps h = rw (le-ltb 30 c.max_level t, numbers_bar, le-ltb c.max_level c.min_level l, not_up_to 3 c.level_mod h)
 
       module _ (m : UpTo 3 c.level_mod) where
         pub numbers_cells : 1000 < c.max_cells → numbers_bar c ≡ Err Refusal.MaxCells
-        unfolding numbers_bar
         numbers_cells h = rw (le-ltb 30 c.max_level t, numbers_bar, le-ltb c.max_level c.min_level l, is_up_to_lem 3 c.level_mod m, lt-ltb 1000 c.max_cells h)
 
         pub numbers_open : c.max_cells ≤ 1000 → numbers_bar c ≡ Ok tt
-        unfolding numbers_bar
         numbers_open f = rw (le-ltb 30 c.max_level t, numbers_bar, le-ltb c.max_level c.min_level l, is_up_to_lem 3 c.level_mod m, le-ltb 1000 c.max_cells f)
 
 module _ (c : RegionCoverer) (a : Area) (memory : ℕ) where
@@ -150,7 +136,7 @@ module _ (c : RegionCoverer) (a : Area) (memory : ℕ) where
 
   -- the number that is given is given for its reason
   pub early_is : Early (bar_of c a memory)
-  unfolding bar_of numbers_bar edition_bar region_bar memory_bar first_bar
+  unfolding bar_of
   early_is = if_ok numbers (ltb 30 c.max_level) _ _
       (λ t. deep (ltb-true _ _ t))
       (λ t₁. if_ok numbers (ltb c.max_level c.min_level) _ _
@@ -175,7 +161,7 @@ module _ (c : RegionCoverer) (a : Area) (memory : ℕ) where
 
   -- and where the reason is there, the number is given
   pub early_given : (b : Bar) → Early b → bar_of c a memory ≡ b
-  unfolding bar_of first_bar
+  unfolding bar_of
   early_given b (deep h) = rw (numbers_deep c h)
   early_given b (order t h) = rw (numbers_order c t h)
   early_given b (steps t l h) = rw (numbers_steps c t l h)

@@ -5,8 +5,9 @@ use mathlib.Core.List.{List, [], ◌∷◌, ◌++◌, append_assoc, map, map-app
 use Prim.Native.Nat.{ℕ, suc, ◌+◌, ◌-◌, ◌≤◌, ◌<◌}
 use native.Mathlib.Numerals.{add-one}
 use native.Mathlib.Omega.{arith}
-use lib.ListN.{length, get_or, set, take, drop, length-append, length-map, length-set, length-drop, take-append-drop}
-use lib.Seq.{length-take-le, take-suc, drop-cons, get_or_at, set_at, take_at, drop_at, get_or-take, take-set-lt, drop-set-lt}
+use lib.ListN.{length, get_or, set, take, drop, length-append, length-map, length-drop, take-append-drop}
+use Rattle.std.proofs.lemmas.List.{append-nil, drop_all}
+use lib.Seq.{take_all, length-take-le, take-suc, drop-cons, get_or_at, set_at, take_at, drop_at, get_or-take, take-set-lt, drop-set-lt}
 use Rattle.cellid.specs.CellId.{Cell, parent_at, holds}
 use Rattle.order.specs.Order.{All}
 use Rattle.cellunion.specs.CellUnion.{Normal, normalise}
@@ -23,35 +24,23 @@ use Rattle.fast.proofs.Laws.{lifted_cells, Covering, merged_covering_lem}
 
 -- ---- each word to its image
 
-pub record Lifting (f : ℕ → ℕ) (n : ℕ) (m₀ m : List ℕ) (i : ℕ) : Type 0 where
-  pub within : i ≤ n
-  pub room : n ≤ length m₀
-  pub len : length m ≡ length m₀
-  pub same : m ≡ map f (take i m₀) ++ drop i m₀
-
 lift_word : (f : ℕ → ℕ) (m₀ m : List ℕ) (i : ℕ) → i < length m₀ → m ≡ map f (take i m₀) ++ drop i m₀ → m ≡ map f (take i m₀) ++ get_or m₀ i 0 ∷ drop (i + 1) m₀
 lift_word f m₀ m i h e = e ∙ rw (add-one i) (ap (λ (t : List ℕ). map f (take i m₀) ++ t) (drop-cons m₀ i 0 h))
 
 lift_size : (f : ℕ → ℕ) (m₀ : List ℕ) (i : ℕ) → i < length m₀ → length (map f (take i m₀)) ≡ i
 lift_size f m₀ i h = length-map (take i m₀) f ∙ length-take-le i m₀ (omega arith)
 
-pub lift_turn : (f : ℕ → ℕ) (n : ℕ) (m₀ m : List ℕ) (i v : ℕ) → Lifting f n m₀ m i → i < n → v ≡ f (get_or m i 0) → Lifting f n m₀ (set m i v) (i + 1)
-lift_turn f n m₀ m i v L h e =
-    let g : i < length m₀ = omega (arith, L.room) in
-    let w = lift_word f m₀ m i g L.same in
+pub lift_turn : (f : ℕ → ℕ) (m₀ m : List ℕ) (i v : ℕ) → i < length m₀ → m ≡ map f (take i m₀) ++ drop i m₀ → v ≡ f (get_or m i 0) → set m i v ≡ map f (take (i + 1) m₀) ++ drop (i + 1) m₀
+lift_turn f m₀ m i v g L e =
+    let w = lift_word f m₀ m i g L in
     let x : get_or m i 0 ≡ get_or m₀ i 0 = ap (λ (t : List ℕ). get_or t i 0) w ∙ get_or_at (map f (take i m₀)) (get_or m₀ i 0) (drop (i + 1) m₀) 0 i (lift_size f m₀ i g) in
-    record {
-      within = omega arith;
-      room = L.room;
-      len = length-set m i v ∙ L.len;
-      same = ap (λ (t : List ℕ). set t i v) w ∙ set_at (map f (take i m₀)) (get_or m₀ i 0) (drop (i + 1) m₀) v i (lift_size f m₀ i g)
-          ∙ ap (λ (y : ℕ). map f (take i m₀) ++ y ∷ drop (i + 1) m₀) (e ∙ ap f x)
-          ∙ sym (append_assoc (map f (take i m₀)) (f (get_or m₀ i 0) ∷ []) (drop (i + 1) m₀))
-          ∙ ap (λ (t : List ℕ). t ++ drop (i + 1) m₀) (sym (map-append f (take i m₀) (get_or m₀ i 0 ∷ [])) ∙ ap (map f) (sym (take-suc m₀ i 0 g) ∙ ap (λ (k : ℕ). take k m₀) (sym (add-one i))));
-    }
+    ap (λ (t : List ℕ). set t i v) w ∙ set_at (map f (take i m₀)) (get_or m₀ i 0) (drop (i + 1) m₀) v i (lift_size f m₀ i g)
+    ∙ ap (λ (y : ℕ). map f (take i m₀) ++ y ∷ drop (i + 1) m₀) (e ∙ ap f x)
+    ∙ sym (append_assoc (map f (take i m₀)) (f (get_or m₀ i 0) ∷ []) (drop (i + 1) m₀))
+    ∙ ap (λ (t : List ℕ). t ++ drop (i + 1) m₀) (sym (map-append f (take i m₀) (get_or m₀ i 0 ∷ [])) ∙ ap (map f) (sym (take-suc m₀ i 0 g) ∙ ap (λ (k : ℕ). take k m₀) (sym (add-one i))))
 
-pub lift_done : (f : ℕ → ℕ) (n : ℕ) (m₀ m : List ℕ) (i : ℕ) → Lifting f n m₀ m i → n ≤ i → m ≡ map f (take n m₀) ++ drop n m₀
-lift_done f n m₀ m i L h = let e : i ≡ n = omega (arith, L.within) in L.same ∙ ap (λ (k : ℕ). map f (take k m₀) ++ drop k m₀) e
+pub lift_done : (f : ℕ → ℕ) (m₀ m : List ℕ) (i : ℕ) → length m₀ ≤ i → m ≡ map f (take i m₀) ++ drop i m₀ → m ≡ map f m₀
+lift_done f m₀ m i h L = L ∙ rw (take_all i m₀ h, drop_all i m₀ h) (append-nil (map f m₀))
 
 pub lift_none : (f : ℕ → ℕ) (n : ℕ) (m : List ℕ) → map f (take n m) ≡ take n m → m ≡ map f (take n m) ++ drop n m
 lift_none f n m e = sym (take-append-drop n m) ∙ ap (λ (l : List ℕ). l ++ drop n m) (sym e)

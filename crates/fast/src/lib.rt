@@ -14,24 +14,19 @@ ghost use Rattle.fast.specs.Memory.{NumbersFit, lifted_for, merged_for, merged_c
 
 use run::RegionCoverer;
 
-// The start cells of a run, at most six, with zeros behind them.
+// The start cells of a run, at most six, with zeros behind them. An array with its length: the run takes the memory itself, and there is no heap.
 #[derive(Clone, Copy)]
 pub struct StartCells {
     pub ids: [u64; 6],
     pub count: usize,
 }
 
-// A neighbouring pair, by the place of its first cell, and one more than the adjusted level of its common ancestor.
+// A neighbouring pair, by the place of its first cell, and one more than the adjusted level of its common ancestor. No Option: 0, for no ancestor, lies below
+// every other depth, as the paper's -1 does, so that one comparison says which is deeper and one whether merging ends.
 #[derive(Clone, Copy)]
 struct Best {
     at: usize,
     depth: u64,
-}
-
-fn lesser(a: u64, b: u64) -> u64
-    ensures { result ≡ min a b }
-{
-    if a < b { a } else { b }
 }
 
 // The level, moved up onto the steps from min_level where it lies below that.
@@ -39,12 +34,11 @@ fn adjust_level(c: RegionCoverer, level: u64) -> u64
     requires { NumbersFit c }
     ensures { result ≡ adjusted c.min_level c.level_mod level }
 {
-    if 1 < c.level_mod {
-        if c.min_level < level {
-            return level - (level - c.min_level) % c.level_mod;
-        }
+    if 1 < c.level_mod && c.min_level < level {
+        level - (level - c.min_level) % c.level_mod
+    } else {
+        level
     }
-    level
 }
 
 // One more than the adjusted level of the two cells' common ancestor; 0 for none.
@@ -52,8 +46,7 @@ fn depth(c: RegionCoverer, a: u64, b: u64) -> u64
     requires { NumbersFit c × Cell a × Cell b }
     ensures { result ≡ pair_depth c.min_level c.level_mod a b }
 {
-    let common = cellid::common_ancestor_level(a, b);
-    match common {
+    match cellid::common_ancestor_level(a, b) {
         Some(level) => adjust_level(c, level) + 1,
         None => 0,
     }
@@ -63,11 +56,7 @@ fn depth(c: RegionCoverer, a: u64, b: u64) -> u64
 fn takes_all_levels(c: RegionCoverer) -> bool
     ensures { result ≡ (leb 30 c.max_level && leb c.level_mod 1) }
 {
-    if 30 <= c.max_level {
-        c.level_mod <= 1
-    } else {
-        false
-    }
+    30 <= c.max_level && c.level_mod <= 1
 }
 
 // Moves each of the first n cells that is deeper than max_level or off step to its ancestor that is neither. Where every level is taken there is nothing to move.
@@ -78,13 +67,9 @@ fn lift(c: RegionCoverer, mem: &mut [u64], n: usize)
     if takes_all_levels(c) {
         return;
     }
-    let top = c.max_level;
-    let mut i: usize = 0;
-    while i < n {
-        let id = mem[i];
-        let up = adjust_level(c, lesser(cellid::level(id), top));
-        mem[i] = cellid::parent(id, up);
-        i += 1;
+    for id in mem[..n].iter_mut() {
+        let up = adjust_level(c, cellid::level(*id).min(c.max_level));
+        *id = cellid::parent(*id, up);
     }
 }
 
@@ -101,8 +86,7 @@ fn merge(c: RegionCoverer, mem: &mut [u64], n: usize) -> usize
     'merge: while cells < k as u64 {
         let mut best = Best { at: 0, depth: 0 };
         let mut least: u64 = 1 << 61;
-        let mut i: usize = 0;
-        'scan: while i + 1 < k {
+        'scan: for i in 0..k - 1 {
             let a = mem[i];
             let b = mem[i + 1];
             if a ^ b < least {
@@ -112,7 +96,6 @@ fn merge(c: RegionCoverer, mem: &mut [u64], n: usize) -> usize
                     best = Best { at: i, depth: d };
                 }
             }
-            i += 1;
         }
         let deepest = best.depth;
         if deepest <= low {
@@ -192,12 +175,10 @@ fn adjust_cell_levels(c: RegionCoverer, mem: &mut [u64], n: usize) -> usize
     ensures { (result ≡ length (adjusted_for c (take n mem.old))) × (mem.new ≡ in_place n (adjusted_for c (take n mem.old)) mem.old) }
 {
     let mut kept: usize = 0;
-    let mut i: usize = 0;
-    while i < n {
+    for i in 0..n {
         let id = mem[i];
         let up = cellid::parent(id, adjust_level(c, cellid::level(id)));
         kept = keep_start(mem, kept, up);
-        i += 1;
     }
     cellunion::clear(mem, kept, n);
     kept
@@ -211,23 +192,16 @@ fn start_cells(c: RegionCoverer, mem: &mut [u64], n: usize) -> usize
 {
     let rough = RegionCoverer {
         min_level: 0,
-        max_level: c.max_level,
         level_mod: 1,
-        max_cells: lesser(c.max_cells, 4),
-        edition: c.edition,
+        max_cells: c.max_cells.min(4),
+        ..c
     };
     let k = merge_covering(rough, mem, n);
     if c.level_mod <= 1 {
-        return k;
+        k
+    } else {
+        adjust_cell_levels(c, mem, k)
     }
-    adjust_cell_levels(c, mem, k)
-}
-
-// Zeros for the start cells.
-fn six_words() -> [u64; 6]
-    ensures { result ≡ zeros 6 }
-{
-    [0; 6]
 }
 
 // The start cells for the region: those of its bound, which stands in the memory's first words meanwhile; in its place they stay there, too.
@@ -238,7 +212,7 @@ pub fn starts(c: RegionCoverer, g: region::Region<'_>, mem: &mut [u64]) -> Start
 {
     let n = g.cell_union_bound(mem);
     let count = start_cells(c, mem, n);
-    let mut ids = six_words();
+    let mut ids = [0; 6];
     cellunion::copy(mem, count, &mut ids);
     StartCells { ids, count }
 }

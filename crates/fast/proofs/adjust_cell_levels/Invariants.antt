@@ -1,10 +1,6 @@
 -- `fast::adjust_cell_levels` meets its contract. The loop's invariant: the rest of the adjustment, from the kept cells, is the whole. Assumes nothing.
-use Prim.Native.Nat.{◌-◌}
 use Rattle.fast.proofs.StartTurns.{Adjusting}
 use Rattle.fast.proofs.adjust_cell_levels.Given as goal
 
 abbrev pub invariant-loop-i : goal.invariant-loop-i
 invariant-loop-i l = Adjusting l.c.min_level l.c.level_mod l.initial.mem l.n l.mem l.kept l.i
-
-abbrev pub decreases-loop-i : goal.decreases-loop-i
-decreases-loop-i l = l.n - l.i

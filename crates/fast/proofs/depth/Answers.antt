@@ -9,10 +9,10 @@ use Rattle.fast.proofs.depth.Goals as goal
 
 is_depth : (c : After-adjust_level) →
     let s = c.args in c.adjust_level.result + 1 ≡ pair_depth s.c.min_level s.c.level_mod s.a s.b
-is_depth c = depth_some _ _ _ _ _ _ (sym c.common_ancestor_level-common.ensures ∙ c.in-Some.is) c.adjust_level.ensures
+is_depth c = depth_some _ _ _ _ _ _ (sym c.common_ancestor_level.ensures ∙ c.in-Some.is) c.adjust_level.ensures
 
-pub common_ancestor_level-common-requires : goal.common_ancestor_level-common-requires
-common_ancestor_level-common-requires c = record {
+pub common_ancestor_level-requires : goal.common_ancestor_level-requires
+common_ancestor_level-requires c = record {
   cell = c.requires.1;
   cell_2 = c.requires.2;
 }
@@ -26,4 +26,4 @@ pub returns-in-Some : goal.returns-in-Some
 returns-in-Some c = is_depth (goal.at.returns-in-Some c).After-adjust_level
 
 pub returns-in-None : goal.returns-in-None
-returns-in-None c = depth_none _ _ _ _ (sym c.common_ancestor_level-common.ensures ∙ c.in-None.is)
+returns-in-None c = depth_none _ _ _ _ (sym c.common_ancestor_level.ensures ∙ c.in-None.is)

@@ -1,4 +1,6 @@
-use mathlib.Core.Path.{◌≡◌, refl, ap, ◌∙◌}
+use mathlib.Core.Path.{◌≡◌, ap, ◌∙◌}
+use mathlib.Core.List.{List, ◌++◌}
+use lib.ListN.{drop}
 use Prim.Native.Nat.{ℕ, min}
 use native.Mathlib.Omega.{arith}
 use Rattle.cellid.specs.CellId.{level_of, parent_at}
@@ -17,23 +19,16 @@ returns-then-takes_all_levels c =
     let k = c.args.c in
     lift_none (lifted k.min_level k.max_level k.level_mod) c.args.n c.args.mem.now (lifted_all k.min_level k.max_level k.level_mod _ _ c.requires.0.some c.requires.1.1 c.takes_all_levels.ensures c.if-takes_all_levels.true)
 
-pub loop-i-init : goal.loop-i-init
-loop-i-init c = record { within = omega arith; room = c.requires.1.0; len = refl; same = refl }
-
 pub adjust_level-up-requires : goal.adjust_level-up-requires
 adjust_level-up-requires c = c.requires.0
 
 pub parent-requires : goal.parent-requires
 parent-requires c =
-    omega (arith, c.requires.0.deep, c.adjust_level-up.ensures, adjusted_le c.args.c.min_level c.args.c.level_mod c.lesser.result, c.lesser.ensures)
+    omega (arith, c.requires.0.deep, c.adjust_level-up.ensures, adjusted_le c.args.c.min_level c.args.c.level_mod c.min.result, c.min.ensures)
 
-pub loop-i-preserved : goal.loop-i-preserved
-loop-i-preserved c =
-    lift_turn _ _ _ _ _ _ c.loop-i.invariant c.loop-i-test.true
-    (up_is _ _ _ _ _ _ _ _ c.level.ensures c.lesser.ensures c.adjust_level-up.ensures c.parent.ensures)
-
-pub shape_of-mem : goal.shape_of-mem
-shape_of-mem c = c.loop-i.invariant.len
+pub loop-id-preserved : goal.loop-id-preserved
+loop-id-preserved c =
+    lift_turn _ _ _ _ _ c.loop-id-test.true c.loop-id.invariant (up_is _ _ _ _ _ _ _ _ c.level.ensures c.min.ensures c.adjust_level-up.ensures c.parent.ensures)
 
 pub returns : goal.returns
-returns c = lift_done _ _ _ _ _ c.loop-i.invariant c.loop-i-test.false
+returns c = ap (λ (l : List ℕ). l ++ drop c.args.n c.args.mem.now) (lift_done _ _ _ _ c.loop-id-test.false c.loop-id.invariant)

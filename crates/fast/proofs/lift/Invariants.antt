@@ -1,11 +1,9 @@
 -- `fast::lift` meets its contract. The loop's invariant: the words passed are lifted. Assumes nothing.
-use Prim.Native.Nat.{◌-◌}
+use mathlib.Core.Path.{◌≡◌}
+use mathlib.Core.List.{◌++◌, map}
+use lib.ListN.{take, drop}
 use Rattle.fast.specs.Fast.{lifted}
-use Rattle.fast.proofs.Turns.{Lifting}
 use Rattle.fast.proofs.lift.Given as goal
 
-abbrev pub invariant-loop-i : goal.invariant-loop-i
-invariant-loop-i l = Lifting (lifted l.c.min_level l.c.max_level l.c.level_mod) l.n l.initial.mem l.mem l.i
-
-abbrev pub decreases-loop-i : goal.decreases-loop-i
-decreases-loop-i l = l.n - l.i
+abbrev pub invariant-loop-id : goal.invariant-loop-id
+invariant-loop-id l = l.id-items ≡ map (lifted l.c.min_level l.c.max_level l.c.level_mod) (take l.id-index l.initial.id-items) ++ drop l.id-index l.initial.id-items

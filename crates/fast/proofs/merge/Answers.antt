@@ -14,7 +14,7 @@ best : (h : After-scan) →
     let at = h in
     let a = at.args in
     h.scan.best ≡ best_of a.c.min_level a.c.level_mod (take at.merge.k at.merge.mem) (length (take at.merge.k at.merge.mem) - 1)
-best h = let at = h in scanned _ _ _ _ _ _ _ at.merge.invariant _ (scan_done _ _ _ _ _ _ _ h.scan.invariant h.scan-test.false)
+best h = let at = h in scanned _ _ _ _ _ _ _ at.merge.invariant _ (scan_done _ _ _ _ _ _ _ h.scan.invariant (omega (arith, h.scan-test.false)))
 
 room : (h : In-merge) → h.merge.k ≤ length h.merge.mem
 room h = let G = h.merge.invariant in omega (arith, G.within, G.len, G.room)
@@ -24,9 +24,6 @@ merge-init c = going_start _ _ _ _ _ c.requires.1 c.requires.2
 
 pub scan-init : goal.scan-init
 scan-init c = scan_start _ _ _ _
-
-pub overflow_add-i : goal.overflow_add-i
-overflow_add-i c = omega (arith, c.scan.invariant.within, room (goal.at.overflow_add-i c).In-merge)
 
 pub offset_bounds-mem-i : goal.offset_bounds-mem-i
 offset_bounds-mem-i c = omega (arith, room (goal.at.offset_bounds-mem-i c).In-merge)
@@ -46,23 +43,17 @@ bounds-mem-i-in-scan c = omega (arith, room (goal.at.bounds-mem-i-in-scan c).In-
 pub depth-d-requires : goal.depth-d-requires
 depth-d-requires c =
     let N = c.merge.invariant.normal in
-    let C = pair_cells c.args.c.min_level c.args.c.level_mod c.requires.0.some _ _ (room (goal.at.depth-d-requires c).In-merge) N.cells N.apart _ _ _ c.scan.invariant c.scan-test.true in
+    let C = pair_cells c.args.c.min_level c.args.c.level_mod c.requires.0.some _ _ (room (goal.at.depth-d-requires c).In-merge) N.cells N.apart _ _ _ c.scan.invariant (omega (arith, c.scan-test.true)) in
     (c.requires.0, C.0, C.1)
-
-pub overflow_add-i-in-scan : goal.overflow_add-i-in-scan
-overflow_add-i-in-scan c = omega (arith, c.scan-test.true, room (goal.at.overflow_add-i-in-scan c).In-merge)
-
-pub scan-smaller : goal.scan-smaller
-scan-smaller c = omega (arith, c.scan-test.true)
 
 pub scan-preserved : goal.scan-preserved
 scan-preserved c =
     let N = c.merge.invariant.normal in
     let R = room (goal.at.scan-preserved c).In-merge in
     elim c.if-a-b.branch [
-      | then-a-b+then-best-d w ↦ rw (w.best-is, w.least-is) (scan_better _ _ c.requires.0.some _ _ R N.cells N.apart _ _ _ c.scan.invariant c.scan-test.true _ w.depth-d.ensures w.if-best-d.true)
-      | then-a-b+else-best-d w ↦ rw (w.best-is, w.least-is) (scan_worse _ _ c.requires.0.some _ _ R N.cells N.apart _ _ _ c.scan.invariant c.scan-test.true _ w.depth-d.ensures w.if-best-d.false)
-      | else-a-b w ↦ rw (w.best-is, w.least-is) (scan_pass _ _ c.requires.0.some _ _ R N.cells N.apart _ _ _ c.scan.invariant c.scan-test.true w.if-a-b.false)
+      | then-a-b+then-best-d w ↦ rw (w.best-is, w.least-is) (scan_better _ _ c.requires.0.some _ _ R N.cells N.apart _ _ _ c.scan.invariant (omega (arith, c.scan-test.true)) _ w.depth-d.ensures w.if-best-d.true)
+      | then-a-b+else-best-d w ↦ rw (w.best-is, w.least-is) (scan_worse _ _ c.requires.0.some _ _ R N.cells N.apart _ _ _ c.scan.invariant (omega (arith, c.scan-test.true)) _ w.depth-d.ensures w.if-best-d.false)
+      | else-a-b w ↦ rw (w.best-is, w.least-is) (scan_pass _ _ c.requires.0.some _ _ R N.cells N.apart _ _ _ c.scan.invariant (omega (arith, c.scan-test.true)) w.if-a-b.false)
     ]
 
 pub offset_bounds-mem-at : goal.offset_bounds-mem-at

@@ -1,15 +1,11 @@
 -- `fast::merge` meets its contract. The outer loop's invariant: the rest of the merge, from the list in memory, is the whole merge; the scan's: the best
 -- of the pairs passed, and no pair whose exclusive or is `least` or more lies deeper. Assumes nothing.
-use Prim.Native.Nat.{◌-◌}
 use Rattle.fast.proofs.Scan.{Scanning}
 use Rattle.fast.proofs.Turns.{Going}
 use Rattle.fast.proofs.merge.Given as goal
 
 abbrev pub invariant-scan : goal.invariant-scan
 invariant-scan l = Scanning l.c.min_level l.c.level_mod l.mem l.k l.best l.least l.i
-
-abbrev pub decreases-scan : goal.decreases-scan
-decreases-scan l = l.k - l.i
 
 abbrev pub invariant-merge : goal.invariant-merge
 invariant-merge l = Going l.c.min_level l.c.level_mod l.c.max_cells l.n l.initial.mem l.mem l.k
