@@ -1,7 +1,5 @@
 -- The refusals 1 to 6 and 14: each is given exactly when the papers say so.
-use mathlib.Core.Path.{◌≡◌, refl, sym, ap, ◌∙◌, subst}
-use mathlib.Core.List.{[], ◌∷◌}
-use lib.ListN.{get_or}
+use mathlib.Core.Path.{◌≡◌, subst}
 use mathlib.Core.Bool.{true, false, and-eq-true_iff}
 use mathlib.Core.Logic.{◌⊎◌, inl, inr, ⊎_elim, ◌↔◌}
 use Prim.Native.Nat.{ℕ, zero, suc, ◌≤◌, ◌<◌}
@@ -16,6 +14,7 @@ use Rattle.run.specs.Run.{memory_words}
 use Rattle.std.specs.Prelude.{Ok, Err}
 use Rattle.refusal.specs.Refusal.{number_of}
 use Rattle.refusal.specs.declared.Refusal.{Refusal}
+use Rattle.refusal.proofs.Laws.{same_refusal}
 use Rattle.bars.specs.Bars.{Bar, is_up_to, numbers_bar, edition_bar, region_bar, memory_bar, first_bar, bar_of}
 
 -- "level_mod not 1..3", "unknown edition": a number that is none of those from 1 to `most`, and one that is
@@ -43,33 +42,8 @@ abbrev pub IsBar : ℕ → Type 0
 IsBar n = ((0 < n) × (n ≤ 6)) ⊎ (n ≡ 14)
 
 -- each of these numbers stands for one refusal
-bar_at : ℕ → Refusal
-bar_at n = get_or (Refusal.MaxLevel ∷ Refusal.MaxLevel ∷ Refusal.MinLevel ∷ Refusal.LevelMod ∷ Refusal.MaxCells ∷ Refusal.Region ∷ Refusal.Memory ∷ []) n Refusal.Edition
-
-bar_back : (r : Refusal) → IsBar (number_of r) → bar_at (number_of r) ≡ r
-unfolding bar_at
-bar_back Refusal.MaxLevel h = refl
-bar_back Refusal.MinLevel h = refl
-bar_back Refusal.LevelMod h = refl
-bar_back Refusal.MaxCells h = refl
-bar_back Refusal.Region h = refl
-bar_back Refusal.Memory h = refl
-bar_back Refusal.Edition h = refl
-bar_back Refusal.QueueFull h = absurd (⊎_elim (λ b. omega arith) (λ b. omega arith) h)
-bar_back Refusal.RawFull h = absurd (⊎_elim (λ b. omega arith) (λ b. omega arith) h)
-bar_back Refusal.Allowance h = absurd (⊎_elim (λ b. omega arith) (λ b. omega arith) h)
-bar_back Refusal.ListTooLong h = absurd (⊎_elim (λ b. omega arith) (λ b. omega arith) h)
-bar_back (Refusal.Malformed k) h = absurd (⊎_elim (λ b. omega arith) (λ b. omega arith) h)
-bar_back Refusal.NamesTooLong h = absurd (⊎_elim (λ b. omega arith) (λ b. omega arith) h)
-bar_back Refusal.TooManyOrders h = absurd (⊎_elim (λ b. omega arith) (λ b. omega arith) h)
-bar_back Refusal.FirstList h = absurd (⊎_elim (λ b. omega arith) (λ b. omega arith) h)
-bar_back Refusal.SecondList h = absurd (⊎_elim (λ b. omega arith) (λ b. omega arith) h)
-bar_back Refusal.SetTooLong h = absurd (⊎_elim (λ b. omega arith) (λ b. omega arith) h)
-bar_back Refusal.NotRanges h = absurd (⊎_elim (λ b. omega arith) (λ b. omega arith) h)
-bar_back Refusal.RangesTooLong h = absurd (⊎_elim (λ b. omega arith) (λ b. omega arith) h)
-
-pub bar_same : (r s : Refusal) → IsBar (number_of r) → IsBar (number_of s) → number_of r ≡ number_of s → r ≡ s
-bar_same r s h g e = sym (bar_back r h) ∙ ap bar_at e ∙ bar_back s g
+pub bar_same : (r s : Refusal) → IsBar (number_of r) → number_of r ≡ number_of s → r ≡ s
+bar_same r s h e = same_refusal r s (λ q. ⊎_elim (λ b. omega arith) (λ b. omega arith) h) e
 
 -- ---- each bar by its reason
 

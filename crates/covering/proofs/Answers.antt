@@ -32,9 +32,6 @@ use Rattle.coverer.specs.Engine.{words_at, past}
 use Rattle.coverer.proofs.Memory.{words_length, cleared_front, only_words_lem, only_room, only_past}
 use Rattle.covering.specs.declared.Answer.{Answer}
 use Rattle.covering.specs.declared.Ending.{Ending}
-use Rattle.std.specs.Prelude.{Ok, Err}
-use Rattle.refusal.specs.Refusal.{number_of}
-use Rattle.refusal.specs.declared.Refusal.{Refusal}
 use Rattle.bars.specs.Bars.{Bar, bar_of}
 use Rattle.covering.specs.Covering.{Result, refused, done, fitted, checked, list_of, left_by, ended_as, ran_of, refusal, answer_of, output_after, memory_after, Answered, answer_laid}
 use Rattle.bars.proofs.Early.{Valid, early_none}

@@ -26,7 +26,6 @@ use Rattle.run.proofs.Steps.{run_refuses}
 use Rattle.coverer.specs.Coverer.{cleared, outcome_of}
 use Rattle.covering.specs.declared.Answer.{Answer}
 use Rattle.std.specs.Prelude.{Ok, Err}
-use Rattle.refusal.specs.declared.Refusal.{Refusal}
 use Rattle.covering.specs.declared.Ending.{Ending}
 use Rattle.covering.specs.declared.Kind.{Kind}
 use Rattle.bars.specs.Bars.{Bar, bar_of, numbers_bar, region_bar, memory_bar, first_bar}
@@ -186,7 +185,7 @@ module _ (k : Kind) (c : RegionCoverer) (a : Area) (allowance memory room : ℕ)
   -- 1 to 6 and 14: `Early` has the rows, each with the earlier ones not true
   pub when_early : (r : Refusal) → IsBar (Paper.number_of r) → (number ≡ Paper.number_of r) ↔ Early c a memory (Err r)
   when_early r h = (
-    λ x. let w = is_early (Paper.number_of r) h x in subst (λ (s : Refusal). Early c a memory (Err s)) (bar_same w.0 r (early_low c a memory w.2) h w.1) w.2,
+    λ x. let w = is_early (Paper.number_of r) h x in subst (λ (s : Refusal). Early c a memory (Err s)) (bar_same w.0 r (early_low c a memory w.2) w.1) w.2,
     λ E. given_number (Paper.number_of r) (first E),
   )
 
