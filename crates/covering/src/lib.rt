@@ -64,7 +64,13 @@ fn refuse(number: u64) -> Answer
 }
 
 // Lays the list that is asked for over the output's first places, made of the first `count` ids, in place.
-fn lay_list(e: Ending, c: RegionCoverer, ids: &mut [u64], count: usize, out: &mut [u64]) -> Option<usize>
+fn lay_list(
+    e: Ending,
+    c: RegionCoverer,
+    ids: &mut [u64],
+    count: usize,
+    out: &mut [u64],
+) -> Option<usize>
     requires { (count ≤ length ids.old) × All Cell (take count ids.old) × (c.min_level ≤ 30) × (0 < c.level_mod) }
     ensures { (result ≡ room_for (list_of e c (take count ids.old)) out.old) × (out.new ≡ laid_over (list_of e c (take count ids.old)) out.old) × (ids.new ≡ left_by e count ids.old) }
 {
