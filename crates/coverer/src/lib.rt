@@ -320,16 +320,11 @@ impl<'a> Job<'a> {
     }
 
     // The start cells, in order.
-    fn initial_candidates(
-        self,
-        m: &mut [u64],
-        ids: [u64; 6],
-        count: usize,
-    ) -> Result<Tally, Refusal>
+    fn initial_candidates(self, m: &mut [u64], starts: &[u64]) -> Result<Tally, Refusal>
         requires memory_words_in_bounds { memory_words ≤ length m.old }
-        requires count_bound { count ≤ 6 }
-        requires all { All (Fit self.request) (take count ids) }
-        ensures { Comes self.entry.engine (task self.entry) (after (in_edition (task self.entry)) (take count ids) 0) m.old m.new result }
+        requires count_bound { length starts.now ≤ 6 }
+        requires all { All (Fit self.request) starts.now }
+        ensures { Comes self.entry.engine (task self.entry) (after (in_edition (task self.entry)) starts.now 0) m.old m.new result }
     {
         let mut t = Tally {
             kept: 0,
@@ -337,18 +332,14 @@ impl<'a> Job<'a> {
             steps: 0,
             aside: Totals::NONE,
         };
-        for i in 0..count {
-            let turn = self.start(
-                m,
-                Counts {
-                    kept: t.kept,
-                    queued: t.queued,
-                    aside: 0,
-                    steps: t.steps,
-                },
-                i as u64,
-                ids[i],
-            );
+        for (i, id) in starts.iter().enumerate() {
+            let counts = Counts {
+                kept: t.kept,
+                queued: t.queued,
+                aside: 0,
+                steps: t.steps,
+            };
+            let turn = self.start(m, counts, i as u64, *id);
             t = end_turn(turn, t.aside, i as u64)?;
         }
         Ok(t)
@@ -372,16 +363,15 @@ impl<'a> Job<'a> {
     fn covering_internal(
         self,
         m: &mut [u64],
-        ids: [u64; 6],
-        count: usize,
+        starts: &[u64],
         allowance: u32,
     ) -> Result<Tally, Refusal>
         requires memory_words_in_bounds { memory_words ≤ length m.old }
-        requires count_bound { count ≤ 6 }
-        requires all { All (Fit self.request) (take count ids) }
-        ensures { Comes self.entry.engine (task self.entry) (after (in_edition (task self.entry)) (take count ids) allowance) m.old m.new result }
+        requires count_bound { length starts.now ≤ 6 }
+        requires all { All (Fit self.request) starts.now }
+        ensures { Comes self.entry.engine (task self.entry) (after (in_edition (task self.entry)) starts.now allowance) m.old m.new result }
     {
-        let t = self.initial_candidates(m, ids, count)?;
+        let t = self.initial_candidates(m, starts)?;
         self.proceed(m, t, allowance)
     }
 }
@@ -434,7 +424,7 @@ pub fn run(
         region: g,
         engine,
     };
-    match job.covering_internal(mem, ids, count, allowance) {
+    match job.covering_internal(mem, &ids[..count], allowance) {
         Err(r) => refuse(mem, r),
         Ok(t) => {
             if 0 < t.queued {
@@ -460,10 +450,8 @@ fn list_queue(m: &mut [u64], n: usize, e: Engine, out: &mut [u64], at: usize)
     ensures out_after { (q : List Rec) → InQueue e m.old n q → out.new ≡ laid at (listed q) out.old }
     ensures m_unchanged { past memory_words m.new ≡ past memory_words m.old }
 {
-    let mut left = n;
     let mut i = at;
-    while 0 < left {
-        left -= 1;
+    for left in (0..n).rev() {
         let r = e.take(m, left);
         out[i] = r.id;
         out[i + 1] = r.cost();
@@ -520,7 +508,7 @@ pub fn watch(
         region: g,
         engine,
     };
-    let seen = match job.covering_internal(mem, ids, count, steps) {
+    let seen = match job.covering_internal(mem, &ids[..count], steps) {
         Err(r) => Err(r),
         Ok(t) => tell(mem, t, engine, out),
     };
