@@ -6,7 +6,6 @@ use Prim.Native.Nat.{ℕ}
 use mir.Val.{bool_byte}
 use Rattle.covering.specs.declared.Answer.{Answer}
 use Rattle.covering.specs.Covering.{Result, answer_of, Answered}
-use Rattle.ranges.specs.Ranges as Ranges
 use Rattle.refusal.specs.declared.Refusal.{Refusal}
 use Rattle.std.specs.Prelude as Std
 use Rattle.capi.specs.Calls.{Told, Called, CalledBy, CalledOf, NamesCalled}
@@ -45,7 +44,7 @@ by_determined R n n' m m₁ m₂ o o₁ o₂ k k' s s' t t' g g' a b = (determin
 
 -- ---- lists: as pairs and back, and two as one
 
-pub words_determined : (R : Ranges.Result) (n n' : ℕ) (o o₁ o₂ : List ℕ) (k k' : ℕ) → CalledOf R n o o₁ k → CalledOf R n' o o₂ k' → (n ≡ n') × (o₁ ≡ o₂) × (k ≡ k')
+pub words_determined : (R : Std.Result (List ℕ) Refusal) (n n' : ℕ) (o o₁ o₂ : List ℕ) (k k' : ℕ) → CalledOf R n o o₁ k → CalledOf R n' o o₂ k' → (n ≡ n') × (o₁ ≡ o₂) × (k ≡ k')
 words_determined R n n' o o₁ o₂ k k' a b = (a.is ∙ sym b.is, a.output ∙ sym b.output, a.counted ∙ sym b.counted)
 
 -- ---- tokens

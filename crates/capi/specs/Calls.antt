@@ -48,8 +48,8 @@ pub record CalledBy (R : Result) (number : ℕ) (mem mem' out out' : List ℕ) (
 -- ---- lists: as pairs and back, and two as one
 
 -- all that such a call leaves: the answer's number, how many words were written, and the output
-pub record CalledOf (R : Ranges.Result) (number : ℕ) (out out' : List ℕ) (count : ℕ) : Type 0 where
-  pub is : number ≡ Ranges.number_of (Ranges.list_answer R)
+pub record CalledOf (R : Std.Result (List ℕ) Refusal) (number : ℕ) (out out' : List ℕ) (count : ℕ) : Type 0 where
+  pub is : number ≡ number_told (Ranges.list_answer R)
   pub counted : count ≡ Ranges.words_of (Ranges.list_answer R)
   pub output : out' ≡ Ranges.output_after R out
 

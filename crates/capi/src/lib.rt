@@ -4,7 +4,8 @@
 ghost use Rattle.std.specs.Prelude.{◌≡◌, length};
 ghost use Rattle.covering.specs.Covering.{result_of};
 ghost use Rattle.region.specs.Region.{area_of};
-ghost use Rattle.ranges.specs.Ranges.{number_of, words_of};
+ghost use Rattle.ranges.specs.Ranges.{words_of};
+ghost use Rattle.refusal.specs.Refusal.{number_told};
 ghost use Rattle.capi.specs.Calls.{region_coverer, cap_of, Told, Called, CalledBy, NamesTold};
 
 use cell::Cap;
@@ -94,17 +95,17 @@ pub fn call_by(
 }
 
 // The number of a list's answer; how many words were written goes through the reference.
-pub fn tell_words(a: ranges::Answer, count: &mut u64) -> u64
-    ensures { (result ≡ number_of a) × (count.new ≡ words_of a) }
+pub fn tell_words(a: Result<usize, Refusal>, count: &mut u64) -> u64
+    ensures { (result ≡ number_told a) × (count.new ≡ words_of a) }
 {
     match a {
-        ranges::Answer::Done(n) => {
+        Ok(n) => {
             *count = n as u64;
             0
         }
-        ranges::Answer::Refused(number) => {
+        Err(refusal) => {
             *count = 0;
-            number
+            refusal.number()
         }
     }
 }

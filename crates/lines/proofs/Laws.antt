@@ -24,9 +24,11 @@ use Rattle.requests.specs.Requests as Requests
 use Rattle.requests.specs.Requests.{on_first}
 use Rattle.text.proofs.Fields.{words_fit, words_list, words_rest}
 use Rattle.requests.proofs.Laws.{take_min, drop_min, length_min}
-use Rattle.ranges.specs.declared.Answer.{Answer}
+use Rattle.std.specs.Prelude.{Result, Ok, Err}
+use Rattle.refusal.specs.declared.Refusal.{Refusal}
+use Rattle.refusal.specs.Refusal.{number_of}
 use Rattle.cellunion.specs.CellUnion.{is_list}
-use Rattle.ranges.specs.Ranges.{Result, refused, done, fitted, pairs_of, is_pairs, cells_of, pairs_result, cells_result, list_answer, words_of, output_after, Answered}
+use Rattle.ranges.specs.Ranges.{fitted, pairs_of, is_pairs, cells_of, pairs_result, cells_result, list_answer, words_of, output_after, Answered}
 use Rattle.ranges.specs.Ranges as Ranges
 use Rattle.sets.specs.declared.Op.{Op}
 use Rattle.picklist.specs.PickList.{is_pick_list}
@@ -111,7 +113,7 @@ module _ (q : Question) (r : ListRead) (words words' : List ℕ) (R : ReadQuesti
 
 -- ---- what is asked for, within a part of the output
 
-module _ (kind : ℕ) (a b : List ℕ) (r : Answer) (out out' : List ℕ) where
+module _ (kind : ℕ) (a b : List ℕ) (r : Result ℕ Refusal) (out out' : List ℕ) where
   pub answered_pairs : kind ≡ 0 → Answered (pairs_result a (length out)) r out out' → Answered (result_for kind a b (length out)) r out out'
   unfolding result_for
   answered_pairs h A = rw (result_for, eq-eqb kind 0 h) A
@@ -124,7 +126,7 @@ module _ (kind : ℕ) (a b : List ℕ) (r : Answer) (out out' : List ℕ) where
   unfolding result_for
   answered_set g h op e A = rw (result_for, ne_eqb kind 0 g, ne_eqb kind 1 h, ← e) A
 
-pub answered_in : (kind : ℕ) (lists : List ℕ) (first asked : ℕ) (r : Answer) (out part : List ℕ) (o : ℕ) → o ≡ min asked (length out)
+pub answered_in : (kind : ℕ) (lists : List ℕ) (first asked : ℕ) (r : Result ℕ Refusal) (out part : List ℕ) (o : ℕ) → o ≡ min asked (length out)
     → Answered (result_for kind (take first lists) (take (length lists - first) (drop first lists)) (length (take o out))) r (take o out) part
     → AnsweredIn kind (take first lists) (drop first lists) asked r out (part ++ drop o out)
 unfolding result_in
@@ -135,37 +137,37 @@ answered_in kind lists first asked r out part o e = rw (e, part_to_end lists fir
 
 -- ---- the answer to a result, with the output that it leaves
 
-count_fits : (R : Result) (out rest : List ℕ) → words_of (list_answer R) ≤ length (output_after R out ++ rest)
+count_fits : (R : Result (List ℕ) Refusal) (out rest : List ℕ) → words_of (list_answer R) ≤ length (output_after R out ++ rest)
 unfolding list_answer words_of output_after
-count_fits (refused n) out rest = omega arith
-count_fits (done l) out rest = simp length-append (omega arith)
+count_fits (Err n) out rest = omega arith
+count_fits (Ok l) out rest = simp length-append (omega arith)
 
-answer_text_lem : (form : Form) (R : Result) (out rest : List ℕ) → answer_text form (list_answer R) (output_after R out ++ rest) ≡ result_text form R
+answer_text_lem : (form : Form) (R : Result (List ℕ) Refusal) (out rest : List ℕ) → answer_text form (list_answer R) (output_after R out ++ rest) ≡ result_text form R
 unfolding list_answer output_after answer_text result_text
-answer_text_lem form (refused n) out rest = refl
-answer_text_lem form (done l) out rest = ap (list_text form) (ap (take (length l)) (append_assoc l _ rest) ∙ take-append_seam l _)
+answer_text_lem form (Err n) out rest = refl
+answer_text_lem form (Ok l) out rest = ap (list_text form) (ap (take (length l)) (append_assoc l _ rest) ∙ take-append_seam l _)
 
-pub answer_fits : (kind : ℕ) (a b : List ℕ) (asked : ℕ) (r : Answer) (out out' : List ℕ) → AnsweredIn kind a b asked r out out' → words_of r ≤ length out'
+pub answer_fits : (kind : ℕ) (a b : List ℕ) (asked : ℕ) (r : Result ℕ Refusal) (out out' : List ℕ) → AnsweredIn kind a b asked r out out' → words_of r ≤ length out'
 answer_fits kind a b asked r out out' A = rw (A.answer, A.output) (count_fits (result_in kind a b asked out) _ _)
 
 -- ---- the length of an answer: it has no more numbers than the output has places
 
-abbrev Short : ℕ → Result → Type 0
+abbrev Short : ℕ → Result (List ℕ) Refusal → Type 0
 Short room R = (form : Form) → length (result_text form R) ≤ 17 * room + 256
 
-fitted_short : (k : ℕ) (l : List ℕ) (room : ℕ) → Short room (fitted k l room)
+fitted_short : (k : Refusal) (l : List ℕ) (room : ℕ) → Short room (fitted k l room)
 unfolding fitted result_text
 fitted_short k l room = by (leb (length l) room) (λ h. leb-true _ _ h)
   where
-    by : (b : Bool) → (b ≡ true → length l ≤ room) → Short room (elim b [ true ↦ done l | false ↦ refused k ])
+    by : (b : Bool) → (b ≡ true → length l ≤ room) → Short room (elim b [ true ↦ Ok l | false ↦ Err k ])
     by true h form = omega (arith, list_length form l, h refl)
-    by false h form = omega (arith, refused_length k)
+    by false h form = omega (arith, refused_length (number_of k))
 
-refused_short : (k room : ℕ) → Short room (refused k)
+refused_short : (k : Refusal) (room : ℕ) → Short room (Err k)
 unfolding result_text
-refused_short k room form = omega (arith, refused_length k)
+refused_short k room form = omega (arith, refused_length (number_of k))
 
-unless_short : (good : Bool) (k room : ℕ) (R : Result) → Short room R → Short room (elim good [ false ↦ refused k | true ↦ R ])
+unless_short : (good : Bool) (k : Refusal) (room : ℕ) (R : Result (List ℕ) Refusal) → Short room R → Short room (elim good [ false ↦ Err k | true ↦ R ])
 unless_short true k room R h = h
 unless_short false k room R h = refused_short k room
 
@@ -180,9 +182,9 @@ for_short kind a b room = by (eqb kind 0) (eqb kind 1)
         | false ↦ set_result (op_of (kind - 2)) a b room
       ]
     ])
-    by true c = unless_short (is_list a) 25 room _ (fitted_short 26 (pairs_of a) room)
-    by false true = unless_short (is_pairs a) 25 room _ (fitted_short 26 (cells_of a) room)
-    by false false = unless_short (is_pick_list a) 15 room _ (unless_short (is_pick_list b) 16 room _ (fitted_short 17 (combined (op_of (kind - 2)) a b) room))
+    by true c = unless_short (is_list a) Refusal.NotRanges room _ (fitted_short Refusal.RangesTooLong (pairs_of a) room)
+    by false true = unless_short (is_pairs a) Refusal.NotRanges room _ (fitted_short Refusal.RangesTooLong (cells_of a) room)
+    by false false = unless_short (is_pick_list a) Refusal.FirstList room _ (unless_short (is_pick_list b) Refusal.SecondList room _ (fitted_short Refusal.SetTooLong (combined (op_of (kind - 2)) a b) room))
 
 question_short : (q : Question) (out : List ℕ) → length (result_text q.form (result_of q out)) ≤ 17 * length out + 256
 unfolding result_in
@@ -209,7 +211,7 @@ module _ (number : ℕ) (q : Question) (out : List ℕ) (p : Place) where
     unfolding output_at
     output_bad = rw e
 
-of_question : (q : Question) (r : Answer) (out out' : List ℕ) (kind : ℕ) (a b : List ℕ) (asked : ℕ) → kind ≡ q.kind → a ≡ q.first → b ≡ q.second → asked ≡ q.out
+of_question : (q : Question) (r : Result ℕ Refusal) (out out' : List ℕ) (kind : ℕ) (a b : List ℕ) (asked : ℕ) → kind ≡ q.kind → a ≡ q.first → b ≡ q.second → asked ≡ q.out
     → AnsweredIn kind a b asked r out out' → AnsweredIn q.kind q.first q.second q.out r out out'
 of_question q r out out' kind a b asked ek ea eb eo = rw (ek, ea, eb, eo) (λ A. A)
 
@@ -226,7 +228,7 @@ module _ (number : ℕ) (q : Question) (asked : ListRead) (words words' out page
         output = rw (output_bad number q out q.after f p);
       }
 
-  pub list_asked : (end : ℕ) (a : Answer) (out' : List ℕ) → asked.after ≡ Place.At end
+  pub list_asked : (end : ℕ) (a : Result ℕ Refusal) (out' : List ℕ) → asked.after ≡ Place.At end
       → AnsweredIn asked.kind (take asked.first (take asked.both words')) (drop asked.first (take asked.both words')) asked.out a out out' → Wrote 0 (answer_text asked.form a out') page r page'
       → ListReplied number q words words' out out' page r page'
   list_asked end a out' e B w =

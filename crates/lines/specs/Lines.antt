@@ -1,6 +1,6 @@
 -- What any line of `cover` asks, and its answer: about a list, `ranges COUNT ID... [options]` or `cells COUNT FIRST LAST... [options]`; about two lists,
 -- `union|common|difference COUNT ID... COUNT ID... [options]`; or of the coverer, as `requests` has it.
-use Rattle.std.specs.Prelude.{◌≡◌, Bool, true, false, List, [], ◌∷◌, ◌++◌, ℕ, ◌-◌, min, ltb, eqb, length, get_or, take}
+use Rattle.std.specs.Prelude.{◌≡◌, Bool, true, false, List, [], ◌∷◌, ◌++◌, ℕ, ◌-◌, min, ltb, eqb, length, get_or, take, Result, Ok, Err}
 use Rattle.text.specs.Ascii.{ascii}
 use Rattle.text.specs.declared.Fault.{Fault}
 use Rattle.text.specs.declared.Place.{Place}
@@ -10,9 +10,9 @@ use Rattle.tokens.specs.declared.Form.{Form}
 use Rattle.replies.specs.Write.{Whole, refused_text, list_text, error_text}
 use Rattle.requests.specs.Line.{value_or, form_of, options_after}
 use Rattle.requests.specs.Requests.{on_first, asked_text, asked_words, asked_memory, asked_output}
-use Rattle.ranges.specs.declared.Answer.{Answer}
-use Rattle.ranges.specs.Ranges.{Result, pairs_result, cells_result, list_answer, output_after}
-use Rattle.ranges.specs.Ranges as Ranges
+use Rattle.refusal.specs.declared.Refusal.{Refusal}
+use Rattle.refusal.specs.Refusal.{number_of}
+use Rattle.ranges.specs.Ranges.{pairs_result, cells_result, list_answer, output_after}
 use Rattle.sets.specs.declared.Op.{Op}
 use Rattle.sets.specs.Sets.{set_result}
 use Rattle.lines.specs.declared.ListRead.{ListRead}
@@ -80,7 +80,7 @@ unfoldable pub op_of : ℕ → Op
 op_of k = get_or (Op.Union ∷ Op.Common ∷ []) k Op.Difference
 
 -- with so many places of output
-unfoldable pub result_for : ℕ → List ℕ → List ℕ → ℕ → Result
+unfoldable pub result_for : ℕ → List ℕ → List ℕ → ℕ → Result (List ℕ) Refusal
 result_for kind a b room = elim (eqb kind 0) [
   | true ↦ pairs_result a room
   | false ↦ elim (eqb kind 1) [
@@ -90,16 +90,16 @@ result_for kind a b room = elim (eqb kind 0) [
 ]
 
 -- with as much of an output as is asked for, as far as there is
-unfoldable pub result_in : ℕ → List ℕ → List ℕ → ℕ → List ℕ → Result
+unfoldable pub result_in : ℕ → List ℕ → List ℕ → ℕ → List ℕ → Result (List ℕ) Refusal
 result_in kind a b asked out = result_for kind a b (min asked (length out))
 
-abbrev pub result_of : Question → List ℕ → Result
+abbrev pub result_of : Question → List ℕ → Result (List ℕ) Refusal
 result_of q out = result_in q.kind q.first q.second q.out out
 
 -- `ok COUNT NUMBER...` or `refused NUMBER`
-unfoldable pub result_text : Form → Result → List ℕ
-result_text form (Ranges.refused n) = refused_text n
-result_text form (Ranges.done l) = list_text form l
+unfoldable pub result_text : Form → Result (List ℕ) Refusal → List ℕ
+result_text form (Err r) = refused_text (number_of r)
+result_text form (Ok l) = list_text form l
 
 -- ---- a question of some number: its answer's text, and the output afterwards
 
@@ -156,14 +156,14 @@ pub record ReadQuestion (q : Question) (r : ListRead) (words words' : List ℕ) 
   pub read : r ≡ read_of q
   pub lent : words' ≡ words_with (q.first ++ q.second) words
 
-pub record AnsweredIn (kind : ℕ) (a b : List ℕ) (asked : ℕ) (r : Answer) (out out' : List ℕ) : Type 0 where
+pub record AnsweredIn (kind : ℕ) (a b : List ℕ) (asked : ℕ) (r : Result ℕ Refusal) (out out' : List ℕ) : Type 0 where
   pub answer : r ≡ list_answer (result_in kind a b asked out)
   pub output : out' ≡ on_first asked (output_after (result_in kind a b asked out)) out
 
 -- the text of an answer, its numbers taken from the output's first places
-unfoldable pub answer_text : Form → Answer → List ℕ → List ℕ
-answer_text form (Answer.Done count) out = list_text form (take count out)
-answer_text form (Answer.Refused n) out = refused_text n
+unfoldable pub answer_text : Form → Result ℕ Refusal → List ℕ → List ℕ
+answer_text form (Ok count) out = list_text form (take count out)
+answer_text form (Err r) out = refused_text (number_of r)
 
 -- a question of some number was answered
 pub record ListReplied (number : ℕ) (q : Question) (words words' out out' page : List ℕ) (r : ℕ) (page' : List ℕ) : Type 0 where

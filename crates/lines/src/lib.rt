@@ -8,7 +8,7 @@ ghost use Rattle.ranges.specs.Ranges.{words_of, Answered};
 ghost use Rattle.replies.specs.Write.{Wrote};
 ghost use Rattle.lines.specs.Lines.{word_after, asks_list, second_after, lists_after, ReadLists, question_of, ReadQuestion, op_of, result_for, AnsweredIn, answer_text, ListReplied, Replied};
 
-use ranges::Answer;
+use refusal::Refusal;
 use sets::Op;
 use text::{Fault, Place, Read};
 use tokens::Form;
@@ -116,7 +116,7 @@ fn op_of(k: u64) -> Op
 }
 
 // Answers with the output that is lent: its length is that which it is answered for.
-fn answer_for(kind: u64, a: &[u64], b: &[u64], out: &mut [u64]) -> Answer
+fn answer_for(kind: u64, a: &[u64], b: &[u64], out: &mut [u64]) -> Result<usize, Refusal>
     ensures { Answered (result_for kind a.now b.now (length out.old)) result out.old out.new }
 {
     if kind == 0 {
@@ -129,7 +129,13 @@ fn answer_for(kind: u64, a: &[u64], b: &[u64], out: &mut [u64]) -> Answer
 }
 
 // Answers with as much of the output as is asked for; of the lists' words so many are the first's.
-fn answer_in(kind: u64, lists: &[u64], first: usize, asked: u64, out: &mut [u64]) -> Answer
+fn answer_in(
+    kind: u64,
+    lists: &[u64],
+    first: usize,
+    asked: u64,
+    out: &mut [u64],
+) -> Result<usize, Refusal>
     requires { first ≤ length lists.now }
     ensures { AnsweredIn kind (take first lists.now) (drop first lists.now) asked result out.old out.new }
 {
@@ -138,13 +144,13 @@ fn answer_in(kind: u64, lists: &[u64], first: usize, asked: u64, out: &mut [u64]
 }
 
 // Writes an answer, with the numbers that stand in the output's first places.
-fn put_answer(form: Form, a: Answer, out: &[u64], page: &mut [u8]) -> usize
+fn put_answer(form: Form, a: Result<usize, Refusal>, out: &[u64], page: &mut [u8]) -> usize
     requires { words_of a ≤ length out.now }
     ensures { Wrote 0 (answer_text form a out.now) page.old result page.new }
 {
     match a {
-        Answer::Done(count) => replies::put_list(page, form, &out[..count]),
-        Answer::Refused(refusal) => replies::put_refused(page, refusal),
+        Ok(count) => replies::put_list(page, form, &out[..count]),
+        Err(refusal) => replies::put_refused(page, refusal.number()),
     }
 }
 

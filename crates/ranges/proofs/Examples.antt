@@ -10,16 +10,17 @@ use Rattle.cellid.specs.CellId.{Cell, valid_id, face_cell, six_faces, first_leaf
 use Rattle.order.specs.Order.{All}
 use Rattle.cellunion.specs.CellUnion.{covers, normalise, listed, list_from, is_list}
 use Rattle.cellunion.proofs.Lists.{is_list_lem}
-use Rattle.ranges.specs.Ranges.{leaves, pair_before, pairs_of, in_pairs, follows, pairs_from, fits, size_from, size, tile_by, tile, each_pair, cells_of, fitted, result_of, pairs_result, cells_result, done}
+use Rattle.ranges.specs.Ranges.{leaves, pair_before, pairs_of, in_pairs, follows, pairs_from, fits, size_from, size, tile_by, tile, each_pair, cells_of, fitted, result_of, pairs_result, cells_result}
+use Rattle.std.specs.Prelude.{Ok}
 use Rattle.ranges.proofs.Laws.{list_leaves, there_and_back}
 
 -- "Six faces become one pair, 0x0000000000000001 to 0xbfffffffffffffff."
-pub six_faces_lem : pairs_result six_faces 2 ≡ done (0x0000000000000001 ∷ 0xbfffffffffffffff ∷ [])
+pub six_faces_lem : pairs_result six_faces 2 ≡ Ok (0x0000000000000001 ∷ 0xbfffffffffffffff ∷ [])
 unfolding six_faces face_cell pairs_result result_of fitted listed list_from valid_id first_leaf last_leaf low_bit count_trailing_zeros pairs_of pair_before
 six_faces_lem = refl
 
 -- and are the cells of that pair
-pub one_pair : cells_result (0x0000000000000001 ∷ 0xbfffffffffffffff ∷ []) 6 ≡ done six_faces
+pub one_pair : cells_result (0x0000000000000001 ∷ 0xbfffffffffffffff ∷ []) 6 ≡ Ok six_faces
 unfolding six_faces face_cell cells_result result_of fitted follows pairs_from each_pair tile tile_by size size_from fits
 one_pair = refl
 

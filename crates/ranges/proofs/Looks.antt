@@ -2,49 +2,26 @@
 use mathlib.Core.Path.{◌≡◌, refl, sym, ap, ◌∙◌}
 use mathlib.Core.Bool.{Bool, true, false, ◌&&◌}
 use mathlib.Core.List.{List, [], ◌∷◌}
-use Prim.Native.Nat.{ℕ, ◌+◌, ◌*◌, ◌/◌, ◌%◌, ◌≤◌, ◌<◌}
+use Prim.Native.Nat.{ℕ, ◌+◌, ◌*◌, ◌/◌, ◌≤◌, ◌<◌}
 use native.Mathlib.Omega.{arith}
 use lib.ListN.{length, get_or, drop, length-append}
-use lib.Dec.{ltb}
-use borrow.Author.Tests.{le-leb, lt-leb, eq-eqb, ne_eqb}
-use Rattle.ranges.specs.declared.Answer.{Answer}
+use Rattle.std.specs.Prelude.{Ok, Err}
+use Rattle.refusal.specs.declared.Refusal.{Refusal}
 use Rattle.ranges.specs.Ranges.{leaves, follows, pairs_from, is_pairs, tile, cells_of}
 use Rattle.ranges.specs.Steps.{looked}
 use Rattle.ranges.proofs.Inputs.{follows→, each_cons, each_nil, none_ruled}
 use Rattle.ranges.proofs.Tiles.{tiled}
 use Rattle.cellid.proofs.Puts.{next_of, none_left, next_two}
 
--- ---- the small tests
-
-pub follow_yes : (b first last : ℕ) → first % 2 ≡ 1 → last % 2 ≡ 1 → b ≤ first → first ≤ last → ltb last (2 * leaves) ≡ follows b first last
-unfolding follows
-follow_yes b first last o p f s = rw (follows, eq-eqb (first % 2) 1 o, eq-eqb (last % 2) 1 p, le-leb b first f, le-leb first last s)
-
-pub follow_4 : (b first last : ℕ) → first % 2 ≡ 1 → last % 2 ≡ 1 → b ≤ first → last < first → false ≡ follows b first last
-unfolding follows
-follow_4 b first last o p f s = rw (follows, eq-eqb (first % 2) 1 o, eq-eqb (last % 2) 1 p, le-leb b first f, lt-leb first last s)
-
-pub follow_3 : (b first last : ℕ) → first % 2 ≡ 1 → last % 2 ≡ 1 → first < b → false ≡ follows b first last
-unfolding follows
-follow_3 b first last o p f = rw (follows, eq-eqb (first % 2) 1 o, eq-eqb (last % 2) 1 p, lt-leb b first f)
-
-pub follow_2 : (b first last : ℕ) → first % 2 ≡ 1 → (last % 2 ≡ 1 → ⊥) → false ≡ follows b first last
-unfolding follows
-follow_2 b first last o p = rw (follows, eq-eqb (first % 2) 1 o, ne_eqb (last % 2) 1 p)
-
-pub follow_1 : (b first last : ℕ) → (first % 2 ≡ 1 → ⊥) → false ≡ follows b first last
-unfolding follows
-follow_1 b first last o = rw (follows, ne_eqb (first % 2) 1 o)
-
 -- ---- what one look tells
 
-look_bad : (good : Bool) (l : List ℕ) → good ≡ false → Answer.Refused 25 ≡ looked good l
+look_bad : (good : Bool) (l : List ℕ) → good ≡ false → Err Refusal.NotRanges ≡ looked good l
 unfolding looked
 look_bad good l e = rw (looked, e)
 
-look_good : (good : Bool) (l : List ℕ) (n : ℕ) → good ≡ true → n ≡ length l → Answer.Done n ≡ looked good l
+look_good : (good : Bool) (l : List ℕ) (n : ℕ) → good ≡ true → n ≡ length l → Ok n ≡ looked good l
 unfolding looked
-look_good good l n e q = rw (looked, e) (ap Answer.Done q)
+look_good good l n e q = rw (looked, e) (ap Ok q)
 
 -- ---- the look at pairs
 
@@ -65,7 +42,7 @@ rule_one b x = refl
 pair_next : (ps : List ℕ) (from cells i : ℕ) (b : Bool) → Pairing ps from cells i → i + 1 < length ps → b ≡ follows from (get_or ps i 0) (get_or ps (i + 1) 0) → (b && pairs_from (get_or ps (i + 1) 0 + 4) (drop (i + 2) ps)) ≡ pairs_from 1 ps
 pair_next ps from cells i b G h e = ap (λ (t : Bool). t && pairs_from (get_or ps (i + 1) 0 + 4) (drop (i + 2) ps)) e ∙ sym (rule_cons from (get_or ps i 0) (get_or ps (i + 1) 0) (drop (i + 2) ps)) ∙ sym (ap (pairs_from from) (next_two ps i h)) ∙ G.same
 
-pub pair_bad : (ps : List ℕ) (from cells i : ℕ) (b : Bool) → Pairing ps from cells i → i + 1 < length ps → b ≡ follows from (get_or ps i 0) (get_or ps (i + 1) 0) → b ≡ false → Answer.Refused 25 ≡ looked (is_pairs ps) (cells_of ps)
+pub pair_bad : (ps : List ℕ) (from cells i : ℕ) (b : Bool) → Pairing ps from cells i → i + 1 < length ps → b ≡ follows from (get_or ps i 0) (get_or ps (i + 1) 0) → b ≡ false → Err Refusal.NotRanges ≡ looked (is_pairs ps) (cells_of ps)
 pair_bad ps from cells i b G h e t = look_bad (is_pairs ps) (cells_of ps) (sym (rw t at (pair_next ps from cells i b G h e)))
 
 -- what a pair that follows asks of the stretch that it is
@@ -95,12 +72,12 @@ pair_on ps from cells i more b G h e t q =
       low = pair_room ps from cells i more b G e t q;
     }
 
-pub pairs_whole : (ps : List ℕ) (from cells i : ℕ) → Pairing ps from cells i → i ≡ length ps → Answer.Done cells ≡ looked (is_pairs ps) (cells_of ps)
+pub pairs_whole : (ps : List ℕ) (from cells i : ℕ) → Pairing ps from cells i → i ≡ length ps → Ok cells ≡ looked (is_pairs ps) (cells_of ps)
 pairs_whole ps from cells i G h =
     let n = none_left ps i (omega arith) in
     look_good (is_pairs ps) (cells_of ps) cells (sym G.same ∙ ap (pairs_from from) n ∙ none_ruled from) (omega (arith, G.count, ap (λ (l : List ℕ). length (cells_of l)) n, ap length (each_nil tile)))
 
-pub pairs_odd : (ps : List ℕ) (from cells i : ℕ) → Pairing ps from cells i → length ps ≤ i + 1 → (i ≡ length ps → ⊥) → Answer.Refused 25 ≡ looked (is_pairs ps) (cells_of ps)
+pub pairs_odd : (ps : List ℕ) (from cells i : ℕ) → Pairing ps from cells i → length ps ≤ i + 1 → (i ≡ length ps → ⊥) → Err Refusal.NotRanges ≡ looked (is_pairs ps) (cells_of ps)
 pairs_odd ps from cells i G h e =
     let n = next_of ps i (omega (arith, G.within)) in
     look_bad (is_pairs ps) (cells_of ps) (sym G.same ∙ ap (pairs_from from) (n ∙ ap (λ (s : List ℕ). get_or ps i 0 ∷ s) (none_left ps (i + 1) h)) ∙ rule_one from (get_or ps i 0))

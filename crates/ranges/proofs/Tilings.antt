@@ -80,10 +80,6 @@ pub record Sizing (s e k : ℕ) : Type 0 where
   pub on : 2 * k ≤ count_trailing_zeros 64 s
   pub same : size_from k s e ≡ size s e
 
-pub aligned_is : (s h : ℕ) → h ≡ count_trailing_zeros 64 s / 2 → (h < 30 → h ≡ aligned s) × (30 ≤ h → 30 ≡ aligned s)
-unfolding aligned
-aligned_is s h e = (λ g. omega arith, λ g. omega arith)
-
 pub size_start : (s e k : ℕ) → s < 2 ^ 64 → k ≡ aligned s → Sizing s e k
 unfolding size aligned
 size_start s e k h q = record {

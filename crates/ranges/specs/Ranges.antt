@@ -1,8 +1,8 @@
 -- A list of cells as pairs of first and last leaf, such pairs as the normalised list again, and what is answered. Quoted lines are paper 02's words, from n.
-use Rattle.std.specs.Prelude.{◌≡◌, Bool, true, false, ◌&&◌, ◌||◌, List, [], ◌∷◌, ◌++◌, ℕ, zero, suc, ◌+◌, ◌-◌, ◌*◌, ◌/◌, ◌%◌, ◌^◌, length, drop, leb, ltb, eqb}
+use Rattle.std.specs.Prelude.{◌≡◌, Bool, true, false, ◌&&◌, ◌||◌, List, [], ◌∷◌, ◌++◌, ℕ, zero, suc, ◌+◌, ◌-◌, ◌*◌, ◌/◌, ◌%◌, ◌^◌, length, drop, leb, ltb, eqb, Result, Ok, Err}
 use Rattle.cellid.specs.CellId.{first_leaf, last_leaf}
 use Rattle.cellunion.specs.CellUnion.{is_list}
-use Rattle.ranges.specs.declared.Answer.{Answer}
+use Rattle.refusal.specs.declared.Refusal.{Refusal}
 
 -- how many leaves there are; leaf number n, from 0, has the id 2n + 1
 abbrev pub leaves : ℕ
@@ -77,48 +77,40 @@ each_pair out (first ∷ last ∷ ps) = out (first / 2) ((last + 1) / 2) ++ each
 abbrev pub cells_of : List ℕ → List ℕ
 cells_of ps = each_pair tile ps
 
--- ---- what a call comes to: refused with a number, or a list
+-- ---- what a call comes to: refused, or a list
 
-pub data Result : Type 0 where
-  refused : ℕ → Result
-  done : List ℕ → Result
-
--- the list l; where an output of so many places is too short for it, that number
-unfoldable pub fitted : ℕ → List ℕ → ℕ → Result
-fitted number l room = elim (leb (length l) room) [ true ↦ done l | false ↦ refused number ]
+-- the list l; where an output of so many places is too short for it, that refusal
+unfoldable pub fitted : Refusal → List ℕ → ℕ → Result (List ℕ) Refusal
+fitted full l room = elim (leb (length l) room) [ true ↦ Ok l | false ↦ Err full ]
 
 -- l is the answer to good input: "25 input outside these rules, then 26 answer longer than the output"
-unfoldable pub result_of : Bool → List ℕ → ℕ → Result
+unfoldable pub result_of : Bool → List ℕ → ℕ → Result (List ℕ) Refusal
 result_of good l room = elim good [
-  | false ↦ refused 25
-  | true ↦ fitted 26 l room
+  | false ↦ Err Refusal.NotRanges
+  | true ↦ fitted Refusal.RangesTooLong l room
 ]
 
-unfoldable pub pairs_result : List ℕ → ℕ → Result
+unfoldable pub pairs_result : List ℕ → ℕ → Result (List ℕ) Refusal
 pairs_result ids room = result_of (is_list ids) (pairs_of ids) room
 
-unfoldable pub cells_result : List ℕ → ℕ → Result
+unfoldable pub cells_result : List ℕ → ℕ → Result (List ℕ) Refusal
 cells_result ps room = result_of (is_pairs ps) (cells_of ps) room
 
-unfoldable pub list_answer : Result → Answer
-list_answer (refused n) = Answer.Refused n
-list_answer (done l) = Answer.Done (length l)
+unfoldable pub list_answer : Result (List ℕ) Refusal → Result ℕ Refusal
+list_answer (Err r) = Err r
+list_answer (Ok l) = Ok (length l)
 
--- the paper's number of an answer, 0 for success, and how many words it has
-unfoldable pub number_of : Answer → ℕ
-number_of (Answer.Refused n) = n
-number_of (Answer.Done count) = 0
-
-unfoldable pub words_of : Answer → ℕ
-words_of (Answer.Refused n) = 0
-words_of (Answer.Done count) = count
+-- how many words an answer has
+unfoldable pub words_of : Result ℕ Refusal → ℕ
+words_of (Err r) = 0
+words_of (Ok count) = count
 
 -- "output unchanged"; else the list stands in the first places, and the others stay
-unfoldable pub output_after : Result → List ℕ → List ℕ
-output_after (refused n) out = out
-output_after (done l) out = l ++ drop (length l) out
+unfoldable pub output_after : Result (List ℕ) Refusal → List ℕ → List ℕ
+output_after (Err r) out = out
+output_after (Ok l) out = l ++ drop (length l) out
 
 -- what a public function ensures of its answer and the output
-pub record Answered (R : Result) (r : Answer) (out out' : List ℕ) : Type 0 where
+pub record Answered (R : Result (List ℕ) Refusal) (r : Result ℕ Refusal) (out out' : List ℕ) : Type 0 where
   pub answer : r ≡ list_answer R
   pub output : out' ≡ output_after R out

@@ -1,14 +1,14 @@
 -- What the loops count on: private contracts only, nothing here need be believed. What one look tells, a list's pairs one after another, and the largest cell
 -- that can begin at a leaf.
-use Rattle.std.specs.Prelude.{Bool, true, false, List, [], ◌∷◌, ℕ, ◌/◌, min, eqb, length}
+use Rattle.std.specs.Prelude.{Bool, true, false, List, [], ◌∷◌, ℕ, ◌/◌, min, eqb, length, Result, Ok, Err}
 use Rattle.std.specs.Int.Count.{count_trailing_zeros}
-use Rattle.ranges.specs.declared.Answer.{Answer}
+use Rattle.refusal.specs.declared.Refusal.{Refusal}
 use Rattle.ranges.specs.Ranges.{joins, pair_before, pairs_of}
 
--- ---- one look: 25, or how many words are the answer
+-- ---- one look: no pairs, or how many words are the answer
 
-unfoldable pub looked : Bool → List ℕ → Answer
-looked good l = elim good [ false ↦ Answer.Refused 25 | true ↦ Answer.Done (length l) ]
+unfoldable pub looked : Bool → List ℕ → Result ℕ Refusal
+looked good l = elim good [ false ↦ Err Refusal.NotRanges | true ↦ Ok (length l) ]
 
 -- ---- the pair of the cells so far: a last of 0, which is no leaf, stands for no cell
 

@@ -9,12 +9,7 @@ ghost use Rattle.cellunion.specs.CellUnion.{is_list};
 ghost use Rattle.ranges.specs.Ranges.{leaves, joins, is_pairs, follows, size, tile, pairs_of, cells_of, pairs_result, cells_result, Answered};
 ghost use Rattle.ranges.specs.Steps.{looked, held, closed, opened, aligned};
 
-// Done: how many words stand in the output's first places. Refused: paper 02's number; the output is as it was.
-#[derive(Clone, Copy)]
-pub enum Answer {
-    Done(usize),
-    Refused(u64),
-}
+use refusal::Refusal;
 
 // Whether a pair that ends at `last` is joined with one that begins at `next`.
 fn joins(last: u64, next: u64) -> bool
@@ -28,16 +23,11 @@ fn joins(last: u64, next: u64) -> bool
 fn follows(from: u64, first: u64, last: u64) -> bool
     ensures { result ≡ follows from first last }
 {
-    if first % 2 == 1 {
-        if last % 2 == 1 {
-            if from <= first {
-                if first <= last {
-                    return last < 0xc000_0000_0000_0000;
-                }
-            }
-        }
-    }
-    false
+    first % 2 == 1
+        && last % 2 == 1
+        && from <= first
+        && first <= last
+        && last < 0xc000_0000_0000_0000
 }
 
 // Writes a word, if there is such a place.
@@ -53,8 +43,7 @@ fn put(out: &mut [u64], at: usize, v: u64)
 fn aligned(s: u64) -> u64
     ensures { result ≡ aligned s }
 {
-    let half = u64::trailing_zeros(s) >> 1;
-    if half < 30 { half as u64 } else { 30 }
+    u64::from(s.trailing_zeros() >> 1).min(30)
 }
 
 // The largest number of leaves that a cell from s on has in the stretch [s, e).
@@ -94,31 +83,32 @@ fn count(s: u64, e: u64) -> usize
     requires { (s ≤ e) × (e ≤ leaves) }
     ensures { result ≡ length (tile s e) }
 {
-    let mut none: [u64; 1] = [0; 1];
-    tile(s, e, &mut none, 0)
+    tile(s, e, &mut [], 0)
 }
 
-// One look at pairs: 25 where they are not leaf ids, ascending, none joinable, else how many cells they become.
-fn look_pairs(ps: &[u64]) -> Answer
+// One look at pairs: how many cells they become, where they are leaf ids, ascending, none joinable.
+fn look_pairs(ps: &[u64]) -> Result<usize, Refusal>
     ensures { result ≡ looked (is_pairs ps.now) (cells_of ps.now) }
 {
-    let mut from: u64 = 1;
-    let mut cells: usize = 0;
-    let mut i: usize = 0;
+    let mut from = 1;
+    let mut cells = 0;
+    // An index: a pair is two words, and the last word may stand alone.
+    let mut i = 0;
     while i + 1 < ps.len() {
         let first = ps[i];
         let last = ps[i + 1];
         if !follows(from, first, last) {
-            return Answer::Refused(25);
+            return Err(Refusal::NotRanges);
         }
         cells += count(first >> 1, (last + 1) >> 1);
         from = last + 4;
         i += 2;
     }
     if i == ps.len() {
-        return Answer::Done(cells);
+        Ok(cells)
+    } else {
+        Err(Refusal::NotRanges)
     }
-    Answer::Refused(25)
 }
 
 // Writes the pair of the cells so far from place `at` on, as far as there are places; gives the place after it. Where no cell came yet, `last` is 0.
@@ -126,6 +116,7 @@ fn hold(first: u64, last: u64, out: &mut [u64], at: usize) -> usize
     requires { at + 2 < 2 ^ 64 }
     ensures { (result ≡ at + length (held first last)) × (out.new ≡ sets out.old at (held first last)) }
 {
+    // No pair is there yet: no leaf has the id 0.
     if last == 0 {
         return at;
     }
@@ -158,17 +149,14 @@ fn join(ids: &[u64], out: &mut [u64]) -> usize
     requires { is_list ids.now ≡ true }
     ensures { (result ≡ length (pairs_of ids.now)) × (out.new ≡ sets out.old 0 (pairs_of ids.now)) }
 {
-    let mut first: u64 = 0;
-    let mut last: u64 = 0;
-    let mut at: usize = 0;
-    let mut i: usize = 0;
-    while i < ids.len() {
-        let id = ids[i];
+    let mut first = 0;
+    let mut last = 0;
+    let mut at = 0;
+    for &id in ids {
         let next = cellid::range_min(id);
         at = close(first, last, next, out, at);
         first = open(first, last, next);
         last = cellid::range_max(id);
-        i += 1;
     }
     hold(first, last, out, at)
 }
@@ -178,8 +166,9 @@ fn fill(ps: &[u64], out: &mut [u64]) -> usize
     requires { is_pairs ps.now ≡ true }
     ensures { (result ≡ length (cells_of ps.now)) × (out.new ≡ sets out.old 0 (cells_of ps.now)) }
 {
-    let mut at: usize = 0;
-    let mut i: usize = 0;
+    let mut at = 0;
+    // An index: a pair is two words.
+    let mut i = 0;
     while i + 1 < ps.len() {
         let last = ps[i + 1];
         at = tile(ps[i] >> 1, (last + 1) >> 1, out, at);
@@ -193,8 +182,7 @@ fn words(ids: &[u64]) -> usize
     requires { is_list ids.now ≡ true }
     ensures { result ≡ length (pairs_of ids.now) }
 {
-    let mut none: [u64; 1] = [0; 1];
-    join(ids, &mut none)
+    join(ids, &mut [])
 }
 
 // Whether an output of so many places has room for a list's pairs: where the list's length doesn't tell, their words are counted.
@@ -202,38 +190,31 @@ fn has_room(ids: &[u64], room: usize) -> bool
     requires { is_list ids.now ≡ true }
     ensures { result ≡ leb (length (pairs_of ids.now)) room }
 {
-    if ids.len() <= room / 2 {
-        return true;
-    }
-    words(ids) <= room
+    ids.len() <= room / 2 || words(ids) <= room
 }
 
-// Turns a list into pairs of first and last leaf, neighbouring pairs joined. Refusals: 25 a list that is not valid, ascending and free of overlap; 26
-// more words than the output has places.
-pub fn pairs(ids: &[u64], out: &mut [u64]) -> Answer
+// Turns a list into pairs of first and last leaf, neighbouring pairs joined; gives how many words stand in the output's first places. Refused are a list that
+// is not valid, ascending and free of overlap, and then more words than the output has places.
+pub fn pairs(ids: &[u64], out: &mut [u64]) -> Result<usize, Refusal>
     ensures { Answered (pairs_result ids.now (length out.old)) result out.old out.new }
 {
-    if cellunion::is_valid(ids) {
-        if has_room(ids, out.len()) {
-            return Answer::Done(join(ids, out));
-        }
-        return Answer::Refused(26);
+    if !cellunion::is_valid(ids) {
+        return Err(Refusal::NotRanges);
     }
-    Answer::Refused(25)
+    if !has_room(ids, out.len()) {
+        return Err(Refusal::RangesTooLong);
+    }
+    Ok(join(ids, out))
 }
 
-// Turns such pairs back into the normalised list. Refusals: 25 words that are not such pairs; 26 more ids than the output has places.
-pub fn cells(ps: &[u64], out: &mut [u64]) -> Answer
+// Turns such pairs back into the normalised list; gives how many ids stand in the output's first places. Refused are words that are not such pairs, and then
+// more ids than the output has places.
+pub fn cells(ps: &[u64], out: &mut [u64]) -> Result<usize, Refusal>
     ensures { Answered (cells_result ps.now (length out.old)) result out.old out.new }
 {
-    let found = look_pairs(ps);
-    match found {
-        Answer::Done(count) => {
-            if out.len() < count {
-                return Answer::Refused(26);
-            }
-            Answer::Done(fill(ps, out))
-        }
-        Answer::Refused(number) => Answer::Refused(number),
+    let count = look_pairs(ps)?;
+    if out.len() < count {
+        return Err(Refusal::RangesTooLong);
     }
+    Ok(fill(ps, out))
 }

@@ -1,8 +1,9 @@
 -- The union, the common part and the difference of two lists of cells, and what is answered. Quoted lines are paper 02's words, from j.
-use Rattle.std.specs.Prelude.{Bool, true, false, ◌&&◌, ◌||◌, not, List, ℕ}
+use Rattle.std.specs.Prelude.{Bool, true, false, ◌&&◌, ◌||◌, not, List, ℕ, Result, Err}
 use Rattle.cellunion.specs.CellUnion.{covers}
 use Rattle.picklist.specs.PickList.{is_pick_list}
-use Rattle.ranges.specs.Ranges.{tile, Result, refused, fitted}
+use Rattle.refusal.specs.declared.Refusal.{Refusal}
+use Rattle.ranges.specs.Ranges.{tile, fitted}
 use Rattle.ranges.specs.Stretches.{stretches}
 use Rattle.sets.specs.declared.Op.{Op}
 use Rattle.sets.specs.declared.Op.TheVariants.{Union, Common, Difference}
@@ -23,11 +24,11 @@ unfoldable pub combined : Op → List ℕ → List ℕ → List ℕ
 combined op a b = stretches tile (wanted op a b)
 
 -- with so many places of output, of lists "up to 4,096 ids": "15 first list bad or too long, 16 the second likewise, 17 answer longer than the output; in this order"
-unfoldable pub set_result : Op → List ℕ → List ℕ → ℕ → Result
+unfoldable pub set_result : Op → List ℕ → List ℕ → ℕ → Result (List ℕ) Refusal
 set_result op a b room = elim (is_pick_list a) [
-  | false ↦ refused 15
+  | false ↦ Err Refusal.FirstList
   | true ↦ elim (is_pick_list b) [
-    | false ↦ refused 16
-    | true ↦ fitted 17 (combined op a b) room
+    | false ↦ Err Refusal.SecondList
+    | true ↦ fitted Refusal.SetTooLong (combined op a b) room
   ]
 ]

@@ -3,7 +3,7 @@
 // lists' lengths don't tell, a sweep of its own counts. No memory is asked for.
 #![tactic(auto)]
 
-ghost use Rattle.std.specs.Prelude.{◌≡◌, true, ◌+◌, ◌≤◌, min, length, drop, leb};
+ghost use Rattle.std.specs.Prelude.{◌≡◌, true, ◌+◌, ◌≤◌, length, drop, leb};
 ghost use Rattle.std.proofs.lemmas.List.Edits.{sets};
 ghost use Rattle.cellid.specs.CellId.{Cell};
 ghost use Rattle.order.specs.Order.{All};
@@ -13,7 +13,10 @@ ghost use Rattle.picklist.specs.PickList.{is_pick_list};
 ghost use Rattle.sets.specs.Sets.{wants, combined, set_result};
 ghost use Rattle.sets.specs.Steps.{cursor_at, moved_to, done_with, open_from, is_short};
 
-use ranges::Answer;
+use refusal::Refusal;
+
+// How many leaves there are.
+const LEAVES: u64 = 0x6000_0000_0000_0000;
 
 // Which leaves are wanted: those of either list, of both, of the first alone.
 #[derive(Clone, Copy)]
@@ -28,9 +31,9 @@ fn wants(op: Op, x: bool, y: bool) -> bool
     ensures { result ≡ wants op x y }
 {
     match op {
-        Op::Union => if x { true } else { y },
-        Op::Common => if x { y } else { false },
-        Op::Difference => if x { !y } else { false },
+        Op::Union => x || y,
+        Op::Common => x && y,
+        Op::Difference => x && !y,
     }
 }
 
@@ -67,22 +70,24 @@ fn cursor_at(l: &[u64], i: usize, p: u64) -> Cursor
         let id = l[i];
         let first = lo(id);
         if first <= p {
-            return Cursor {
+            Cursor {
                 at: i,
                 edge: hi(id),
                 inside: true,
-            };
+            }
+        } else {
+            Cursor {
+                at: i,
+                edge: first,
+                inside: false,
+            }
         }
-        return Cursor {
+    } else {
+        Cursor {
             at: i,
-            edge: first,
+            edge: LEAVES,
             inside: false,
-        };
-    }
-    Cursor {
-        at: i,
-        edge: 0x6000_0000_0000_0000,
-        inside: false,
+        }
     }
 }
 
@@ -92,19 +97,12 @@ fn move_to(l: &[u64], c: Cursor, q: u64) -> Cursor
     ensures { result ≡ moved_to l.now c q }
 {
     if q < c.edge {
-        return c;
+        c
+    } else if c.inside {
+        cursor_at(l, c.at + 1, q)
+    } else {
+        cursor_at(l, c.at, q)
     }
-    let at = c.at;
-    if c.inside {
-        return cursor_at(l, at + 1, q);
-    }
-    cursor_at(l, at, q)
-}
-
-fn lesser(x: u64, y: u64) -> u64
-    ensures { result ≡ min x y }
-{
-    if x < y { x } else { y }
 }
 
 // Writes the cells of the stretch [s, p) from place `at` on, as far as there are places, unless the leaves from p on are wanted too; gives the place after them.
@@ -113,9 +111,10 @@ fn write_done(want: bool, s: u64, p: u64, out: &mut [u64], at: usize) -> usize
     ensures { (result ≡ at + length (done_with want s p)) × (out.new ≡ sets out.old at (done_with want s p)) }
 {
     if want {
-        return at;
+        at
+    } else {
+        ranges::tile(s, p, out, at)
     }
-    ranges::tile(s, p, out, at)
 }
 
 // Where the stretch begins that is open at q.
@@ -132,12 +131,12 @@ fn sweep(op: Op, a: &[u64], b: &[u64], out: &mut [u64]) -> usize
 {
     let mut first = cursor_at(a, 0, 0);
     let mut second = cursor_at(b, 0, 0);
-    let mut s: u64 = 0;
-    let mut p: u64 = 0;
-    let mut at: usize = 0;
-    while p < 0x6000_0000_0000_0000 {
+    let mut s = 0;
+    let mut p = 0;
+    let mut at = 0;
+    while p < LEAVES {
         let want = wants(op, first.inside, second.inside);
-        let q = lesser(first.edge, second.edge);
+        let q = first.edge.min(second.edge);
         at = write_done(want, s, p, out, at);
         s = open_from(want, s, q);
         first = move_to(a, first, q);
@@ -152,8 +151,7 @@ fn count(op: Op, a: &[u64], b: &[u64]) -> usize
     requires { (is_list a.now ≡ true) × (is_list b.now ≡ true) }
     ensures { result ≡ length (combined op a.now b.now) }
 {
-    let mut none: [u64; 1] = [0; 1];
-    sweep(op, a, b, &mut none)
+    sweep(op, a, b, &mut [])
 }
 
 // Whether the answer is no longer than both lists.
@@ -161,8 +159,7 @@ fn is_short(op: Op) -> bool
     ensures { result ≡ is_short op }
 {
     match op {
-        Op::Union => true,
-        Op::Common => true,
+        Op::Union | Op::Common => true,
         Op::Difference => false,
     }
 }
@@ -172,27 +169,25 @@ fn has_room(op: Op, a: &[u64], b: &[u64], room: usize) -> bool
     requires { (is_pick_list a.now ≡ true) × (is_pick_list b.now ≡ true) }
     ensures { result ≡ leb (length (combined op a.now b.now)) room }
 {
-    if is_short(op) {
-        if a.len() + b.len() <= room {
-            return true;
-        }
+    if is_short(op) && a.len() + b.len() <= room {
+        return true;
     }
     count(op, a, b) <= room
 }
 
-// The normalised list of the leaves that are wanted of two lists. Refusals: 15 the first list is not valid, ascending and free of overlap, or longer than
-// 4,096 ids; 16 the second likewise; 17 more ids than the output has places.
-pub fn combine(op: Op, a: &[u64], b: &[u64], out: &mut [u64]) -> Answer
+// The normalised list of the leaves that are wanted of two lists; gives how many ids stand in the output's first places. Refused are a first list that is not
+// valid, ascending and free of overlap, or longer than 4,096 ids; then such a second; then more ids than the output has places.
+pub fn combine(op: Op, a: &[u64], b: &[u64], out: &mut [u64]) -> Result<usize, Refusal>
     ensures { Answered (set_result op a.now b.now (length out.old)) result out.old out.new }
 {
-    if picklist::is_pick_list(a) {
-        if picklist::is_pick_list(b) {
-            if has_room(op, a, b, out.len()) {
-                return Answer::Done(sweep(op, a, b, out));
-            }
-            return Answer::Refused(17);
-        }
-        return Answer::Refused(16);
+    if !picklist::is_pick_list(a) {
+        return Err(Refusal::FirstList);
     }
-    Answer::Refused(15)
+    if !picklist::is_pick_list(b) {
+        return Err(Refusal::SecondList);
+    }
+    if !has_room(op, a, b, out.len()) {
+        return Err(Refusal::SetTooLong);
+    }
+    Ok(sweep(op, a, b, out))
 }

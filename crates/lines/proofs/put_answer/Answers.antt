@@ -7,12 +7,12 @@ use Rattle.lines.proofs.put_answer.Goals as goal
 
 pub slice_bounds-put_list-end : goal.slice_bounds-put_list-end
 unfolding words_of
-slice_bounds-put_list-end c = sym (length-take-le _ _ (rw c.in-Done.is at c.requires))
+slice_bounds-put_list-end c = sym (length-take-le _ _ (rw c.in-Ok.is at c.requires))
 
-pub returns-in-Done : goal.returns-in-Done
+pub returns-in-Ok : goal.returns-in-Ok
 unfolding answer_text
-returns-in-Done c = rw c.in-Done.is c.put_list.ensures
+returns-in-Ok c = rw c.in-Ok.is c.put_list.ensures
 
-pub returns-in-Refused : goal.returns-in-Refused
+pub returns-in-Err : goal.returns-in-Err
 unfolding answer_text
-returns-in-Refused c = rw c.in-Refused.is c.put_refused.ensures
+returns-in-Err c = rw (c.in-Err.is, ← c.number.ensures) c.put_refused.ensures

@@ -33,5 +33,5 @@ loop-i-preserved c = pair_on _ _ _ _ _ _ c.loop-i.invariant c.loop-i-test.true c
 pub returns-then-i-ps : goal.returns-then-i-ps
 returns-then-i-ps c = pairs_whole _ _ _ _ c.loop-i.invariant c.if-i-ps.true
 
-pub returns : goal.returns
-returns c = pairs_odd _ _ _ _ c.loop-i.invariant c.loop-i-test.false c.if-i-ps.false
+pub returns-else-i-ps : goal.returns-else-i-ps
+returns-else-i-ps c = pairs_odd _ _ _ _ c.loop-i.invariant c.loop-i-test.false c.if-i-ps.false

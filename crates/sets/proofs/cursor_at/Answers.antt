@@ -11,8 +11,8 @@ hi-requires c = next_cell _ _ c.if-i-l.true c.requires
 pub returns-then-first-p : goal.returns-then-first-p
 returns-then-first-p c = cursor_begun _ _ _ c.if-i-l.true _ _ c.lo-first.ensures c.if-first-p.true c.hi.ensures
 
-pub returns-then-i-l : goal.returns-then-i-l
-returns-then-i-l c = cursor_ahead _ _ _ c.if-i-l.true _ c.lo-first.ensures c.if-first-p.false
+pub returns-else-first-p : goal.returns-else-first-p
+returns-else-first-p c = cursor_ahead _ _ _ c.if-i-l.true _ c.lo-first.ensures c.if-first-p.false
 
-pub returns : goal.returns
-returns c = cursor_none _ _ _ c.if-i-l.false
+pub returns-else-i-l : goal.returns-else-i-l
+returns-else-i-l c = cursor_none _ _ _ c.if-i-l.false

@@ -9,8 +9,8 @@ use Rattle.sets.proofs.sweep.Goals as goal
 pub wants-want-requires : goal.wants-want-requires
 wants-want-requires c = tt
 
-pub lesser-q-requires : goal.lesser-q-requires
-lesser-q-requires c = tt
+pub min-q-requires : goal.min-q-requires
+min-q-requires c = tt
 
 pub open_from-s-requires : goal.open_from-s-requires
 open_from-s-requires c = tt
@@ -35,11 +35,11 @@ move_to-second-requires c = let G = c.loop-p.invariant.second in (G.ahead.cells,
 
 pub loop-p-smaller : goal.loop-p-smaller
 loop-p-smaller c = let G = c.loop-p.invariant in
-    let o = sweep_on _ _ c.loop-p.first c.loop-p.second _ _ G.first G.second c.loop-p-test.true c.lesser-q.ensures in
+    let o = sweep_on _ _ c.loop-p.first c.loop-p.second _ _ G.first G.second c.loop-p-test.true c.min-q.ensures in
     omega (arith, o.0, o.1)
 
 pub loop-p-preserved : goal.loop-p-preserved
-loop-p-preserved c = sweep_turn _ _ _ _ _ c.loop-p.first c.loop-p.second _ _ _ _ _ _ _ _ _ _ c.loop-p.invariant c.loop-p-test.true c.wants-want.ensures c.lesser-q.ensures c.write_done-at.ensures c.open_from-s.ensures c.move_to-first.ensures c.move_to-second.ensures
+loop-p-preserved c = sweep_turn _ _ _ _ _ c.loop-p.first c.loop-p.second _ _ _ _ _ _ _ _ _ _ c.loop-p.invariant c.loop-p-test.true c.wants-want.ensures c.min-q.ensures c.write_done-at.ensures c.open_from-s.ensures c.move_to-first.ensures c.move_to-second.ensures
 
 pub tile-requires : goal.tile-requires
 tile-requires c = let G = c.loop-p.invariant in (G.up, G.world, omega (arith, G.up, G.world, G.low))

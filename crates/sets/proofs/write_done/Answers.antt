@@ -5,5 +5,5 @@ use Rattle.sets.proofs.write_done.Goals as goal
 pub returns-then-want : goal.returns-then-want
 returns-then-want c = done_yes _ _ _ _ _ c.if-want.true
 
-pub returns : goal.returns
-returns c = done_no _ _ _ _ _ _ _ c.if-want.false c.tile.ensures
+pub returns-else-want : goal.returns-else-want
+returns-else-want c = done_no _ _ _ _ _ _ _ c.if-want.false c.tile.ensures
