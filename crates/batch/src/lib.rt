@@ -4,214 +4,223 @@
 
 ghost use Rattle.std.specs.Prelude.{◌≡◌, ◌+◌, ◌*◌, ◌≤◌, length};
 ghost use Rattle.replies.specs.Write.{Wrote, Whole};
-ghost use Rattle.batch.specs.Batch.{kind_after, shape_after, cap_about, cell_about, about_after, lacking, terms_after, order_of, word_after, is_head, head_of, done_text, served_text, summary_text, too_many_text};
+ghost use Rattle.batch.specs.Batch.{flags_after, about_after, about_parts, lacking, terms_after, order_with, order_of, word_after, is_head, head_of, done_text, served_text, summary_text, too_many_text};
 
 use cell::Cap;
 use orders::Order;
-use run::MEMORY_WORDS;
-use text::{Base, Fault, Place, Read};
+use run::{MEMORY_WORDS, RegionCoverer};
+use text::{Fault, Read};
 use tokens::Form;
 use totals::Totals;
 
 // ---- an order
 
-// What an order asks about, the cell `id` or else the cap, and the place after it.
+// The kind of an order, as its record has it: the quick covering, or else the inner or the outer one.
 #[derive(Clone, Copy)]
-struct About {
-    cell: bool,
-    id: u64,
-    cap: Cap,
-    after: Place,
+struct Flags {
+    fast: bool,
+    inner: bool,
 }
 
-// The terms of an order, the steps that are allowed and the edition, and the place after them.
+const OUTER: Flags = Flags {
+    fast: false,
+    inner: false,
+};
+
+const INNER: Flags = Flags {
+    fast: false,
+    inner: true,
+};
+
+const FAST: Flags = Flags {
+    fast: true,
+    inner: false,
+};
+
+// What an order asks about.
+#[derive(Clone, Copy)]
+enum About {
+    Cap(Cap),
+    Cell(u64),
+}
+
+// The words for it.
+#[derive(Clone, Copy)]
+enum Named {
+    Cap,
+    Cell,
+}
+
+// The terms of an order: the steps that are allowed, and the edition.
 #[derive(Clone, Copy)]
 struct Terms {
     allowance: u64,
     edition: u64,
-    after: Place,
 }
 
-// The order that a line asks for, not served yet; and the line's end, or what is wrong with the line.
-#[derive(Clone, Copy)]
-pub struct OrderRead {
-    pub order: Order,
-    pub after: Place,
-}
-
-// The word for an order's kind, counted from 0.
-fn read_kind(line: &[u8], p: Place) -> Read
-    ensures { result ≡ kind_after line.now p }
+// The order's kind.
+#[tactic(auto, unfolding(crate::specs::Batch::flags_after, text::specs::Ascii::ascii))]
+fn read_flags(line: &[u8], at: usize) -> Result<Read<Flags>, Fault>
+    ensures { result ≡ flags_after line.now at }
 {
-    text::read_choice(line, p, b"covering interior fast", 3, Fault::UnknownKind)
-}
-
-// The word for an order's region, counted from 0.
-fn read_shape(line: &[u8], p: Place) -> Read
-    ensures { result ≡ shape_after line.now p }
-{
-    text::read_choice(line, p, b"cap cell", 2, Fault::UnknownRegion)
-}
-
-// `X Y Z R`.
-fn read_cap(line: &[u8], p: Place) -> About
-    ensures { result ≡ cap_about line.now p }
-{
-    let n = requests::read_four(line, p, Base::Sixteen);
-    let v = n.values;
-    let after = n.after;
-    let cap = requests::cap_of(v[0], v[1], v[2], v[3]);
-    About {
-        cell: false,
-        id: 0,
-        cap,
-        after,
-    }
-}
-
-// `ID`.
-fn read_cell(line: &[u8], p: Place) -> About
-    ensures { result ≡ cell_about line.now p }
-{
-    let id = text::read_number(line, p, Base::Sixteen, u64::MAX);
-    let after = id.after;
-    let cap = requests::cap_of(0, 0, 0, 0);
-    About {
-        cell: true,
-        id: id.value,
-        cap,
-        after,
-    }
+    text::read_choice(
+        line,
+        at,
+        b"covering interior fast",
+        &[OUTER, INNER, FAST],
+        Fault::UnknownKind,
+    )
 }
 
 // `cap X Y Z R` or `cell ID`.
-fn read_about(line: &[u8], p: Place) -> About
-    ensures { result ≡ about_after line.now p }
+#[tactic(auto, unfolding(crate::specs::Batch::about_after, crate::specs::Batch::about_named, text::specs::Ascii::ascii))]
+fn read_about(line: &[u8], at: usize) -> Result<Read<About>, Fault>
+    ensures { result ≡ about_after line.now at }
 {
-    let which = read_shape(line, p);
-    let after = which.after;
-    if which.value == 0 {
-        return read_cap(line, after);
+    let named = text::read_choice(
+        line,
+        at,
+        b"cap cell",
+        &[Named::Cap, Named::Cell],
+        Fault::UnknownRegion,
+    )?;
+    match named.value {
+        Named::Cap => {
+            let cap = requests::read_cap(line, named.after)?;
+            Ok(Read {
+                value: About::Cap(cap.value),
+                after: cap.after,
+            })
+        }
+        Named::Cell => {
+            let id = requests::read_cell(line, named.after)?;
+            Ok(Read {
+                value: About::Cell(id.value),
+                after: id.after,
+            })
+        }
     }
-    read_cell(line, after)
 }
 
-// The place, if the option with the value v, which the line may not have, was not given.
-fn lacks(v: u64, p: Place) -> Place
-    ensures { result ≡ lacking v p }
+// A fault, if an option was given that the line may not have.
+fn lacks<T: Copy>(o: Option<T>) -> Result<(), Fault>
+    ensures { result ≡ lacking o }
 {
-    match p {
-        Place::At(at) => {
-            if v == u64::MAX {
-                Place::At(at)
-            } else {
-                Place::Bad(Fault::ExtraField)
-            }
-        }
-        Place::Bad(f) => Place::Bad(f),
+    match o {
+        Some(_) => Err(Fault::ExtraField),
+        None => Ok(()),
     }
 }
 
 // `[allow=N] [edition=N]` and the line's end.
-fn read_terms(line: &[u8], p: Place) -> Terms
-    ensures { result ≡ terms_after line.now p }
+#[tactic(auto, unfolding(crate::specs::Batch::terms_after))]
+fn read_terms(line: &[u8], at: usize) -> Result<Terms, Fault>
+    ensures { result ≡ terms_after line.now at }
 {
-    let o = requests::read_options(line, p);
-    let po = o.after;
-    let values = o.values;
-    let a = lacks(values[1], po);
-    let b = lacks(values[2], a);
-    let c = lacks(values[3], b);
-    let d = lacks(values[5], c);
-    let after = text::read_end(line, d);
-    Terms {
-        allowance: requests::value_or(4294967295, values[0]),
-        edition: requests::value_or(1, values[4]),
-        after,
+    let options = requests::read_options(line, at)?;
+    let o = options.value;
+    lacks(o.out)?;
+    lacks(o.mem)?;
+    lacks(o.tokens)?;
+    lacks(o.engines)?;
+    text::read_end(line, options.after)?;
+    Ok(Terms {
+        allowance: o.allowance.unwrap_or(4294967295),
+        edition: o.edition.unwrap_or(1),
+    })
+}
+
+// What an order asks about, as its record has it: whether it is a cell, its id, and the cap; the other's numbers are 0.
+#[tactic(auto, unfolding(crate::specs::Batch::about_parts))]
+fn about_parts(a: About) -> (bool, u64, Cap)
+    ensures { result ≡ about_parts a }
+{
+    match a {
+        About::Cap(cap) => (false, 0, cap),
+        About::Cell(id) => (true, id, requests::cap_of(0, 0, 0, 0)),
     }
 }
 
-// The order that a line asks for.
-pub fn read_order(line: &[u8]) -> OrderRead
-    ensures { result ≡ order_of line.now }
+// The record of an order, not served yet.
+fn order_with(flags: Flags, numbers: RegionCoverer, about: About, terms: Terms) -> Order
+    ensures { result ≡ order_with flags numbers about terms }
 {
-    let start = text::read_start(line);
-    let word = read_kind(line, start);
-    let pk = word.after;
-    let c = requests::read_coverer(line, pk);
-    let pc = c.after;
-    let g = read_about(line, pc);
-    let pg = g.after;
-    let a = read_terms(line, pg);
-    let after = a.after;
-    let numbers = c.coverer;
-    let coverer = requests::with_edition(numbers, a.edition);
-    let cap = g.cap;
-    let allowance = requests::allowance_of(a.allowance);
-    let order = Order {
+    let (cell, id, cap) = about_parts(about);
+    Order {
         number: 0,
         count: 0,
         steps: 0,
         aside: Totals::NONE,
-        fast: word.value == 2,
-        inner: word.value == 1,
-        cell: g.cell,
-        id: g.id,
+        fast: flags.fast,
+        inner: flags.inner,
+        cell,
+        id,
         cap,
-        coverer,
-        allowance,
-    };
-    OrderRead { order, after }
+        coverer: RegionCoverer {
+            edition: terms.edition,
+            ..numbers
+        },
+        allowance: requests::allowance_of(terms.allowance),
+    }
+}
+
+// The order that a line asks for, not served yet.
+#[tactic(auto, unfolding(crate::specs::Batch::order_of))]
+pub fn read_order(line: &[u8]) -> Result<Order, Fault>
+    ensures { result ≡ order_of line.now }
+{
+    let start = text::read_start(line)?;
+    let flags = read_flags(line, start)?;
+    let numbers = requests::read_coverer(line, flags.after)?;
+    let about = read_about(line, numbers.after)?;
+    let terms = read_terms(line, about.after)?;
+    Ok(order_with(flags.value, numbers.value, about.value, terms))
 }
 
 // ---- the line before the orders
 
-// With how much a night is to be served: the places of output, the words of working memory; how ids are to be written; and the line's end, or what is wrong with
-// the line.
+// With how much a night is to be served: the places of output, the words of working memory; and how ids are to be written.
 #[derive(Clone, Copy)]
 pub struct Head {
     pub out: u64,
     pub mem: u64,
     pub form: Form,
-    pub after: Place,
 }
 
 // The word `night`.
-fn read_word(line: &[u8], p: Place) -> Read
-    ensures { result ≡ word_after line.now p }
+#[tactic(auto, unfolding(crate::specs::Batch::word_after, text::specs::Ascii::ascii))]
+fn read_word(line: &[u8], at: usize) -> Result<Read<()>, Fault>
+    ensures { result ≡ word_after line.now at }
 {
-    text::read_choice(line, p, b"night", 1, Fault::UnknownKind)
+    text::read_choice(line, at, b"night", &[()], Fault::UnknownKind)
 }
 
 // Whether a line begins with that word.
+#[tactic(auto, unfolding(crate::specs::Batch::is_head))]
 pub fn is_head(line: &[u8]) -> bool
     ensures { result ≡ is_head line.now }
 {
-    let word = read_word(line, Place::At(0));
-    let after = word.after;
-    text::is_at(after)
+    read_word(line, 0).is_ok()
 }
 
 // What the line before the orders asks.
-pub fn read_head(line: &[u8]) -> Head
+#[tactic(auto, unfolding(crate::specs::Batch::head_of))]
+pub fn read_head(line: &[u8]) -> Result<Head, Fault>
     ensures { result ≡ head_of line.now }
 {
-    let start = text::read_start(line);
-    let word = read_word(line, start);
-    let pw = word.after;
-    let o = requests::read_options(line, pw);
-    let po = o.after;
-    let values = o.values;
-    let a = lacks(values[0], po);
-    let b = lacks(values[4], a);
-    let c = lacks(values[5], b);
-    let after = text::read_end(line, c);
-    Head {
-        out: requests::value_or(65536, values[1]),
-        mem: requests::value_or(MEMORY_WORDS as u64, values[2]),
-        form: requests::form_of(values[3]),
-        after,
-    }
+    let start = text::read_start(line)?;
+    let word = read_word(line, start)?;
+    let options = requests::read_options(line, word.after)?;
+    let o = options.value;
+    lacks(o.allowance)?;
+    lacks(o.edition)?;
+    lacks(o.engines)?;
+    text::read_end(line, options.after)?;
+    Ok(Head {
+        out: o.out.unwrap_or(65536),
+        mem: o.mem.unwrap_or(MEMORY_WORDS as u64),
+        form: requests::form_of(o.tokens.unwrap_or(0)),
+    })
 }
 
 // ---- what answers a night

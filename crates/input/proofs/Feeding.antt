@@ -39,11 +39,10 @@ module _ (from i : ℕ) (l : List ℕ) where
 -- ---- reading on
 
 until_append : (b : ℕ) (a c : List ℕ) → until b a ≡ length a → until b (a ++ c) ≡ length a + until b c
-unfolding until
 until_append b [] c h = rw zero-add
 until_append b (x ∷ a) c h = by_cases (ℕ_discrete x b)
-    (λ e. absurd (omega (arith, rw (until, eq-eqb x b e) at h)))
-    (λ e. rw (until, ne_eqb x b e, until_append b a c (omega (arith, rw (until, ne_eqb x b e) at h))) (omega arith))
+    (λ e. absurd (omega (arith, rw (eq-eqb x b e) at h)))
+    (λ e. rw (ne_eqb x b e, until_append b a c (omega (arith, rw (ne_eqb x b e) at h))) (omega arith))
 
 -- the first bytes stay as they are
 pub held_kept : {held : List ℕ} {n : ℕ} {buf buf' : List ℕ} → take n buf' ≡ take n buf → Held held n buf → Held held n buf'

@@ -87,7 +87,10 @@ fn line_end(buf: &[u8], from: usize, to: usize) -> usize
     requires { (from ≤ to) × (to ≤ length buf.now) }
     ensures { (result ≡ line_end from to buf.now) × (from ≤ result) × (result ≤ to) }
 {
-    from + text::find(&buf[from..to], 10)
+    match text::find(&buf[from..to], b'\n') {
+        Some(n) => from + n,
+        None => to,
+    }
 }
 
 // Moves buf[from..to] to the front.

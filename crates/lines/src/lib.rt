@@ -6,141 +6,140 @@ ghost use Rattle.std.specs.Prelude.{◌≡◌, ◌+◌, ◌*◌, ◌≤◌, leng
 ghost use Rattle.text.specs.Text.{ReadList};
 ghost use Rattle.ranges.specs.Ranges.{words_of, Answered};
 ghost use Rattle.replies.specs.Write.{Wrote};
-ghost use Rattle.lines.specs.Lines.{word_after, asks_list, second_after, lists_after, ReadLists, question_of, ReadQuestion, op_of, result_for, AnsweredIn, answer_text, ListReplied, Replied};
+ghost use Rattle.lines.specs.Lines.{word_after, asks_list, second_after, lists_after, ReadLists, ReadQuestion, result_for, AnsweredIn, answer_text, ListReplied, Replied};
 
 use refusal::Refusal;
 use sets::Op;
-use text::{Fault, Place, Read};
+use text::{Fault, Read};
 use tokens::Form;
 
-// Lists in the first of the words that are lent: how many the first has, how many both have; and the place after them.
+// What is asked about lists.
 #[derive(Clone, Copy)]
-struct ListsRead {
-    first: usize,
-    both: usize,
-    after: Place,
+enum Asks {
+    Ranges,
+    Cells,
+    Sets(Op),
 }
 
-// What is asked about the lists in the first of the words that are lent: the number of the word that asks; how many the first list has, how many both have; how
-// many places of output may be filled; how ids are to be written; and the line's end, or what is wrong with the line.
+// Lists in the first of the words that are lent: how many the first has, and how many both have.
 #[derive(Clone, Copy)]
-struct ListRead {
-    kind: u64,
+struct Extent {
     first: usize,
     both: usize,
+}
+
+// A question: what is asked, about which lists; how many places of output may be filled; and how ids are to be written.
+#[derive(Clone, Copy)]
+struct Asked {
+    asks: Asks,
+    lists: Extent,
     out: u64,
     form: Form,
-    after: Place,
 }
 
-// The word for what is asked about lists, counted from 0.
-fn read_word(line: &[u8], p: Place) -> Read
-    ensures { result ≡ word_after line.now p }
+// What a line asks about lists.
+#[tactic(auto, unfolding(crate::specs::Lines::word_after, text::specs::Ascii::ascii))]
+fn read_word(line: &[u8], at: usize) -> Result<Read<Asks>, Fault>
+    ensures { result ≡ word_after line.now at }
 {
     text::read_choice(
         line,
-        p,
+        at,
         b"ranges cells union common difference",
-        5,
+        &[
+            Asks::Ranges,
+            Asks::Cells,
+            Asks::Sets(Op::Union),
+            Asks::Sets(Op::Common),
+            Asks::Sets(Op::Difference),
+        ],
         Fault::UnknownKind,
     )
 }
 
-// Whether a line begins with such a word.
+// Whether a line asks about lists: its first word says so.
+#[tactic(auto, unfolding(crate::specs::Lines::asks_list))]
 fn asks_list(line: &[u8]) -> bool
     ensures { result ≡ asks_list line.now }
 {
-    let word = read_word(line, Place::At(0));
-    let after = word.after;
-    text::is_at(after)
+    read_word(line, 0).is_ok()
 }
 
 // The second list, into the words that are lent; none where one alone is asked about.
-fn read_second(line: &[u8], p: Place, kind: u64, words: &mut [u64]) -> Read
-    ensures { ReadList (second_after kind (length words.old) line.now p) result words.old words.new }
+#[tactic(auto, unfolding(crate::specs::Lines::second_after, text::specs::Text::words_with))]
+fn read_second(line: &[u8], at: usize, asks: Asks, words: &mut [u64]) -> Result<Read<u64>, Fault>
+    ensures { ReadList (second_after asks (length words.old) line.now at) result words.old words.new }
 {
-    if kind < 2 {
-        return Read { value: 0, after: p };
+    match asks {
+        Asks::Sets(_) => text::read_list(line, at, words),
+        Asks::Ranges | Asks::Cells => Ok(Read {
+            value: 0,
+            after: at,
+        }),
     }
-    text::read_list(line, p, words)
 }
 
 // The lists, one behind the other into the words that are lent.
-fn read_lists(line: &[u8], p: Place, kind: u64, words: &mut [u64]) -> ListsRead
-    ensures { ReadLists (lists_after kind (length words.old) line.now p) result words.old words.new }
+fn read_lists(line: &[u8], at: usize, asks: Asks, words: &mut [u64]) -> Result<Read<Extent>, Fault>
+    ensures { ReadLists (lists_after asks (length words.old) line.now at) result words.old words.new }
 {
-    let a = text::read_list(line, p, words);
+    let a = text::read_list(line, at, words)?;
     let first = a.value as usize;
-    let pa = a.after;
-    let b = read_second(line, pa, kind, &mut words[first..]);
-    let after = b.after;
-    ListsRead {
+    let b = read_second(line, a.after, asks, &mut words[first..])?;
+    let value = Extent {
         first,
         both: first + b.value as usize,
-        after,
-    }
+    };
+    Ok(Read {
+        value,
+        after: b.after,
+    })
 }
 
 // The question that a line is, its lists read into the words that are lent.
-fn read_question(line: &[u8], words: &mut [u64]) -> ListRead
-    ensures { ReadQuestion (question_of (length words.old) line.now) result words.old words.new }
+#[tactic(auto, unfolding(crate::specs::Lines::question_of, crate::specs::Lines::asked_first, crate::specs::Lines::lists_of, text::specs::Text::words_with))]
+fn read_question(line: &[u8], words: &mut [u64]) -> Result<Asked, Fault>
+    ensures { ReadQuestion (length words.old) line.now result words.old words.new }
 {
-    let start = text::read_start(line);
-    let word = read_word(line, start);
-    let pw = word.after;
-    let lists = read_lists(line, pw, word.value, words);
-    let pl = lists.after;
-    let o = requests::read_options(line, pl);
-    let po = o.after;
-    let values = o.values;
-    let after = text::read_end(line, po);
-    ListRead {
-        kind: word.value,
-        first: lists.first,
-        both: lists.both,
-        out: requests::value_or(65536, values[1]),
-        form: requests::form_of(values[3]),
-        after,
-    }
-}
-
-// Which leaves of two lists are asked for, by the place of the word among the last three.
-fn op_of(k: u64) -> Op
-    ensures { result ≡ op_of k }
-{
-    match k {
-        0 => Op::Union,
-        1 => Op::Common,
-        _ => Op::Difference,
-    }
+    let start = text::read_start(line)?;
+    let word = read_word(line, start)?;
+    let lists = read_lists(line, word.after, word.value, words)?;
+    let options = requests::read_options(line, lists.after)?;
+    text::read_end(line, options.after)?;
+    let o = options.value;
+    Ok(Asked {
+        asks: word.value,
+        lists: lists.value,
+        out: o.out.unwrap_or(65536),
+        form: requests::form_of(o.tokens.unwrap_or(0)),
+    })
 }
 
 // Answers with the output that is lent: its length is that which it is answered for.
-fn answer_for(kind: u64, a: &[u64], b: &[u64], out: &mut [u64]) -> Result<usize, Refusal>
-    ensures { Answered (result_for kind a.now b.now (length out.old)) result out.old out.new }
+#[tactic(auto, unfolding(crate::specs::Lines::result_for))]
+fn answer_for(asks: Asks, a: &[u64], b: &[u64], out: &mut [u64]) -> Result<usize, Refusal>
+    ensures { Answered (result_for asks a.now b.now (length out.old)) result out.old out.new }
 {
-    if kind == 0 {
-        return ranges::pairs(a, out);
+    match asks {
+        Asks::Ranges => ranges::pairs(a, out),
+        Asks::Cells => ranges::cells(a, out),
+        Asks::Sets(op) => sets::combine(op, a, b, out),
     }
-    if kind == 1 {
-        return ranges::cells(a, out);
-    }
-    sets::combine(op_of(kind - 2), a, b, out)
 }
 
 // Answers with as much of the output as is asked for; of the lists' words so many are the first's.
 fn answer_in(
-    kind: u64,
+    asks: Asks,
     lists: &[u64],
     first: usize,
-    asked: u64,
+    most: u64,
     out: &mut [u64],
 ) -> Result<usize, Refusal>
     requires { first ≤ length lists.now }
-    ensures { AnsweredIn kind (take first lists.now) (drop first lists.now) asked result out.old out.new }
+    ensures { AnsweredIn asks (take first lists.now) (drop first lists.now) most result out.old out.new }
 {
-    let o = (asked as usize).min(out.len());
-    answer_for(kind, &lists[..first], &lists[first..], &mut out[..o])
+    let o = (most as usize).min(out.len());
+    answer_for(asks, &lists[..first], &lists[first..], &mut out[..o])
 }
 
 // Writes an answer, with the numbers that stand in the output's first places.
@@ -163,18 +162,14 @@ fn answer_list(
     page: &mut [u8],
 ) -> usize
     requires { 17 * length out.old + 256 ≤ length page.old }
-    ensures { ListReplied number (question_of (length words.old) line.now) words.old words.new out.old out.new page.old result page.new }
+    ensures { ListReplied number line.now words.old words.new out.old out.new page.old result page.new }
 {
-    let q = read_question(line, words);
-    let after = q.after;
-    match after {
-        Place::At(_) => {
-            let both = q.both;
-            let a = answer_in(q.kind, &words[..both], q.first, q.out, out);
-            let form = q.form;
-            put_answer(form, a, out, page)
+    match read_question(line, words) {
+        Ok(q) => {
+            let a = answer_in(q.asks, &words[..q.lists.both], q.lists.first, q.out, out);
+            put_answer(q.form, a, out, page)
         }
-        Place::Bad(f) => replies::put_error(page, number, f),
+        Err(fault) => replies::put_error(page, number, fault),
     }
 }
 

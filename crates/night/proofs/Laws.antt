@@ -8,7 +8,7 @@ use native.Mathlib.Numerals.{add-one}
 use lib.ListN.{length, take, drop, get_or}
 use lib.Seq.{take_at, length-take-le}
 use Rattle.text.specs.declared.Fault.{Fault}
-use Rattle.text.specs.declared.Place.{Place}
+use Rattle.std.specs.Prelude.{Ok, Err}
 use Rattle.text.specs.Text.{is_silent}
 use Rattle.orders.specs.declared.Order.{Order}
 use Rattle.orders.specs.Orders.{serve_all}
@@ -16,31 +16,28 @@ use Rattle.orders.specs.Nights.{places_of}
 use Rattle.orders.proofs.Laws.{night_serves}
 use Rattle.orders.proofs.Nights.{places_fit, served_long}
 use Rattle.batch.specs.declared.Head.{Head}
-use Rattle.batch.specs.declared.OrderRead.{OrderRead}
 use Rattle.batch.specs.Batch.{is_head, head_of, order_of}
 use Rattle.night.specs.declared.Heard.{Heard}
-use Rattle.night.specs.Night.{heard_at, head_heard, order_heard, line_heard, ServedFirst}
+use Rattle.night.specs.Night.{head_heard, order_heard, line_heard, ServedFirst}
 
 -- ---- lines
 
 module _ (line : List ℕ) where
-  module _ (h : Head) (e : h ≡ head_of line) where
-    pub head_right : (at : ℕ) → h.after ≡ Place.At at → Heard.Begin h ≡ head_heard line
-    unfolding head_heard heard_at
-    head_right at a = rw (head_heard, ← e, a)
+  pub head_right : (h : Head) → Ok h ≡ head_of line → Heard.Begin h ≡ head_heard line
+  unfolding head_heard
+  head_right h e = rw (head_heard, ← e)
 
-    pub head_wrong : (f : Fault) → h.after ≡ Place.Bad f → Heard.Wrong f ≡ head_heard line
-    unfolding head_heard heard_at
-    head_wrong f a = rw (head_heard, ← e, a)
+  pub head_wrong : (f : Fault) → Err f ≡ head_of line → Heard.Wrong f ≡ head_heard line
+  unfolding head_heard
+  head_wrong f e = rw (head_heard, ← e)
 
-  module _ (o : OrderRead) (e : o ≡ order_of line) where
-    pub order_right : (at : ℕ) → o.after ≡ Place.At at → Heard.Take o.order ≡ order_heard line
-    unfolding order_heard heard_at
-    order_right at a = rw (order_heard, ← e, a)
+  pub order_right : (o : Order) → Ok o ≡ order_of line → Heard.Take o ≡ order_heard line
+  unfolding order_heard
+  order_right o e = rw (order_heard, ← e)
 
-    pub order_wrong : (f : Fault) → o.after ≡ Place.Bad f → Heard.Wrong f ≡ order_heard line
-    unfolding order_heard heard_at
-    order_wrong f a = rw (order_heard, ← e, a)
+  pub order_wrong : (f : Fault) → Err f ≡ order_of line → Heard.Wrong f ≡ order_heard line
+  unfolding order_heard
+  order_wrong f e = rw (order_heard, ← e)
 
   pub line_silent : (first : Bool) → is_silent line ≡ true → Heard.Silent ≡ line_heard line first
   unfolding line_heard

@@ -1,7 +1,6 @@
 -- What the program `night` hears in its input, and what it does with the orders.
-use Rattle.std.specs.Prelude.{◌≡◌, Bool, true, false, ◌&&◌, List, ◌++◌, ℕ, take, drop}
+use Rattle.std.specs.Prelude.{◌≡◌, Bool, true, false, ◌&&◌, List, ◌++◌, ℕ, take, drop, Ok, Err}
 use Rattle.text.specs.declared.Fault.{Fault}
-use Rattle.text.specs.declared.Place.{Place}
 use Rattle.text.specs.Text.{is_silent}
 use Rattle.input.specs.declared.Feed.{Feed}
 use Rattle.input.specs.declared.Found.{Found}
@@ -19,16 +18,11 @@ is_end Found.TooLong = false
 is_end Found.End = true
 is_end Found.Failed = false
 
--- with the place after what was read, or what is wrong there
-unfoldable pub heard_at : Place → Heard → Heard
-heard_at (Place.At at) h = h
-heard_at (Place.Bad f) h = Heard.Wrong f
-
 unfoldable pub head_heard : List ℕ → Heard
-head_heard line = heard_at (head_of line).after (Heard.Begin (head_of line))
+head_heard line = elim (head_of line) [ Ok head ↦ Heard.Begin head | Err fault ↦ Heard.Wrong fault ]
 
 unfoldable pub order_heard : List ℕ → Heard
-order_heard line = heard_at (order_of line).after (Heard.Take (order_of line).order)
+order_heard line = elim (order_of line) [ Ok order ↦ Heard.Take order | Err fault ↦ Heard.Wrong fault ]
 
 -- the line before the orders is the first that is not silent, or there is none
 unfoldable pub line_heard : List ℕ → Bool → Heard

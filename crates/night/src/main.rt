@@ -11,8 +11,10 @@ ghost use Rattle.night.specs.Night.{is_end, head_heard, order_heard, line_heard,
 use batch::Head;
 use input::{Feed, Found, Streams};
 use orders::{NIGHT_MOST, Order};
-use text::{Fault, Place};
+use run::{MEMORY_WORDS, RegionCoverer};
+use text::Fault;
 use tokens::Form;
+use totals::Totals;
 
 // What a line is: nothing, the line before the orders, or an order; or what is wrong with it.
 #[derive(Clone, Copy)]
@@ -60,11 +62,9 @@ fn is_end(found: Found) -> bool
 fn hear_head(line: &[u8]) -> Heard
     ensures { result ≡ head_heard line.now }
 {
-    let h = batch::read_head(line);
-    let after = h.after;
-    match after {
-        Place::At(_) => Heard::Begin(h),
-        Place::Bad(f) => Heard::Wrong(f),
+    match batch::read_head(line) {
+        Ok(head) => Heard::Begin(head),
+        Err(fault) => Heard::Wrong(fault),
     }
 }
 
@@ -72,12 +72,9 @@ fn hear_head(line: &[u8]) -> Heard
 fn hear_order(line: &[u8]) -> Heard
     ensures { result ≡ order_heard line.now }
 {
-    let o = batch::read_order(line);
-    let after = o.after;
-    let order = o.order;
-    match after {
-        Place::At(_) => Heard::Take(order),
-        Place::Bad(f) => Heard::Wrong(f),
+    match batch::read_order(line) {
+        Ok(order) => Heard::Take(order),
+        Err(fault) => Heard::Wrong(fault),
     }
 }
 
@@ -230,14 +227,39 @@ fn say_wrong(streams: Streams, number: u64, fault: Fault, page: &mut [u8])
     input::say(streams, &page[..length]);
 }
 
+// A place for an order.
+fn blank() -> Order {
+    Order {
+        number: 0,
+        count: 0,
+        steps: 0,
+        aside: Totals::NONE,
+        fast: false,
+        inner: false,
+        cell: true,
+        id: 0,
+        cap: requests::cap_of(0, 0, 0, 0),
+        coverer: RegionCoverer {
+            min_level: 0,
+            max_level: 0,
+            level_mod: 0,
+            max_cells: 0,
+            edition: 0,
+        },
+        allowance: 0,
+    }
+}
+
 // Line after line until the input ends, then the night; nothing is served where something is wrong with a line, or there are too many orders.
 fn run(streams: Streams, buf: &mut [u8], mem: &mut [u64], out: &mut [u64], page: &mut [u8])
     requires { 17 * length out.old + 256 ≤ length page.old }
 {
-    let mut head = batch::read_head(b"night");
-    let blank = batch::read_order(b"");
-    let order = blank.order;
-    let mut orders = [order; 256];
+    let mut head = Head {
+        out: 65536,
+        mem: MEMORY_WORDS as u64,
+        form: Form::Digits,
+    };
+    let mut orders = [blank(); 256];
     let mut n: usize = 0;
     let mut first = true;
     let mut next = 0;

@@ -13,10 +13,9 @@ use hilbert::FaceIj;
 use input::{Feed, Found, Streams};
 use point::Point;
 use region::Region;
-use requests::CovererRead;
 use run::{MEMORY_WORDS, RegionCoverer};
 use sight::Sight;
-use text::{Base, Fault, Place, Read};
+use text::{Base, Fault, Read};
 use tokens::Form;
 
 // Room for the longest answer: 65,536 ids of 17 bytes each, and what stands before and after them.
@@ -27,12 +26,14 @@ const NOTHING: u64 = 0xffff_ffff_ffff_ffff;
 
 // The questions by their numbers: 0 to 3 are about numbers and have a hexadecimal answer, 4 to 6 a decimal one; 7 to 11 are about a cell and have a
 // decimal answer, 12 to 14 a hexadecimal one; the answer to 15 to 20 is a list of cells; 21 to 23 are about a region and a cell and have decimal answers.
-fn read_question(line: &[u8], p: Place) -> Read {
+fn read_question(line: &[u8], at: usize) -> Result<Read<u64>, Fault> {
     text::read_choice(
         line,
-        p,
+        at,
         b"sqrt st_to_uv uv_to_st cellid_from_point valid level is_unit common_ancestor_level cell_contains_point cap_contains_cell cap_intersects_cell face_ij_orientation cell_cap_bound vertices edges vertex_neighbors bound starts normalize denormalize normalize_covering region_contains_cell region_intersects_cell region_look",
-        24,
+        &[
+            0, 1, 2, 3, 4, 5, 6, 7, 8, 9, 10, 11, 12, 13, 14, 15, 16, 17, 18, 19, 20, 21, 22, 23,
+        ],
         Fault::UnknownKind,
     )
 }
@@ -211,70 +212,61 @@ fn answer_numbers(k: u64, a: u64, g: Cap, last: u64, level: u64, page: &mut Page
     0
 }
 
-fn read_level(k: u64, line: &[u8], p: Place) -> Read {
+fn read_level(k: u64, line: &[u8], at: usize) -> Result<Read<u64>, Fault> {
     if k == 15 {
-        return text::read_number(line, p, Base::Ten, u64::MAX);
+        return text::read_number(line, at, Base::Ten, u64::MAX);
     }
-    Read { value: 0, after: p }
+    Ok(Read {
+        value: 0,
+        after: at,
+    })
 }
 
-// Ends an answer so long, or writes what is wrong in its stead.
-fn finish(page: &mut Page, number: u64, end: Place, n: usize) -> usize {
-    match end {
-        Place::At(_) => {
-            if 0 < n {
-                return replies::put(page, n, b"\n");
-            }
-            replies::put_error(page, number, Fault::OutsideDomain)
-        }
-        Place::Bad(f) => replies::put_error(page, number, f),
-    }
-}
-
-fn ask_numbers(k: u64, line: &[u8], p: Place, number: u64, page: &mut Page) -> usize {
+fn ask_numbers(k: u64, line: &[u8], at: usize, page: &mut Page) -> Result<usize, Fault> {
     let mut v = [0u64; 5];
     let count = fields_of(k);
-    let after = text::read_numbers(line, p, Base::Sixteen, &mut v[..count]);
-    let level = read_level(k, line, after);
-    let pl = level.after;
-    let end = text::read_end(line, pl);
+    let after = text::read_numbers(line, at, Base::Sixteen, &mut v[..count])?;
+    let level = read_level(k, line, after)?;
+    text::read_end(line, level.after)?;
     let g = requests::cap_of(v[0], v[1], v[2], v[3]);
-    let n = answer_numbers(k, v[0], g, v[count - 1], level.value, page);
-    finish(page, number, end, n)
+    Ok(answer_numbers(k, v[0], g, v[count - 1], level.value, page))
 }
 
 // ---- the numbers of a request
 
 // `MIN MOD`.
-fn read_levels(line: &[u8], p: Place) -> CovererRead {
-    let mut n = [0u64; 2];
-    let after = text::read_numbers(line, p, Base::Ten, &mut n);
-    let coverer = RegionCoverer {
-        min_level: n[0],
+fn read_levels(line: &[u8], at: usize) -> Result<Read<RegionCoverer>, Fault> {
+    let n = text::read_array::<2>(line, at, Base::Ten)?;
+    let [min_level, level_mod] = n.value;
+    let value = RegionCoverer {
+        min_level,
         max_level: 30,
-        level_mod: n[1],
+        level_mod,
         max_cells: 8,
         edition: 1,
     };
-    CovererRead { coverer, after }
+    Ok(Read {
+        value,
+        after: n.after,
+    })
 }
 
 // The numbers of a request, as many of them as the question has.
-fn read_coverer(k: u64, line: &[u8], p: Place) -> CovererRead {
+fn read_coverer(k: u64, line: &[u8], at: usize) -> Result<Read<RegionCoverer>, Fault> {
     match k {
-        17 => requests::read_coverer(line, p),
-        19 => read_levels(line, p),
-        20 => requests::read_coverer(line, p),
-        _ => CovererRead {
-            coverer: RegionCoverer {
+        17 => requests::read_coverer(line, at),
+        19 => read_levels(line, at),
+        20 => requests::read_coverer(line, at),
+        _ => Ok(Read {
+            value: RegionCoverer {
                 min_level: 0,
                 max_level: 30,
                 level_mod: 1,
                 max_cells: 8,
                 edition: 1,
             },
-            after: p,
-        },
+            after: at,
+        }),
     }
 }
 
@@ -296,14 +288,14 @@ fn list_words() -> [u64; 16384] {
 }
 
 // The id of a cell, that of a face where the question has none.
-fn read_cell(k: u64, line: &[u8], p: Place) -> Read {
+fn read_cell(k: u64, line: &[u8], at: usize) -> Result<Read<u64>, Fault> {
     if k < 18 {
-        return Read {
+        return Ok(Read {
             value: 0x1000_0000_0000_0000,
-            after: p,
-        };
+            after: at,
+        });
     }
-    text::read_number(line, p, Base::Sixteen, u64::MAX)
+    text::read_number(line, at, Base::Sixteen, u64::MAX)
 }
 
 fn put_bound(g: Region<'_>, page: &mut Page) -> usize
@@ -391,20 +383,14 @@ fn answer_region(k: u64, c: RegionCoverer, g: Region<'_>, last: u64, page: &mut 
     }
 }
 
-fn ask_region(k: u64, line: &[u8], p: Place, number: u64, page: &mut Page) -> usize {
-    let c = read_coverer(k, line, p);
-    let pc = c.after;
+fn ask_region(k: u64, line: &[u8], at: usize, page: &mut Page) -> Result<usize, Fault> {
+    let c = read_coverer(k, line, at)?;
     let mut list = list_words();
-    let g = requests::read_region(line, pc, &mut list);
-    let pg = g.after;
-    let id = read_cell(k, line, pg);
-    let pi = id.after;
-    let end = text::read_end(line, pi);
-    let coverer = c.coverer;
-    let shape = g.shape;
-    let region = requests::region_in(shape, &list);
-    let n = answer_region(k, coverer, region, id.value, page);
-    finish(page, number, end, n)
+    let g = requests::read_region(line, c.after, &mut list)?;
+    let id = read_cell(k, line, g.after)?;
+    text::read_end(line, id.after)?;
+    let region = g.value.region(&list);
+    Ok(answer_region(k, c.value, region, id.value, page))
 }
 
 // ---- questions about a list
@@ -435,7 +421,13 @@ fn put_normal(ids: &mut [u64; 4096], n: usize, page: &mut Page) -> usize
 }
 
 // Lays the list over the output.
-fn lay(k: u64, c: RegionCoverer, ids: &mut [u64; 4096], n: usize, out: &mut [u64; 65536]) -> Option<usize>
+fn lay(
+    k: u64,
+    c: RegionCoverer,
+    ids: &mut [u64; 4096],
+    n: usize,
+    out: &mut [u64; 65536],
+) -> Option<usize>
     requires { NumbersFit c × Cells n ids.old }
 {
     match k {
@@ -494,35 +486,40 @@ fn places() -> [u64; 65536] {
     [0; 65536]
 }
 
-fn ask_list(k: u64, line: &[u8], p: Place, number: u64, page: &mut Page) -> usize {
-    let c = read_coverer(k, line, p);
-    let pc = c.after;
+fn ask_list(k: u64, line: &[u8], at: usize, page: &mut Page) -> Result<usize, Fault> {
+    let c = read_coverer(k, line, at)?;
     let mut ids = words();
-    let list = text::read_list(line, pc, &mut ids);
-    let pl = list.after;
-    let end = text::read_end(line, pl);
-    let coverer = c.coverer;
-    let n = answer_list(k, coverer, &mut ids, list.value as usize, page);
-    finish(page, number, end, n)
+    let list = text::read_list(line, c.after, &mut ids)?;
+    text::read_end(line, list.after)?;
+    Ok(answer_list(k, c.value, &mut ids, list.value as usize, page))
 }
 
 // ---- line after line
+
+// Writes the answer to a question but for the newline, and tells how long it is: 0 outside the domain.
+fn ask(line: &[u8], page: &mut Page) -> Result<usize, Fault> {
+    let start = text::read_start(line)?;
+    let question = read_question(line, start)?;
+    let k = question.value;
+    let at = question.after;
+    if k < 16 {
+        return ask_numbers(k, line, at, page);
+    }
+    if k < 18 || 20 < k {
+        return ask_region(k, line, at, page);
+    }
+    ask_list(k, line, at, page)
+}
 
 fn answer_line(line: &[u8], number: u64, page: &mut Page) -> usize {
     if text::is_silent(line) {
         return 0;
     }
-    let start = text::read_start(line);
-    let asked = read_question(line, start);
-    let k = asked.value;
-    let p = asked.after;
-    if k < 16 {
-        return ask_numbers(k, line, p, number, page);
+    match ask(line, page) {
+        Ok(0) => replies::put_error(page, number, Fault::OutsideDomain),
+        Ok(n) => replies::put(page, n, b"\n"),
+        Err(fault) => replies::put_error(page, number, fault),
     }
-    if k < 18 || 20 < k {
-        return ask_region(k, line, p, number, page);
-    }
-    ask_list(k, line, p, number, page)
 }
 
 fn answer(f: Feed, number: u64, answered: u64, buf: &[u8], page: &mut Page) -> usize

@@ -1,14 +1,12 @@
--- A request of `cover` as a line: `KIND MIN MAX MOD MAX_CELLS REGION [allow=N] [out=N] [mem=N] [tokens=N] [edition=N] [engine=WORD]`, the options in any
--- order.
-use Rattle.std.specs.Prelude.{◌≡◌, true, false, List, [], ◌∷◌, ℕ, ◌+◌, ltb, eqb, Float, length, get_or, take, drop, set}
+-- What a line of `cover` asks, `KIND MIN MAX MOD MAX_CELLS REGION [options]`, part by part: each comes with the place after it, or else with what is wrong.
+use Rattle.std.specs.Prelude.{◌≡◌, ℕ, zero, suc, ◌+◌, List, [], ◌∷◌, ◌==◌, length, take, position, slice_index, slice_range, Float, Option, Some, None, unwrap_or, ok_or, Result, Ok, Err, if◌then◌else◌}
 use Rattle.std.specs.Float.{binary64}
 use Rattle.std.specs.Float.Ieee.{of_bits}
 use Rattle.text.specs.Ascii.{ascii}
 use Rattle.text.specs.declared.Base.{Base}
 use Rattle.text.specs.declared.Fault.{Fault}
-use Rattle.text.specs.declared.Place.{Place}
 use Rattle.text.specs.declared.Read.{Read}
-use Rattle.text.specs.Text.{until, field_at, bytes_of, is_there, place_among, chosen, number_in, number_after, numbers_after, list_after, words_with, choice_after, end_after, start_of}
+use Rattle.text.specs.Text.{and_then, field_at, choice_of, number_in, number_after, array_after, list_after, words_with, choice_after, end_after, start_of}
 use Rattle.point.specs.declared.Point.{Point}
 use Rattle.cell.specs.declared.Cap.{Cap}
 use Rattle.region.specs.Region.{Area, cap_area, cell_area, list_area}
@@ -17,166 +15,129 @@ use Rattle.run.specs.Run.{memory_words}
 use Rattle.run.specs.Editions.{with_edition}
 use Rattle.covering.specs.declared.Ending.{Ending}
 use Rattle.covering.specs.declared.Kind.{Kind}
+use Rattle.queue.specs.declared.Engine.{Engine}
 use Rattle.selftest.specs.declared.Engines.{Engines}
-use Rattle.selftest.specs.Selftest.{engines_of}
 use Rattle.tokens.specs.declared.Form.{Form}
-use Rattle.requests.specs.declared.line.CovererRead.{CovererRead}
-use Rattle.requests.specs.declared.line.Four.{Four}
-use Rattle.requests.specs.declared.line.Shape.{Shape}
-use Rattle.requests.specs.declared.line.RegionRead.{RegionRead}
-use Rattle.requests.specs.declared.line.Options.{Options}
 use Rattle.requests.specs.declared.line.Asked.{Asked}
+use Rattle.requests.specs.declared.line.Key.{Key}
+use Rattle.requests.specs.declared.line.Named.{Named}
+use Rattle.requests.specs.declared.line.Options.{Options}
+use Rattle.requests.specs.declared.line.Shape.{Shape}
 
 -- ---- KIND: a list of the outer run, the same of the inner run, or the fast covering
 
-abbrev pub kinds : List ℕ
-kinds = ascii "covering cellunion raw interior icellunion iraw fast"
-
--- what each asks for, in their order; the last asks for the fast covering
-abbrev pub run_kinds : List Kind
-run_kinds =
+abbrev pub kinds : List Kind
+kinds =
     Kind.Outer Ending.Covering
     ∷ Kind.Outer Ending.CellUnion
     ∷ Kind.Outer Ending.Raw
     ∷ Kind.Inner Ending.Covering
     ∷ Kind.Inner Ending.CellUnion
     ∷ Kind.Inner Ending.Raw
+    ∷ Kind.Fast
     ∷ []
 
-unfoldable pub kind_of : ℕ → Kind
-kind_of k = get_or run_kinds k Kind.Fast
+unfoldable pub kind_after : List ℕ → ℕ → Result (Read Kind) Fault
+kind_after l at = choice_after (ascii "covering cellunion raw interior icellunion iraw fast") kinds Fault.UnknownKind l at
 
 -- ---- MIN MAX MOD MAX_CELLS, of edition 1: another is an option's to name
 
--- four numbers, and the place after them
-unfoldable pub four_after : Base → List ℕ → Place → Four
-four_after base l p = let n = numbers_after base 4 l p in record { values = n.values; after = n.after }
+abbrev pub coverer_of : List ℕ → RegionCoverer
+coverer_of n = record { min_level = slice_index n 0; max_level = slice_index n 1; level_mod = slice_index n 2; max_cells = slice_index n 3; edition = 1 }
 
-unfoldable pub coverer_after : List ℕ → Place → CovererRead
-coverer_after l p =
-    let n = four_after Base.Ten l p in
-    record {
-      coverer =
-          record {
-            min_level = get_or n.values 0 0;
-            max_level = get_or n.values 1 0;
-            level_mod = get_or n.values 2 0;
-            max_cells = get_or n.values 3 0;
-            edition = 1;
-          };
-      after = n.after;
-    }
+unfoldable pub coverer_after : List ℕ → ℕ → Result (Read RegionCoverer) Fault
+coverer_after l at = and_then (array_after 4 Base.Ten l at) (λ n. Ok (record { value = coverer_of n.value; after = n.after }))
 
 -- ---- REGION: `cap X Y Z R`, `cell ID` or `list COUNT ID...`
-
--- what is asked about, and the place after it
-pub record AreaRead : Type 0 where
-  pub area : Area
-  pub after : Place
 
 -- "Floats are the 16 hex digits of their bits"
 abbrev pub float : ℕ → Float
 float b = of_bits binary64 b
 
-unfoldable pub point_of : ℕ → ℕ → ℕ → Point
+abbrev pub point_of : ℕ → ℕ → ℕ → Point
 point_of x y z = record { x = float x; y = float y; z = float z }
 
 unfoldable pub cap_of : ℕ → ℕ → ℕ → ℕ → Cap
 cap_of x y z r = record { center = point_of x y z; radius = float r }
 
-unfoldable pub cap_after : List ℕ → Place → AreaRead
-cap_after l p =
-    let v = four_after Base.Sixteen l p in
-    record { area = cap_area (cap_of (get_or v.values 0 0) (get_or v.values 1 0) (get_or v.values 2 0) (get_or v.values 3 0)); after = v.after }
+unfoldable pub cap_after : List ℕ → ℕ → Result (Read Cap) Fault
+cap_after l at = and_then (array_after 4 Base.Sixteen l at) (λ n. Ok (record { value = cap_of (slice_index n.value 0) (slice_index n.value 1) (slice_index n.value 2) (slice_index n.value 3); after = n.after }))
 
-unfoldable pub cell_after : List ℕ → Place → AreaRead
-cell_after l p = let id = number_after Base.Sixteen 0xffff_ffff_ffff_ffff l p in record { area = cell_area id.value; after = id.after }
+abbrev pub cell_after : List ℕ → ℕ → Result (Read ℕ) Fault
+cell_after l at = number_after Base.Sixteen 0xffff_ffff_ffff_ffff l at
 
--- at most so many ids
-unfoldable pub ids_after : ℕ → List ℕ → Place → AreaRead
-ids_after most l p = let n = list_after most l p in record { area = list_area n.values; after = n.after }
+-- its first word
+unfoldable pub named_after : List ℕ → ℕ → Result (Read Named) Fault
+named_after l at = choice_after (ascii "cap cell list") (Named.Cap ∷ Named.Cell ∷ Named.List ∷ []) Fault.UnknownRegion l at
 
-abbrev pub shapes : List ℕ
-shapes = ascii "cap cell list"
+-- what follows that word; of a list at most so many ids
+unfoldable pub area_named : ℕ → List ℕ → ℕ → Named → Result (Read Area) Fault
+area_named most l at Named.Cap = and_then (cap_after l at) (λ c. Ok (record { value = cap_area c.value; after = c.after }))
+area_named most l at Named.Cell = and_then (cell_after l at) (λ id. Ok (record { value = cell_area id.value; after = id.after }))
+area_named most l at Named.List = let n = list_after most l at in and_then n.after (λ end. Ok (record { value = list_area n.values; after = end }))
 
-unfoldable pub area_after : ℕ → List ℕ → Place → AreaRead
-area_after most l p =
-    let which = choice_after shapes 3 Fault.UnknownRegion l p in
-    elim (eqb which.value 0) [
-      | true ↦ cap_after l which.after
-      | false ↦ elim (eqb which.value 1) [
-        | true ↦ cell_after l which.after
-        | false ↦ ids_after most l which.after
-      ]
-    ]
+unfoldable pub area_after : ℕ → List ℕ → ℕ → Result (Read Area) Fault
+area_after most l at = and_then (named_after l at) (λ named. area_named most l named.after named.value)
+
+-- the ids that a list has, from a fault on 0; none of any other region, and where a fault stands before them
+unfoldable pub ids_named : ℕ → List ℕ → ℕ → Named → List ℕ
+ids_named most l at Named.Cap = []
+ids_named most l at Named.Cell = []
+ids_named most l at Named.List = (list_after most l at).values
+
+unfoldable pub ids_after : ℕ → List ℕ → ℕ → List ℕ
+ids_after most l at = elim (named_after l at) [ Ok named ↦ ids_named most l named.after named.value | Err fault ↦ [] ]
 
 -- ---- options: the allowance, the places of output, the words of working memory, whether ids are written as tokens, the edition, the engines that answer
 
-abbrev pub keys : List ℕ
-keys = ascii "allow= out= mem= tokens= edition= engine="
+-- an option that was not given before
+abbrev pub once : {A : Type 0} → Option A → Result A Fault → Result (Option A) Fault
+once (Some given) r = Err Fault.RepeatedOption
+once None r = and_then r (λ x. Ok (Some x))
 
--- the words for engines, in the order of their numbers
-abbrev pub engine_words : List ℕ
-engine_words = ascii "quick plain both"
+-- the engines that a word names
+unfoldable pub engine_in : List ℕ → Result Engines Fault
+engine_in w = ok_or (choice_of (Engines.One Engine.Quick ∷ Engines.One Engine.Plain ∷ Engines.Both ∷ []) (ascii "quick plain both") 0 w) Fault.UnknownEngine
 
--- the most that each of the others may be
-unfoldable pub most_of : ℕ → ℕ
-most_of k = get_or (4294967295 ∷ 65536 ∷ 8192 ∷ 1 ∷ []) k 4294967295
+-- one option more, with the bytes after its key: each has a most that it may be, but for the engines' word
+unfoldable pub with_option : Key → List ℕ → Options → Result Options Fault
+with_option Key.Allow w o = and_then (once o.allowance (number_in Base.Ten 4294967295 w)) (λ x. Ok (record o { allowance = x }))
+with_option Key.Out w o = and_then (once o.out (number_in Base.Ten 65536 w)) (λ x. Ok (record o { out = x }))
+with_option Key.Mem w o = and_then (once o.mem (number_in Base.Ten 8192 w)) (λ x. Ok (record o { mem = x }))
+with_option Key.Tokens w o = and_then (once o.tokens (number_in Base.Ten 1 w)) (λ x. Ok (record o { tokens = x }))
+with_option Key.Edition w o = and_then (once o.edition (number_in Base.Ten 4294967295 w)) (λ x. Ok (record o { edition = x }))
+with_option Key.Engine w o = and_then (once o.engines (engine_in w)) (λ x. Ok (record o { engines = x }))
 
--- what stands for an option that is not given: more than any may be
-abbrev pub none : ℕ
-none = 0xffff_ffff_ffff_ffff
+abbrev pub keys : List Key
+keys = Key.Allow ∷ Key.Out ∷ Key.Mem ∷ Key.Tokens ∷ Key.Edition ∷ Key.Engine ∷ []
 
-unfoldable pub value_or : ℕ → ℕ → ℕ
-value_or default v = elim (eqb v none) [ true ↦ default | false ↦ v ]
+-- the option that a field is: a key, which ends before its first = (61), and a value
+unfoldable pub option_of : List ℕ → Options → Result Options Fault
+option_of w o =
+    and_then (ok_or (position (λ b. b == 61) w) Fault.ExtraField) (λ sign.
+    and_then (ok_or (choice_of keys (ascii "allow out mem tokens edition engine") 0 (take sign w)) Fault.ExtraField) (λ key.
+    with_option key (slice_range w (sign + 1) (length w)) o))
 
--- how ids are written: tokens where 1 is given, else sixteen digits
-unfoldable pub form_of : ℕ → Form
-form_of v = elim (eqb v 1) [ true ↦ Form.Token | false ↦ Form.Digits ]
-
--- the number of the engines that a word names
-unfoldable pub engine_in : ℕ → List ℕ → Read
-engine_in next w = chosen 3 Fault.UnknownEngine (place_among 3 engine_words 0 w) next
-
--- what the bytes after the k-th key give: for engine= the place of a word, for any other a number
-unfoldable pub value_in : ℕ → ℕ → List ℕ → Read
-value_in k next w = elim (ltb k 5) [ true ↦ number_in Base.Ten (most_of k) next w | false ↦ engine_in next w ]
-
--- a fault among the options
-unfoldable pub bad_option : Options → Fault → Options
-bad_option o f = record { values = o.values; after = Place.Bad f }
-
--- the k-th option, with the bytes after its key; it is given once
-unfoldable pub option_given : ℕ → List ℕ → ℕ → Options → Options
-option_given k w next o =
-    let n = value_in k next w in
-    elim (eqb (get_or o.values k 0) none) [
-      | true ↦ record { values = set o.values k n.value; after = n.after }
-      | false ↦ bad_option o Fault.RepeatedOption
-    ]
-
--- the option that a field is: a key, which ends with its first = (61), and a value
-unfoldable pub option_of : List ℕ → ℕ → Options → Options
-option_of w next o = elim (ltb (until 61 w) (length w)) [
-  | false ↦ bad_option o Fault.ExtraField
-  | true ↦
-      let k = place_among 6 keys 0 (take (until 61 w + 1) w) in
-      elim (ltb k 6) [ true ↦ option_given k (drop (until 61 w + 1) w) next o | false ↦ bad_option o Fault.ExtraField ]
+-- so many fields at most
+unfoldable pub options_from : ℕ → List ℕ → ℕ → Options → Result (Read Options) Fault
+options_from zero l at o = Ok (record { value = o; after = at })
+options_from (suc n) l at o = elim (field_at l at) [
+  | None ↦ Ok (record { value = o; after = at })
+  | Some f ↦ and_then (option_of (slice_range l f.start f.end) o) (options_from n l f.end)
 ]
 
--- one option more, if there is one
-unfoldable pub option_from : List ℕ → Place → Options → Options
-option_from l (Place.Bad f) o = o
-option_from l (Place.At at) o = elim (is_there (field_at l at)) [ true ↦ option_of (bytes_of l (field_at l at)) (field_at l at).end o | false ↦ o ]
-
-abbrev pub next_option : List ℕ → Options → Options
-next_option l o = option_from l o.after o
+abbrev pub no_options : Options
+no_options = record { allowance = None; out = None; mem = None; tokens = None; edition = None; engines = None }
 
 -- six options at most; a seventh field is a fault, and which it is is told by its own turn
-unfoldable pub options_after : List ℕ → Place → Options
-options_after l p = next_option l (next_option l (next_option l (next_option l (next_option l (next_option l (next_option l (record { values = none ∷ none ∷ none ∷ none ∷ none ∷ none ∷ []; after = p })))))))
+unfoldable pub options_after : List ℕ → ℕ → Result (Read Options) Fault
+options_after l at = options_from 7 l at no_options
 
--- ---- what a line asks: one part after another; the place after it is a fault's where the line is no request
+-- how ids are written: tokens where 1 is given, else sixteen digits
+abbrev pub form_of : ℕ → Form
+form_of v = if v == 1 then Form.Token else Form.Digits
+
+-- ---- what a line asks: one part after another
 
 pub record Wish : Type 0 where
   pub kind : Kind
@@ -187,26 +148,36 @@ pub record Wish : Type 0 where
   pub mem : ℕ
   pub form : Form
   pub engines : Engines
-  pub after : Place
+
+abbrev pub wish_with : Kind → RegionCoverer → Area → Options → Wish
+wish_with kind c area o = record {
+  kind = kind;
+  coverer = with_edition c (unwrap_or o.edition 1);
+  area = area;
+  allowance = unwrap_or o.allowance 4294967295;
+  out = unwrap_or o.out 65536;
+  mem = unwrap_or o.mem memory_words;
+  form = form_of (unwrap_or o.tokens 0);
+  engines = unwrap_or o.engines (Engines.One Engine.Quick);
+}
 
 -- of a list at most so many ids
-unfoldable pub wish_of : ℕ → List ℕ → Wish
+unfoldable pub wish_of : ℕ → List ℕ → Result Wish Fault
 wish_of most l =
-    let word = choice_after kinds 7 Fault.UnknownKind l (start_of l) in
-    let c = coverer_after l word.after in
-    let g = area_after most l c.after in
-    let o = options_after l g.after in
-    record {
-      kind = kind_of word.value;
-      coverer = with_edition c.coverer (value_or 1 (get_or o.values 4 0));
-      area = g.area;
-      allowance = value_or 4294967295 (get_or o.values 0 0);
-      out = value_or 65536 (get_or o.values 1 0);
-      mem = value_or memory_words (get_or o.values 2 0);
-      form = form_of (get_or o.values 3 0);
-      engines = engines_of (value_or 0 (get_or o.values 5 0));
-      after = end_after l o.after;
-    }
+    and_then (start_of l) (λ start.
+    and_then (kind_after l start) (λ kind.
+    and_then (coverer_after l kind.after) (λ c.
+    and_then (area_after most l c.after) (λ g.
+    and_then (options_after l g.after) (λ o.
+    and_then (end_after l o.after) (λ _. Ok (wish_with kind.value c.value g.value o.value)))))))
+
+-- where its region begins, if nothing is wrong before
+unfoldable pub region_at : List ℕ → Result ℕ Fault
+region_at l = and_then (start_of l) (λ start. and_then (kind_after l start) (λ kind. and_then (coverer_after l kind.after) (λ c. Ok c.after)))
+
+-- the ids of its list, from a fault on 0: these are read even where a fault stands behind them
+unfoldable pub ids_of : ℕ → List ℕ → List ℕ
+ids_of most l = elim (region_at l) [ Ok at ↦ ids_after most l at | Err fault ↦ [] ]
 
 -- ---- as the functions have it: a region's shape, with the ids of a list in the first of the words that are lent
 
@@ -215,35 +186,26 @@ shape_of (cap_area c) = Shape.Cap c
 shape_of (cell_area own) = Shape.Cell own
 shape_of (list_area ids) = Shape.List (length ids)
 
-unfoldable pub ids_of : Area → List ℕ
-ids_of (cap_area c) = []
-ids_of (cell_area own) = []
-ids_of (list_area ids) = ids
-
 -- how many of the words a shape's ids are
-unfoldable pub held : Shape → ℕ
+abbrev pub held : Shape → ℕ
 held (Shape.Cap c) = 0
 held (Shape.Cell own) = 0
 held (Shape.List n) = n
 
 -- the area of a shape, with the words
-unfoldable pub area_in : Shape → List ℕ → Area
+abbrev pub area_in : Shape → List ℕ → Area
 area_in (Shape.Cap c) words = cap_area c
 area_in (Shape.Cell own) words = cell_area own
 area_in (Shape.List n) words = list_area (take n words)
 
--- what was read, its ids aside
-abbrev pub region_part : AreaRead → RegionRead
-region_part n = record { shape = shape_of n.area; after = n.after }
-
 -- a region was read, the ids of its list into the words that are lent
-pub record ReadRegion (n : AreaRead) (r : RegionRead) (words words' : List ℕ) : Type 0 where
-  pub read : r ≡ region_part n
-  pub ids : words' ≡ words_with (ids_of n.area) words
+pub record ReadShape (most : ℕ) (l : List ℕ) (at : ℕ) (r : Result (Read Shape) Fault) (words words' : List ℕ) : Type 0 where
+  pub read : r ≡ and_then (area_after most l at) (λ a. Ok (record { value = shape_of a.value; after = a.after }))
+  pub ids : words' ≡ words_with (ids_after most l at) words
 
 -- what is asked, its ids aside
-abbrev pub asked_part : Wish → Asked
-asked_part w = record {
+abbrev pub asked_of : Wish → Asked
+asked_of w = record {
   kind = w.kind;
   coverer = w.coverer;
   shape = shape_of w.area;
@@ -252,13 +214,12 @@ asked_part w = record {
   mem = w.mem;
   form = w.form;
   engines = w.engines;
-  after = w.after;
 }
 
 -- a request was read, the ids of its list into the words that are lent
-pub record ReadAsked (w : Wish) (r : Asked) (words words' : List ℕ) : Type 0 where
-  pub read : r ≡ asked_part w
-  pub ids : words' ≡ words_with (ids_of w.area) words
+pub record ReadAsked (most : ℕ) (l : List ℕ) (r : Result Asked Fault) (words words' : List ℕ) : Type 0 where
+  pub read : r ≡ and_then (wish_of most l) (λ w. Ok (asked_of w))
+  pub ids : words' ≡ words_with (ids_of most l) words
 
 -- what is asked of this area
 abbrev pub asked_with : Asked → Area → Wish
@@ -271,5 +232,4 @@ asked_with q area = record {
   mem = q.mem;
   form = q.form;
   engines = q.engines;
-  after = q.after;
 }

@@ -12,35 +12,29 @@ ghost use Rattle.requests.specs.Requests.{allowance_of, result_for, AnsweredIn, 
 
 use covering::Answer;
 pub use line::{
-    Asked, CovererRead, Four, Options, RegionRead, Shape, cap_of, form_of, read_asked,
-    read_coverer, read_four, read_options, read_region, region_in, value_or, with_edition,
+    Asked, Options, Shape, cap_of, form_of, read_asked, read_cap, read_cell, read_coverer,
+    read_options, read_region,
 };
 use region::Region;
 use selftest::Tested;
-use text::Place;
 use tokens::Form;
 
 // The allowance as a u32; a number that none holds allows as much as any.
+#[tactic(auto, unfolding(crate::specs::Requests::allowance_of))]
 pub fn allowance_of(n: u64) -> u32
     ensures { result ≡ allowance_of n }
 {
-    if n < 4294967295 {
-        return n as u32;
-    }
-    4294967295
+    n.min(4294967295) as u32
 }
 
 // Answers a request for its region, and with the working memory and the output that are lent: their lengths are those that it is answered for.
 fn answer_run(q: Asked, g: Region<'_>, mem: &mut [u64], out: &mut [u64]) -> Tested
     ensures { Answered (result_for (asked_with q (area_of g.entry)) (length mem.old) (length out.old)) result.answer mem.old mem.new out.old out.new × (result.agree ≡ true) }
 {
-    let engines = q.engines;
-    let kind = q.kind;
-    let coverer = q.coverer;
     selftest::respond(
-        engines,
-        kind,
-        coverer,
+        q.engines,
+        q.kind,
+        q.coverer,
         g,
         allowance_of(q.allowance),
         mem,
@@ -98,15 +92,11 @@ pub fn answer(
     if text::is_silent(line) {
         return 0;
     }
-    let q = read_asked(line, words);
-    let after = q.after;
-    match after {
-        Place::At(_) => {
-            let shape = q.shape;
-            let t = answer_in(q, region_in(shape, words), mem, out);
-            let form = q.form;
-            put_tested(form, t, out, page)
+    match read_asked(line, words) {
+        Ok(q) => {
+            let t = answer_in(q, q.shape.region(words), mem, out);
+            put_tested(q.form, t, out, page)
         }
-        Place::Bad(f) => replies::put_error(page, number, f),
+        Err(fault) => replies::put_error(page, number, fault),
     }
 }

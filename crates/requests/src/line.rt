@@ -1,34 +1,18 @@
 // A request of `cover` as a line: `KIND MIN MAX MOD MAX_CELLS REGION [allow=N] [out=N] [mem=N] [tokens=N] [edition=N] [engine=WORD]`, the options in any
 // order. Any numbers and any bits of floats are taken: whoever answers the request tests its domain.
-ghost use Rattle.std.specs.Prelude.{◌≡◌, ◌<◌, ◌≤◌, length};
-ghost use Rattle.text.specs.Text.{choice_after};
-ghost use Rattle.text.specs.declared.Fault.{Fault};
+ghost use Rattle.std.specs.Prelude.{◌≡◌, ◌≤◌, length};
 ghost use Rattle.region.specs.Region.{area_of};
-ghost use Rattle.run.specs.Editions.{with_edition};
-ghost use Rattle.requests.specs.Line.{kinds, shapes, kind_of, four_after, coverer_after, point_of, cap_of, cap_after, cell_after, ids_after, area_after, held, area_in, region_part, ReadRegion, most_of, value_or, form_of, engine_in, value_in, bad_option, option_given, option_of, next_option, options_after, wish_of, ReadAsked};
+ghost use Rattle.requests.specs.Line.{kind_after, coverer_after, point_of, cap_of, named_after, cap_after, cell_after, ReadShape, held, area_in, once, engine_in, with_option, option_of, options_after, form_of, ReadAsked};
 
 use cell::Cap;
 use covering::{Ending, Kind};
 use point::Point;
+use queue::Engine;
 use region::Region;
 use run::{MEMORY_WORDS, RegionCoverer};
 use selftest::Engines;
-use text::{Base, Fault, Place, Read};
+use text::{Base, Fault, Read};
 use tokens::Form;
-
-// Four numbers, and the place after them.
-#[derive(Clone, Copy)]
-pub struct Four {
-    pub values: [u64; 4],
-    pub after: Place,
-}
-
-// The numbers of a request, of edition 1, and the place after them.
-#[derive(Clone, Copy)]
-pub struct CovererRead {
-    pub coverer: RegionCoverer,
-    pub after: Place,
-}
 
 // A region as a line names it: a cap, a cell, or a list of so many ids, which were read into the first of the words that are lent.
 #[derive(Clone, Copy)]
@@ -38,22 +22,52 @@ pub enum Shape {
     List(usize),
 }
 
-// A region, and the place after it.
-#[derive(Clone, Copy)]
-pub struct RegionRead {
-    pub shape: Shape,
-    pub after: Place,
+impl Shape {
+    // The region, a list's ids in the first of the words.
+    #[tactic(auto, unfolding(region::specs::Region::area_of))]
+    pub fn region<'a>(self, words: &'a [u64]) -> Region<'a>
+        requires { held self ≤ length words.now }
+        ensures { area_of result ≡ area_in self words.now }
+    {
+        match self {
+            Shape::Cap(c) => Region::Cap(c),
+            Shape::Cell(id) => Region::Cell(id),
+            Shape::List(n) => Region::List(&words[..n]),
+        }
+    }
 }
 
-// The options that were given, in the order allow, out, mem, tokens, edition, engine, and the place after them; u64::MAX stands for one that was not.
+// The words for a region.
+#[derive(Clone, Copy)]
+enum Named {
+    Cap,
+    Cell,
+    List,
+}
+
+// The options that were given.
 #[derive(Clone, Copy)]
 pub struct Options {
-    pub values: [u64; 6],
-    pub after: Place,
+    pub allowance: Option<u64>,
+    pub out: Option<u64>,
+    pub mem: Option<u64>,
+    pub tokens: Option<u64>,
+    pub edition: Option<u64>,
+    pub engines: Option<Engines>,
 }
 
-// What a line asks: the kind of answer, of what, with how much, how ids are to be written, and which engines are to answer; and the line's end, or what is
-// wrong with the line.
+// The keys of the options.
+#[derive(Clone, Copy)]
+enum Key {
+    Allow,
+    Out,
+    Mem,
+    Tokens,
+    Edition,
+    Engine,
+}
+
+// What a line asks: the kind of answer, of what, with how much, how ids are to be written, and which engines are to answer.
 #[derive(Clone, Copy)]
 pub struct Asked {
     pub kind: Kind,
@@ -64,56 +78,48 @@ pub struct Asked {
     pub mem: u64,
     pub form: Form,
     pub engines: Engines,
-    pub after: Place,
 }
 
-// The word for what is asked, counted from 0.
-fn read_kind(line: &[u8], p: Place) -> Read
-    ensures { result ≡ choice_after kinds 7 Fault.UnknownKind line.now p }
+// The kind of answer that is asked for.
+#[tactic(auto, unfolding(crate::specs::Line::kind_after, text::specs::Ascii::ascii))]
+fn read_kind(line: &[u8], at: usize) -> Result<Read<Kind>, Fault>
+    ensures { result ≡ kind_after line.now at }
 {
-    let words = b"covering cellunion raw interior icellunion iraw fast";
-    text::read_choice(line, p, words, 7, Fault::UnknownKind)
-}
-
-// The kind of answer that a word asks for.
-fn kind_of(k: u64) -> Kind
-    ensures { result ≡ kind_of k }
-{
-    match k {
-        0 => Kind::Outer(Ending::Covering),
-        1 => Kind::Outer(Ending::CellUnion),
-        2 => Kind::Outer(Ending::Raw),
-        3 => Kind::Inner(Ending::Covering),
-        4 => Kind::Inner(Ending::CellUnion),
-        5 => Kind::Inner(Ending::Raw),
-        _ => Kind::Fast,
-    }
-}
-
-// Four numbers in the base.
-pub fn read_four(line: &[u8], p: Place, base: Base) -> Four
-    ensures { result ≡ four_after base line.now p }
-{
-    let mut values = [0u64; 4];
-    let after = text::read_numbers(line, p, base, &mut values);
-    Four { values, after }
+    text::read_choice(
+        line,
+        at,
+        b"covering cellunion raw interior icellunion iraw fast",
+        &[
+            Kind::Outer(Ending::Covering),
+            Kind::Outer(Ending::CellUnion),
+            Kind::Outer(Ending::Raw),
+            Kind::Inner(Ending::Covering),
+            Kind::Inner(Ending::CellUnion),
+            Kind::Inner(Ending::Raw),
+            Kind::Fast,
+        ],
+        Fault::UnknownKind,
+    )
 }
 
 // `MIN MAX MOD MAX_CELLS`, of edition 1: another is an option's to name.
-pub fn read_coverer(line: &[u8], p: Place) -> CovererRead
-    ensures { result ≡ coverer_after line.now p }
+#[tactic(auto, unfolding(crate::specs::Line::coverer_after))]
+pub fn read_coverer(line: &[u8], at: usize) -> Result<Read<RegionCoverer>, Fault>
+    ensures { result ≡ coverer_after line.now at }
 {
-    let n = read_four(line, p, Base::Ten);
-    let v = n.values;
-    let after = n.after;
-    let coverer = RegionCoverer {
-        min_level: v[0],
-        max_level: v[1],
-        level_mod: v[2],
-        max_cells: v[3],
+    let n = text::read_array::<4>(line, at, Base::Ten)?;
+    let [min_level, max_level, level_mod, max_cells] = n.value;
+    let value = RegionCoverer {
+        min_level,
+        max_level,
+        level_mod,
+        max_cells,
         edition: 1,
     };
-    CovererRead { coverer, after }
+    Ok(Read {
+        value,
+        after: n.after,
+    })
 }
 
 // The point of three bit patterns.
@@ -128,264 +134,218 @@ fn point_of(x: u64, y: u64, z: u64) -> Point
 }
 
 // The cap of a centre and a squared chord radius.
+#[tactic(auto, unfolding(crate::specs::Line::cap_of))]
 pub fn cap_of(x: u64, y: u64, z: u64, r: u64) -> Cap
     ensures { result ≡ cap_of x y z r }
 {
-    let center = point_of(x, y, z);
     Cap {
-        center,
+        center: point_of(x, y, z),
         radius: point::float_of_bits(r),
     }
 }
 
 // `X Y Z R`.
-fn read_cap(line: &[u8], p: Place) -> RegionRead
-    ensures { result ≡ region_part (cap_after line.now p) }
+#[tactic(auto, unfolding(crate::specs::Line::cap_after))]
+pub fn read_cap(line: &[u8], at: usize) -> Result<Read<Cap>, Fault>
+    ensures { result ≡ cap_after line.now at }
 {
-    let n = read_four(line, p, Base::Sixteen);
-    let v = n.values;
-    let after = n.after;
-    let shape = Shape::Cap(cap_of(v[0], v[1], v[2], v[3]));
-    RegionRead { shape, after }
+    let n = text::read_array::<4>(line, at, Base::Sixteen)?;
+    let [x, y, z, r] = n.value;
+    Ok(Read {
+        value: cap_of(x, y, z, r),
+        after: n.after,
+    })
 }
 
 // `ID`.
-fn read_cell(line: &[u8], p: Place) -> RegionRead
-    ensures { result ≡ region_part (cell_after line.now p) }
+pub fn read_cell(line: &[u8], at: usize) -> Result<Read<u64>, Fault>
+    ensures { result ≡ cell_after line.now at }
 {
-    let id = text::read_number(line, p, Base::Sixteen, u64::MAX);
-    let after = id.after;
-    let shape = Shape::Cell(id.value);
-    RegionRead { shape, after }
+    text::read_number(line, at, Base::Sixteen, u64::MAX)
 }
 
-// `COUNT ID...`, the ids into the words that are lent.
-fn read_ids(line: &[u8], p: Place, words: &mut [u64]) -> RegionRead
-    ensures { ReadRegion (ids_after (length words.old) line.now p) result words.old words.new }
+// The word for a region.
+#[tactic(auto, unfolding(crate::specs::Line::named_after, text::specs::Ascii::ascii))]
+fn read_named(line: &[u8], at: usize) -> Result<Read<Named>, Fault>
+    ensures { result ≡ named_after line.now at }
 {
-    let n = text::read_list(line, p, words);
-    let after = n.after;
-    let shape = Shape::List(n.value as usize);
-    RegionRead { shape, after }
-}
-
-// The word for a region, counted from 0.
-fn read_shape(line: &[u8], p: Place) -> Read
-    ensures { result ≡ choice_after shapes 3 Fault.UnknownRegion line.now p }
-{
-    text::read_choice(line, p, b"cap cell list", 3, Fault::UnknownRegion)
+    text::read_choice(
+        line,
+        at,
+        b"cap cell list",
+        &[Named::Cap, Named::Cell, Named::List],
+        Fault::UnknownRegion,
+    )
 }
 
 // `cap X Y Z R`, `cell ID` or `list COUNT ID...`, the ids of a list into the words that are lent.
-pub fn read_region(line: &[u8], p: Place, words: &mut [u64]) -> RegionRead
-    ensures { ReadRegion (area_after (length words.old) line.now p) result words.old words.new }
+#[tactic(auto, unfolding(crate::specs::Line::area_after, crate::specs::Line::area_named, crate::specs::Line::ids_after, crate::specs::Line::ids_named, crate::specs::Line::shape_of, text::specs::Text::words_with))]
+pub fn read_region(line: &[u8], at: usize, words: &mut [u64]) -> Result<Read<Shape>, Fault>
+    ensures { ReadShape (length words.old) line.now at result words.old words.new }
 {
-    let which = read_shape(line, p);
-    let after = which.after;
-    if which.value == 0 {
-        return read_cap(line, after);
-    }
-    if which.value == 1 {
-        return read_cell(line, after);
-    }
-    read_ids(line, after, words)
-}
-
-// The region of a shape, a list's ids in the first of the words.
-pub fn region_in<'a>(s: Shape, words: &'a [u64]) -> Region<'a>
-    requires { held s ≤ length words.now }
-    ensures { area_of result ≡ area_in s words.now }
-{
-    match s {
-        Shape::Cap(c) => Region::Cap(c),
-        Shape::Cell(id) => Region::Cell(id),
-        Shape::List(n) => Region::List(&words[..n]),
-    }
-}
-
-// The most that the k-th option may be, where it is a number.
-fn most_of(k: u64) -> u64
-    ensures { result ≡ most_of k }
-{
-    match k {
-        0 => 4294967295,
-        1 => 65536,
-        2 => 8192,
-        3 => 1,
-        _ => 4294967295,
-    }
-}
-
-// The number of the engines that a word names.
-fn read_engine(word: &[u8], next: usize) -> Read
-    ensures { result ≡ engine_in next word.now }
-{
-    let k = text::place_among(word, b"quick plain both", 3);
-    if k < 3 {
-        return Read {
-            value: k,
-            after: Place::At(next),
-        };
-    }
-    Read {
-        value: 0,
-        after: Place::Bad(Fault::UnknownEngine),
-    }
-}
-
-// What the bytes after the k-th key give: a number, or for the last the place of a word.
-fn read_value(k: u64, s: &[u8], next: usize) -> Read
-    ensures { result ≡ value_in k next s.now }
-{
-    if k < 5 {
-        return text::read_bytes(s, Base::Ten, most_of(k), next);
-    }
-    read_engine(s, next)
-}
-
-fn bad_option(o: Options, f: Fault) -> Options
-    ensures { result ≡ bad_option o f }
-{
-    let values = o.values;
-    Options {
-        values,
-        after: Place::Bad(f),
-    }
-}
-
-// The k-th option, with the bytes after its key.
-fn option_given(k: u64, s: &[u8], next: usize, o: Options) -> Options
-    requires { k < 6 }
-    ensures { result ≡ option_given k s.now next o }
-{
-    let mut values = o.values;
-    let i = k as usize;
-    if values[i] == u64::MAX {
-        let n = read_value(k, s, next);
-        values[i] = n.value;
-        let after = n.after;
-        return Options { values, after };
-    }
-    bad_option(o, Fault::RepeatedOption)
-}
-
-// The option that a field is: a key, which ends with its first `=`, and a value.
-fn option_of(field: &[u8], next: usize, o: Options) -> Options
-    ensures { result ≡ option_of field.now next o }
-{
-    let e = text::find(field, b'=');
-    if e < field.len() {
-        let from = e + 1;
-        let k = text::place_among(
-            &field[..from],
-            b"allow= out= mem= tokens= edition= engine=",
-            6,
-        );
-        if k < 6 {
-            return option_given(k, &field[from..], next, o);
+    let named = read_named(line, at)?;
+    match named.value {
+        Named::Cap => {
+            let cap = read_cap(line, named.after)?;
+            Ok(Read {
+                value: Shape::Cap(cap.value),
+                after: cap.after,
+            })
         }
-        return bad_option(o, Fault::ExtraField);
+        Named::Cell => {
+            let id = read_cell(line, named.after)?;
+            Ok(Read {
+                value: Shape::Cell(id.value),
+                after: id.after,
+            })
+        }
+        Named::List => {
+            let list = text::read_list(line, named.after, words)?;
+            Ok(Read {
+                value: Shape::List(list.value as usize),
+                after: list.after,
+            })
+        }
     }
-    bad_option(o, Fault::ExtraField)
 }
 
-// One option more, if there is one.
-fn next_option(line: &[u8], o: Options) -> Options
-    ensures { result ≡ next_option line.now o }
+// What an option is given as: it must not have been given before.
+fn once<T: Copy>(given: Option<T>, value: Result<T, Fault>) -> Result<Option<T>, Fault>
+    ensures { result ≡ once given value }
 {
-    let after = o.after;
-    match after {
-        Place::At(at) => {
-            let f = text::read_field(line, at);
-            let start = f.start;
-            let end = f.end;
-            if start < end {
-                return option_of(&line[start..end], end, o);
-            }
-            o
-        }
-        Place::Bad(_) => o,
+    if given.is_some() {
+        return Err(Fault::RepeatedOption);
     }
+    let value = value?;
+    Ok(Some(value))
+}
+
+// The engines that a word names.
+#[tactic(auto, unfolding(crate::specs::Line::engine_in, text::specs::Ascii::ascii))]
+fn engines_of(word: &[u8]) -> Result<Engines, Fault>
+    ensures { result ≡ engine_in word.now }
+{
+    text::choice_of(
+        word,
+        b"quick plain both",
+        &[
+            Engines::One(Engine::Quick),
+            Engines::One(Engine::Plain),
+            Engines::Both,
+        ],
+    )
+    .ok_or(Fault::UnknownEngine)
+}
+
+// One option more, with the bytes after its key; it is given once.
+#[tactic(auto, unfolding(crate::specs::Line::with_option))]
+fn with_option(key: Key, s: &[u8], o: Options) -> Result<Options, Fault>
+    ensures { result ≡ with_option key s.now o }
+{
+    match key {
+        Key::Allow => {
+            let allowance = once(o.allowance, text::read_bytes(s, Base::Ten, 4294967295))?;
+            Ok(Options { allowance, ..o })
+        }
+        Key::Out => {
+            let out = once(o.out, text::read_bytes(s, Base::Ten, 65536))?;
+            Ok(Options { out, ..o })
+        }
+        Key::Mem => {
+            let mem = once(o.mem, text::read_bytes(s, Base::Ten, 8192))?;
+            Ok(Options { mem, ..o })
+        }
+        Key::Tokens => {
+            let tokens = once(o.tokens, text::read_bytes(s, Base::Ten, 1))?;
+            Ok(Options { tokens, ..o })
+        }
+        Key::Edition => {
+            let edition = once(o.edition, text::read_bytes(s, Base::Ten, 4294967295))?;
+            Ok(Options { edition, ..o })
+        }
+        Key::Engine => {
+            let engines = once(o.engines, engines_of(s))?;
+            Ok(Options { engines, ..o })
+        }
+    }
+}
+
+// The option that a field is: a key, which ends before its first `=`, and a value.
+#[tactic(auto, unfolding(crate::specs::Line::option_of, text::specs::Ascii::ascii))]
+fn option_of(field: &[u8], o: Options) -> Result<Options, Fault>
+    ensures { result ≡ option_of field.now o }
+{
+    let sign = text::find(field, b'=').ok_or(Fault::ExtraField)?;
+    let key = text::choice_of(
+        &field[..sign],
+        b"allow out mem tokens edition engine",
+        &[
+            Key::Allow,
+            Key::Out,
+            Key::Mem,
+            Key::Tokens,
+            Key::Edition,
+            Key::Engine,
+        ],
+    )
+    .ok_or(Fault::ExtraField)?;
+    with_option(key, &field[sign + 1..], o)
 }
 
 // The options: six at most, each once. A seventh field is a fault, and which it is is told by its own turn.
-pub fn read_options(line: &[u8], p: Place) -> Options
-    ensures { result ≡ options_after line.now p }
+#[tactic(auto, unfolding(crate::specs::Line::options_after, crate::specs::Line::options_from))]
+pub fn read_options(line: &[u8], at: usize) -> Result<Read<Options>, Fault>
+    ensures { result ≡ options_after line.now at }
 {
-    let none = Options {
-        values: [u64::MAX; 6],
-        after: p,
+    let mut value = Options {
+        allowance: None,
+        out: None,
+        mem: None,
+        tokens: None,
+        edition: None,
+        engines: None,
     };
-    let one = next_option(line, none);
-    let two = next_option(line, one);
-    let three = next_option(line, two);
-    let four = next_option(line, three);
-    let five = next_option(line, four);
-    let six = next_option(line, five);
-    next_option(line, six)
-}
-
-// An option's value, or its default where it was not given.
-pub fn value_or(default: u64, v: u64) -> u64
-    ensures { result ≡ value_or default v }
-{
-    if v == u64::MAX {
-        return default;
+    let mut after = at;
+    for _ in 0..7u64 {
+        let Some(field) = text::read_field(line, after) else {
+            return Ok(Read { value, after });
+        };
+        value = option_of(&line[field.start..field.end], value)?;
+        after = field.end;
     }
-    v
+    Ok(Read { value, after })
 }
 
 // How ids are to be written, by the value of `tokens=`.
 pub fn form_of(v: u64) -> Form
     ensures { result ≡ form_of v }
 {
-    if v == 1 {
-        return Form::Token;
-    }
-    Form::Digits
-}
-
-// The same numbers in that edition.
-pub fn with_edition(c: RegionCoverer, edition: u64) -> RegionCoverer
-    ensures { result ≡ with_edition c edition }
-{
-    RegionCoverer {
-        min_level: c.min_level,
-        max_level: c.max_level,
-        level_mod: c.level_mod,
-        max_cells: c.max_cells,
-        edition,
-    }
+    if v == 1 { Form::Token } else { Form::Digits }
 }
 
 // What a line asks, the ids of a list into the words that are lent.
-pub fn read_asked(line: &[u8], words: &mut [u64]) -> Asked
-    ensures { ReadAsked (wish_of (length words.old) line.now) result words.old words.new }
+#[tactic(auto, unfolding(crate::specs::Line::wish_of, crate::specs::Line::region_at, crate::specs::Line::ids_of, text::specs::Text::words_with))]
+pub fn read_asked(line: &[u8], words: &mut [u64]) -> Result<Asked, Fault>
+    ensures { ReadAsked (length words.old) line.now result words.old words.new }
 {
-    let start = text::read_start(line);
-    let word = read_kind(line, start);
-    let pk = word.after;
-    let c = read_coverer(line, pk);
-    let pc = c.after;
-    let g = read_region(line, pc, words);
-    let pg = g.after;
-    let o = read_options(line, pg);
-    let po = o.after;
-    let numbers = c.coverer;
-    let shape = g.shape;
-    let values = o.values;
-    let after = text::read_end(line, po);
-    let coverer = with_edition(numbers, value_or(1, values[4]));
-    let kind = kind_of(word.value);
-    Asked {
-        kind,
-        coverer,
-        shape,
-        allowance: value_or(4294967295, values[0]),
-        out: value_or(65536, values[1]),
-        mem: value_or(MEMORY_WORDS as u64, values[2]),
-        form: form_of(values[3]),
-        engines: Engines::from(value_or(0, values[5])),
-        after,
-    }
+    let start = text::read_start(line)?;
+    let kind = read_kind(line, start)?;
+    let coverer = read_coverer(line, kind.after)?;
+    let shape = read_region(line, coverer.after, words)?;
+    let options = read_options(line, shape.after)?;
+    text::read_end(line, options.after)?;
+    let o = options.value;
+    Ok(Asked {
+        kind: kind.value,
+        coverer: RegionCoverer {
+            edition: o.edition.unwrap_or(1),
+            ..coverer.value
+        },
+        shape: shape.value,
+        allowance: o.allowance.unwrap_or(4294967295),
+        out: o.out.unwrap_or(65536),
+        mem: o.mem.unwrap_or(MEMORY_WORDS as u64),
+        form: form_of(o.tokens.unwrap_or(0)),
+        engines: o.engines.unwrap_or(Engines::One(Engine::Quick)),
+    })
 }

@@ -14,7 +14,7 @@ use queue::Engine;
 use region::Region;
 use requests::Asked;
 use run::RegionCoverer;
-use text::{Fault, Place};
+use text::Fault;
 use tokens::Form;
 use totals::Totals;
 
@@ -282,15 +282,12 @@ fn answer_line(
     if text::is_silent(line) {
         return Told::Nothing;
     }
-    let q = requests::read_asked(line, words);
-    let after = q.after;
-    match after {
-        Place::At(_) => {
-            let shape = q.shape;
-            let g = requests::region_in(shape, words);
+    match requests::read_asked(line, words) {
+        Ok(q) => {
+            let g = q.shape.region(words);
             said(answer_asked(streams, q, g, number, mem, out, page))
         }
-        Place::Bad(f) => said(say_error(streams, number, f, page)),
+        Err(fault) => said(say_error(streams, number, fault, page)),
     }
 }
 

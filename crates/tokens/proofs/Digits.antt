@@ -13,7 +13,7 @@ use lib.Seq.{get_or_at, set_comm, sets}
 use borrow.Author.Tests.{lt-ltb, le-ltb, le-leb, lt-leb, ltb-true, eq-eqb, ne_eqb}
 use Rattle.io.specs.Digits.{last_digits, hex_digit_ascii}
 use Rattle.text.specs.Text.{digit_of, all_digits, value_from}
-use Rattle.text.proofs.Fields.{digits_then, value_then}
+use Rattle.text.proofs.Laws.{digits_then, value_then}
 use Rattle.cellid.proofs.Puts.{sets_append}
 use Rattle.tokens.specs.Tokens.{digit_before, trim}
 
@@ -71,7 +71,6 @@ digits_length base zero n = refl
 digits_length base (suc k) n = rw (length-append (last_digits base k (n / base)) _, digits_length base k (n / base)) (omega arith)
 
 pub digits_all : (k n : ℕ) → all_digits 16 (last_digits 16 k n) ≡ true
-unfolding all_digits
 digits_all zero n = refl
 digits_all (suc k) n =
     let d : n % 16 < 16 = omega arith in
@@ -88,7 +87,7 @@ more_digits : (k m d : ℕ) → d < 16 → last_digits 16 (suc k) (m * 16 + d) �
 more_digits k m d h = rw (digits_div m h, digits_mod m h)
 
 digits_from : (t : List ℕ) (k m : ℕ) → all_digits 16 t ≡ true → last_digits 16 (k + length t) (value_from 16 m t) ≡ last_digits 16 k m ++ t
-unfolding all_digits value_from
+unfolding value_from
 digits_from [] k m h = rw (add-zero, append-nil)
 digits_from (b ∷ t) k m h =
     let a = (and-eq-true_iff _ (all_digits 16 t)).0 h in

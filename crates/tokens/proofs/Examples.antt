@@ -22,7 +22,7 @@ unfolding write_result result_of first_bad valid_id count_trailing_zeros lines_o
 nine_bytes = refl
 
 pub and_back : read_result Form.Token nine 3 ≡ Ok three
-unfolding read_result result_of first_bad valid_id count_trailing_zeros ids_from unended named is_name value_of digit_of all_digits value_from
+unfolding read_result result_of first_bad valid_id count_trailing_zeros ids_from unended named is_name value_of digit_of value_from
 and_back = refl
 
 -- "an empty list is an empty text"
@@ -57,7 +57,7 @@ cases =
     ∷ []
 
 pub cases_refused : map (λ (c : List ℕ × ℕ). first_of (length_of (read_result Form.Token c.0 9))) cases ≡ map (λ (c : List ℕ × ℕ). c.1) cases
-unfolding ascii read_result result_of first_bad valid_id count_trailing_zeros ids_from unended named is_name value_of digit_of all_digits value_from length_of
+unfolding ascii read_result result_of first_bad valid_id count_trailing_zeros ids_from unended named is_name value_of digit_of value_from length_of
 cases_refused = refl
 
 -- ---- an answer's number, what was written, and the number of the first that is bad: done, no room, and an invalid id before no room

@@ -12,7 +12,7 @@ use lib.ListN.{length, get_or, take, drop, drop_of_length-le, length-append, len
 use lib.Seq.{drop-drop, length-take-le}
 use borrow.Author.Tests.{eq-eqb, ne_eqb, ltb-true}
 use Rattle.text.specs.Text.{digit_of, all_digits, Spells, Stopped}
-use Rattle.text.proofs.Fields.{digits_then}
+use Rattle.text.proofs.Laws.{digits_then}
 use Rattle.cellid.proofs.Laws.{no_true}
 use Rattle.cellid.proofs.Puts.{next_of}
 use Rattle.tokens.specs.declared.Form.{Form}
@@ -25,7 +25,7 @@ module _ (form : Form) where
   -- ---- digits belong to the line that they stand in
 
   pub past_digits : (t s u : List ℕ) → all_digits 16 t ≡ true → ids_from form s (t ++ u) ≡ ids_from form (s ++ t) u
-  unfolding all_digits ids_from
+  unfolding ids_from
   past_digits [] s u h = rw append-nil
   past_digits (b ∷ t) s u h =
       let a = (and-eq-true_iff _ (all_digits 16 t)).0 h in
@@ -98,7 +98,6 @@ module _ (form : Form) where
 
     -- another byte follows: it is no digit, or there are sixteen
     no_name : Stopped 16 text at end → end < length text → (u : List ℕ) → is_name form ((name ++ (get_or text end 0 ∷ [])) ++ u) ≡ true → ⊥
-    unfolding all_digits
     no_name stop h u y =
         let n = is_name_lem form _ y in
         let k : length name + suc (length u) ≤ 16 = rw (append_assoc name (get_or text end 0 ∷ []) u, length-append name (get_or text end 0 ∷ u)) at n.few in

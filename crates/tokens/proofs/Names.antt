@@ -16,7 +16,7 @@ use lib.Seq.{take-suc, take_all}
 use borrow.Author.Tests.{leb-true, le-leb, eqb-true, eqb-false, eq-eqb, ne_eqb, ltb-true, not-true}
 use Rattle.io.specs.Digits.{last_digits as digits, hex_digit_ascii}
 use Rattle.text.specs.Text.{digit_of, all_digits, value_from}
-use Rattle.text.proofs.Fields.{digits_then, value_then}
+use Rattle.text.proofs.Laws.{digits_then, value_then}
 use Rattle.cellid.specs.CellId.{valid_id}
 use Rattle.cellid.proofs.Laws.{odd_part, zeros_of, valid_fits}
 use Rattle.tokens.specs.declared.Form.{Form}
@@ -115,7 +115,7 @@ name_digits Form.Token id n h e =
 
 -- the last of some digits tells their number by sixteen
 last_mod : (t : List ℕ) → 0 < length t → all_digits 16 t ≡ true → (value_from 16 0 t % 16 ≡ digit_of (get_or t (length t - 1) 0)) × (digit_of (get_or t (length t - 1) 0) < 16)
-unfolding value_from all_digits
+unfolding value_from
 last_mod t p h =
     let k : suc (length t - 1) ≡ length t = omega arith in
     let s : t ≡ take (length t - 1) t ++ (get_or t (length t - 1) 0 ∷ []) = sym (take_all (suc (length t - 1)) t (omega arith)) ∙ take-suc t (length t - 1) 0 (omega arith) in

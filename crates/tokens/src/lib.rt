@@ -148,7 +148,7 @@ fn read_line(form: Form, text: &[u8], at: usize) -> Option<Line>
     ensures { FirstLine form text.now at result }
 {
     let name = text::read_digits(text, at, 16);
-    let end = name.end;
+    let end = name.after;
     if end < text.len() && text[end] == b'\n' {
         let id = of_digits(form, end - at, name.value)?;
         return Some(Line { id, next: end + 1 });

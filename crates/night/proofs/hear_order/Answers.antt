@@ -2,8 +2,8 @@
 use Rattle.night.proofs.Laws.{order_right, order_wrong}
 use Rattle.night.proofs.hear_order.Goals as goal
 
-pub returns-in-At : goal.returns-in-At
-returns-in-At c = order_right _ _ c.read_order-o.ensures _ c.in-At.is
+pub returns-in-Ok : goal.returns-in-Ok
+returns-in-Ok c = order_right _ _ c.in-Ok.ensures
 
-pub returns-in-Bad : goal.returns-in-Bad
-returns-in-Bad c = order_wrong _ _ c.read_order-o.ensures _ c.in-Bad.is
+pub returns-in-Err : goal.returns-in-Err
+returns-in-Err c = order_wrong _ _ c.in-Err.ensures

@@ -2,5 +2,5 @@
 use Rattle.requests.proofs.Laws.{read_fits}
 use Rattle.probe.proofs.ask_region.Goals as goal
 
-pub region_in-region-requires : goal.region_in-region-requires
-region_in-region-requires c = read_fits _ _ _ _ c.read_region-g.ensures
+pub region-region-requires : goal.region-region-requires
+region-region-requires c = read_fits _ _ _ _ _ _ c.in_ok-g.ensures

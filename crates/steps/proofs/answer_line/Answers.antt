@@ -2,5 +2,5 @@
 use Rattle.requests.proofs.Laws.{ids_fit}
 use Rattle.steps.proofs.answer_line.Goals as goal
 
-pub region_in-g-requires : goal.region_in-g-requires
-region_in-g-requires c = ids_fit _ _ _ _ c.read_asked-q.ensures
+pub region-g-requires : goal.region-g-requires
+region-g-requires c = ids_fit _ _ _ _ c.in-Ok.ensures

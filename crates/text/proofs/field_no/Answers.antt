@@ -1,22 +1,18 @@
-use Rattle.std.proofs.Common.{sym, refl, ap, ◌∙◌}
-use Rattle.text.specs.declared.Field.{Field}
-use Rattle.text.proofs.Fields.{field_on, field_here}
+-- `text::field_no`: one field less for each that is passed.
+use Rattle.std.proofs.Common.{◌≡◌, suc, ◌+◌, ◌-◌, sym, ◌∙◌, arith}
+use Rattle.text.proofs.Laws.{field_more, field_last}
 use Rattle.text.proofs.field_no.Goals as goal
 
-pub read_field-f-requires : goal.read_field-f-requires
-read_field-f-requires c = tt
+pub returns-in_err-at-clause-value : goal.returns-in_err-at-clause-value
+returns-in_err-at-clause-value c =
+    let k : c.args.k - c.loop.counter ≡ suc (c.args.k - (c.loop.counter + 1)) = omega arith in
+    let e = rw (k, field_more, ← c.in_err-at.ensures.value) at c.loop.invariant in
+    rw c.from_residual.ensures (sym e)
 
-pub read_field-requires : goal.read_field-requires
-read_field-requires c = tt
+pub loop-preserved : goal.loop-preserved
+loop-preserved c =
+    let k : c.args.k - c.loop.counter ≡ suc (c.args.k - (c.loop.counter + 1)) = omega arith in
+    rw (k, field_more, ← c.in_ok-at.ensures.value) at c.loop.invariant
 
-pub loop-left-init : goal.loop-left-init
-loop-left-init c = refl
-
-pub loop-left-preserved : goal.loop-left-preserved
-loop-left-preserved c = c.loop-left.invariant ∙ field_on _ _ _ _ c.loop-left-test.true (ap (λ (f : Field). f.end) c.read_field-f.ensures.value)
-
-pub returns : goal.returns
-returns c = record {
-  value = field_here _ _ _ _ c.loop-left-test.false c.read_field.ensures.value ∙ sym c.loop-left.invariant;
-  start_le_end = c.read_field.ensures.start_le_end;
-}
+pub returns-clause-value : goal.returns-clause-value
+returns-clause-value c = c.read_field-2.ensures.value ∙ sym (c.loop.invariant ∙ field_last _ _ _ (omega arith))

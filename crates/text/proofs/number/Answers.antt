@@ -1,24 +1,20 @@
--- `text::number`: test by test.
-use Rattle.std.proofs.Common.{le-ltb, lt-ltb, eq-eqb, ne_eqb}
+-- `text::number`: no digits, too few, too many, or a number.
+use Rattle.std.proofs.Common.{rules}
 use Rattle.text.specs.Text.{number_as}
 use Rattle.text.proofs.number.Goals as goal
 
-pub returns-then-s-eq0 : goal.returns-then-s-eq0
+pub returns-then-is_empty-clause-value : goal.returns-then-is_empty-clause-value
 unfolding number_as
-returns-then-s-eq0 c = rw (number_as, eq-eqb _ _ c.if-s-eq0.true) c.bad.ensures
+returns-then-is_empty-clause-value c = search rules
 
-pub returns-then-s-fewest : goal.returns-then-s-fewest
+pub returns-then-s-fewest-clause-value : goal.returns-then-s-fewest-clause-value
 unfolding number_as
-returns-then-s-fewest c = rw (number_as, ne_eqb _ _ c.if-s-eq0.false, ← c.all_digits.ensures, c.if-all_digits.true, lt-ltb _ _ c.if-s-fewest.true) c.bad-then-s-fewest.ensures
+returns-then-s-fewest-clause-value c = search rules
 
-pub returns-then-most-s : goal.returns-then-most-s
+pub returns-then-most-s-clause-value : goal.returns-then-most-s-clause-value
 unfolding number_as
-returns-then-most-s c = rw (number_as, ne_eqb _ _ c.if-s-eq0.false, ← c.all_digits.ensures, c.if-all_digits.true, le-ltb _ _ c.if-s-fewest.false, lt-ltb _ _ c.if-most-s.true) c.bad-then-most-s.ensures
+returns-then-most-s-clause-value c = search rules
 
-pub returns-then-all_digits : goal.returns-then-all_digits
+pub returns-clause-value : goal.returns-clause-value
 unfolding number_as
-returns-then-all_digits c = rw (number_as, ne_eqb _ _ c.if-s-eq0.false, ← c.all_digits.ensures, c.if-all_digits.true, le-ltb _ _ c.if-s-fewest.false, le-ltb _ _ c.if-most-s.false) c.value.ensures
-
-pub returns : goal.returns
-unfolding number_as
-returns c = rw (number_as, ne_eqb _ _ c.if-s-eq0.false, ← c.all_digits.ensures, c.if-all_digits.false) c.bad-2.ensures
+returns-clause-value c = search rules

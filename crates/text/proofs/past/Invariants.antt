@@ -1,10 +1,7 @@
 -- `text::past`: what is left of the run from the present place is the rest of the whole run.
-use Rattle.std.proofs.Common.{◌≡◌, ◌+◌, ◌-◌, ◌<◌, ◌≤◌, length, drop}
+use Rattle.std.proofs.Common.{◌≡◌, ◌+◌, drop}
 use Rattle.text.specs.Text.{leading}
 use Rattle.text.proofs.past.Given as goal
 
 abbrev pub invariant-loop-i : goal.invariant-loop-i
-invariant-loop-i l = (l.at ≤ l.i) × (l.at < l.i → l.i ≤ length l.line) × (l.at + leading l.blank (drop l.at l.line) ≡ l.i + leading l.blank (drop l.i l.line))
-
-abbrev pub decreases-loop-i : goal.decreases-loop-i
-decreases-loop-i l = length l.line - l.i
+invariant-loop-i l = l.at + leading l.blank (drop l.at l.line) ≡ l.i + leading l.blank (drop l.i l.line)

@@ -1,45 +1,22 @@
-use Rattle.std.proofs.Common.{ℕ, ◌+◌, ◌*◌, ◌<◌, ◌≤◌, drop, sym, refl, ap, ◌∙◌, arith, ltb-false, ltb-true}
-use Rattle.text.specs.Text.{value_from, limited}
-use Rattle.text.proofs.Laws.{value_go, value_end, value_over, limited_in}
-use Rattle.text.proofs.value.Goals.{Else-is_over}
+-- `text::value`: the first number over the limit ends it, or all of them are within.
+use Rattle.std.proofs.Common.{◌+◌, ◌*◌, ◌<◌, drop, sym, ◌∙◌, arith, ltb-true, ltb-false, lt-ltb, le-ltb}
+use Rattle.text.specs.Text.{value_from}
+use Rattle.text.proofs.Laws.{value_go, value_end, value_grows}
 use Rattle.text.proofs.value.Goals as goal
 
--- one digit more is within the limit
-within : (c : Else-is_over)
-    → c.loop-i.number * c.args.base
-    + c.digit-d.result
-    ≤ c.args.limit
-within c = ltb-false _ _ (sym c.is_over.ensures ∙ c.if-is_over.false)
+pub returns-then-is_over-clause-value : goal.returns-then-is_over-clause-value
+returns-then-is_over-clause-value c =
+    let k = value_go c.args.base c.loop-b.number c.args.s.now c.loop-b.b-index (omega arith) in
+    let o : c.args.limit < c.loop-b.number * c.args.base + c.digit-d.result = ltb-true _ _ (sym c.is_over.ensures ∙ c.if-is_over.true) in
+    let g = value_grows c.args.base (c.loop-b.number * c.args.base + c.digit-d.result) (drop (c.loop-b.b-index + 1) c.args.s.now) c.requires in
+    let w : c.args.limit < value_from c.args.base 0 c.args.s.now = rw (c.loop-b.invariant.whole, k, ← c.digit-d.ensures) (omega arith) in
+    rw (lt-ltb _ _ w)
 
-pub digit-d-requires : goal.digit-d-requires
-digit-d-requires c = tt
+pub loop-b-preserved : goal.loop-b-preserved
+loop-b-preserved c = record {
+  within = ltb-false _ _ (sym c.is_over.ensures ∙ c.if-is_over.false);
+  whole = rw c.digit-d.ensures (c.loop-b.invariant.whole ∙ value_go c.args.base c.loop-b.number c.args.s.now c.loop-b.b-index (omega arith));
+}
 
-pub bad-requires : goal.bad-requires
-bad-requires c = tt
-
-pub loop-i-init : goal.loop-i-init
-loop-i-init c = (omega arith, omega arith, refl)
-
-pub returns-then-is_over : goal.returns-then-is_over
-returns-then-is_over c =
-    let s = c.args.s.now in
-    let limit = c.args.limit in
-    let o : limit < c.loop-i.number * c.args.base + c.digit-d.result = ltb-true _ _ (sym c.is_over.ensures ∙ c.if-is_over.true) in
-    c.bad.ensures ∙ sym (ap (limited limit _) c.loop-i.invariant.2 ∙ value_over limit _ _ _ s c.loop-i.i c.requires (omega arith) (omega (arith, c.digit-d.ensures)))
-
-pub overflow_mul-number : goal.overflow_mul-number
-overflow_mul-number c = let k = within (goal.at.overflow_mul-number c).Else-is_over in omega arith
-
-pub overflow_add-number : goal.overflow_add-number
-overflow_add-number c = let k = within (goal.at.overflow_add-number c).Else-is_over in omega arith
-
-pub loop-i-preserved : goal.loop-i-preserved
-loop-i-preserved c =
-    let s = c.args.s.now in
-    let base = c.args.base in
-    (omega arith, within (goal.at.loop-i-preserved c).Else-is_over, c.loop-i.invariant.2 ∙ value_go base _ s c.loop-i.i (omega arith) ∙ ap (λ (d : ℕ). value_from base (c.loop-i.number * base + d) (drop (c.loop-i.i + 1) s)) (sym c.digit-d.ensures))
-
-pub returns : goal.returns
-returns c =
-    let limit = c.args.limit in
-    sym (ap (limited limit _) (c.loop-i.invariant.2 ∙ value_end _ _ _ _ c.loop-i-test.false) ∙ limited_in limit _ _ c.loop-i.invariant.1)
+pub returns-clause-value : goal.returns-clause-value
+returns-clause-value c = rw (c.loop-b.invariant.whole, value_end c.args.base c.loop-b.number c.args.s.now c.loop-b.b-index (omega arith), le-ltb _ _ c.loop-b.invariant.within)

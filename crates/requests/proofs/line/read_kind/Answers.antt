@@ -1,7 +1,0 @@
--- `requests::line::read_kind`: one of the words.
-use Rattle.text.specs.Ascii.{ascii}
-use Rattle.requests.proofs.line.read_kind.Goals as goal
-
-pub returns : goal.returns
-unfolding ascii
-returns c = c.read_choice.ensures
