@@ -114,6 +114,7 @@ fn enqueue(m: &mut [u64], t: Counts, e: Engine, r: Rec) -> Result<Counts, Refusa
 }
 
 // Leaves are set aside in outer runs only.
+#[tactic(auto, unfolding(crate::specs::Engine::aside_of))]
 fn set_aside(q: Request, t: Counts, leaves: u64) -> Counts
     requires { t.aside + leaves < 2 ^ 64 }
     ensures { result ≡ aside_of q.inner t leaves }

@@ -1,4 +1,5 @@
-// The quick queue: records as a binary heap in lent memory, the one that goes first at place 0. The loops go up and down the tree.
+// The quick queue: records as a binary heap in lent memory, the one that goes first at place 0. `m` is all of that memory and n how many records stand in it,
+// since the next one goes behind them.
 #![tactic(auto)]
 
 ghost use Rattle.std.specs.Prelude.{◌≡◌, ◌+◌, ◌*◌, ◌<◌, ◌≤◌};
@@ -13,6 +14,7 @@ pub fn push(m: &mut [u64], n: usize, r: Rec)
     ensures { m.new ≡ push_r m.old n r }
 {
     let mut i = n;
+    // Up the tree, place above place, and not one after another.
     while 0 < i {
         let p = (i - 1) / 2;
         let x = records::get(m, p);
@@ -61,6 +63,7 @@ pub fn pop(m: &mut [u64], n: usize) -> Rec
     let least = records::get(m, 0);
     let a = records::get(m, n);
     let mut i = 0;
+    // Down the tree, to the lesser of the two below.
     while i < n / 2 {
         let c = lesser(m, n, i);
         let x = c.record;

@@ -1,5 +1,6 @@
 // The plain queue: records as a simple list in lent memory, in whatever order they came. A new one is written at the end; the one that goes first is found by
 // looking through all of the list, and the last record is moved to its place. docs/PLAIN.md follows it on paper.
+// `m` is all of the memory and n how many records stand in it, since the next one goes behind them.
 #![tactic(auto)]
 
 ghost use Rattle.std.specs.Prelude.{◌≡◌, ◌<◌, ◌≤◌};

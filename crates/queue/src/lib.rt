@@ -1,5 +1,5 @@
 // The queue of candidates in lent memory, kept by either engine: as a heap, the quick way, or as a plain list. What the records are and which goes first is the
-// crate records.
+// crate records. `m` is all of the memory and n how many records stand in it, since the next one goes behind them.
 #![tactic(auto)]
 
 ghost use Rattle.std.specs.Prelude.{◌≡◌, ◌<◌};

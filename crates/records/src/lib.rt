@@ -38,6 +38,7 @@ fn cost_of(weight: u64, id: u64, present: u64, terminal: u64) -> u64
 }
 
 // The record of a cell with these children that grew from the start cell at the place `from`.
+#[tactic(auto, unfolding(crate::specs::Records::record_of))]
 pub fn record_of(weight: u64, from: u64, id: u64, present: u64, terminal: u64) -> Rec
     requires { (weight ≤ 65) × (from < 8) }
     ensures { result ≡ record_of weight from id present terminal }
@@ -75,6 +76,7 @@ impl Rec {
 }
 
 // The record at the place i: its words one by one, in place of a part of the slice that would have to be taken apart.
+#[tactic(auto, unfolding(crate::specs::Records::get_r))]
 pub fn get(m: &[u64], i: usize) -> Rec
     requires { i < cap_r m.now }
     ensures { result ≡ get_r m.now i }
@@ -88,6 +90,7 @@ pub fn get(m: &[u64], i: usize) -> Rec
 }
 
 // Writes r at the place i.
+#[tactic(auto, unfolding(crate::specs::Records::put_r))]
 pub fn put(m: &mut [u64], i: usize, r: Rec)
     requires { i < cap_r m.old }
     ensures { m.new ≡ put_r m.old i r }

@@ -23,7 +23,7 @@ pub struct RegionCoverer {
     pub edition: u64,
 }
 
-// What is asked of a run: the numbers, and whether it is an inner one.
+// What is asked of a run: the numbers, and which of the two kinds it is, an outer or an inner one.
 #[derive(Clone, Copy)]
 pub struct Request {
     pub coverer: RegionCoverer,

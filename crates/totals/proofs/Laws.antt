@@ -1,15 +1,13 @@
--- Totals are what they are at their six places; and two are found to be the same exactly if they are one.
-use Rattle.std.specs.Prelude.{◌≡◌, ◌≢◌, ◌<◌, ◌≤◌, Bool, true, false, ◌&&◌, length, ℕ, zero, suc}
-use Rattle.std.specs.Cmp.Lexicographic.{nat_list_eq_equiv, same_text}
-use mathlib.Core.Path.{ap, refl, sym, ◌∙◌}
+-- Totals are what they are at their six places.
+use Rattle.std.specs.Prelude.{◌≡◌, ◌≢◌, ◌<◌, ◌≤◌, length, ℕ, zero, suc}
+use mathlib.Core.Path.{refl, sym, ◌∙◌}
 use Rattle.std.proofs.lemmas.Grind.{same_number_lists}
 use Rattle.std.proofs.lemmas.List.{get_or_past}
 use Rattle.std.proofs.Math.Decide.{dec_lt}
-use mathlib.Core.Bool.{true≢false}
 use native.Mathlib.Omega.{arith}
 use lib.Seq.{get_or-set_same, get_or-set_other}
 use Rattle.totals.specs.declared.Totals.{Totals}
-use Rattle.totals.specs.Totals.{totals_by, no_totals, six_of, total_at, with_total, same_totals}
+use Rattle.totals.specs.Totals.{totals_by, no_totals, six_of, total_at, with_total}
 
 -- the total at a place is what is told of that place; past the sixth it is 0
 told : (f : ℕ → ℕ) (i : ℕ) → i < 6 → total_at (totals_by f) i ≡ f i
@@ -39,17 +37,3 @@ module _ (t : Totals) (i n : ℕ) where
 -- told by place
 pub totals_by_lem : (t : Totals) (f : ℕ → ℕ) → length t.six ≡ 6 → ((i : ℕ) → total_at t i ≡ f i) → t ≡ totals_by f
 totals_by_lem t f n e = λ k. record { six = same_number_lists t.six (six_of (totals_by f)) n (λ i l. e i ∙ sym (told f i (omega arith))) k }
-
-pub six_told : (t : Totals) → length t.six ≡ 6 → t.six ≡ six_of t
-six_told t n = ap (λ (u : Totals). u.six) (totals_by_lem t (total_at t) n (λ i. refl))
-
--- the same
-pub totals_same : (t : Totals) → same_totals t t ≡ true
-totals_same t = nat_list_eq_equiv.refl t.six
-
-pub totals_are : (a b : Totals) → same_totals a b ≡ true → a ≡ b
-totals_are a b e = λ k. record { six = same_text a.six b.six (sym e) k }
-
-pub both_true : (a b : Bool) → (a && b) ≡ true → (a ≡ true) × (b ≡ true)
-both_true true b e = (refl, e)
-both_true false b e = absurd (true≢false (sym e))

@@ -1,6 +1,5 @@
 -- Six totals, by the places 0 to 5 of the start cells. Assumes nothing.
-use Rattle.std.specs.Prelude.{Bool, List, [], ◌∷◌, ℕ, eqb, get_or, set}
-use Rattle.std.specs.Cmp.Lexicographic.{pointwise}
+use Rattle.std.specs.Prelude.{List, [], ◌∷◌, ℕ, get_or, set}
 use Rattle.totals.specs.declared.Totals.{Totals}
 
 -- the totals that f tells, by place
@@ -22,7 +21,3 @@ six_of t = total_at t 0 ∷ total_at t 1 ∷ total_at t 2 ∷ total_at t 3 ∷ t
 -- with n at the place i
 abbrev pub with_total : Totals → ℕ → ℕ → Totals
 with_total t i n = record { six = set t.six i n }
-
--- the same six
-abbrev pub same_totals : Totals → Totals → Bool
-same_totals a b = pointwise eqb a.six b.six

@@ -4,7 +4,7 @@
 ghost use Rattle.std.specs.Prelude.{◌≡◌, ◌<◌};
 ghost use Rattle.totals.specs.Totals.{total_at, with_total};
 
-// The totals by place. C sees six u64 in this order.
+// The totals by place. C sees six u64 in this order. Two are the same if all six are, which is the derived equality.
 #[repr(C)]
 #[derive(Clone, Copy, PartialEq, Eq)]
 pub struct Totals {

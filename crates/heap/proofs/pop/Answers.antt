@@ -26,9 +26,6 @@ turn m₀ n a m i c x m' p ec lo hi ex t em I = record {
 pub loop-i-init : goal.loop-i-init
 loop-i-init c = record { room = omega arith; within = omega arith; len = refl; run = rw c.get-a.ensures (Down_start get_r put_r _ _ _) }
 
-pub goes_first-requires : goal.goes_first-requires
-goes_first-requires c = tt
-
 pub loop-i-preserved : goal.loop-i-preserved
 loop-i-preserved c =
     let l = c.lesser-c.ensures in

@@ -28,9 +28,6 @@ turn m₀ n r m i x m' p ex t em I = record {
 pub loop-i-init : goal.loop-i-init
 loop-i-init c = record { within = omega arith; len = refl; run = Up_start get_r put_r _ _ _ _ }
 
-pub goes_first-requires : goal.goes_first-requires
-goes_first-requires c = tt
-
 pub loop-i-preserved : goal.loop-i-preserved
 loop-i-preserved c = turn _ _ _ _ _ _ _ c.loop-i-test.true c.get-x.ensures (test _ _ _ _ _ _ c.get-x.ensures c.goes_first.ensures c.if-goes_first.true) c.put.ensures c.loop-i.invariant
 
