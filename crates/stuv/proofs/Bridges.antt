@@ -18,7 +18,7 @@ use Rattle.point.proofs.Numbers.{Number, nought, one_fits, neg_neg, neg_number, 
 use Rattle.point.proofs.Numbers.{nought_times, zero_is, zero_minus, sum_comm, zero_last, zero_between, zero_first, minus_self}
 use Rattle.point.proofs.Differences.{above_difference, equal_above}
 use Rattle.stuv.specs.Projection.{st_to_uv, uv_to_st, axis_of, along_axis, face_toward, uv_at, face_uv_to_xyz, xyz_to_face_uv, behind, face_xyz_to_uv, u_norm, v_norm}
-use Rattle.stuv.specs.declared.Side.{Side}
+use Rattle.std.specs.Prelude.{Some}
 
 -- ---- from a face's place to a vector and back
 
@@ -44,7 +44,7 @@ before (suc (suc (suc (suc (suc n))))) u v = refl
 
 -- so it is the place that is found on that face
 pub side_back : (face : ℕ) (u v : Float) → T (fits binary64 u) → T (fits binary64 v)
-    → face_xyz_to_uv face (face_uv_to_xyz face u v) ≡ Side.At (record { u = u; v = v })
+    → face_xyz_to_uv face (face_uv_to_xyz face u v) ≡ Some (record { u = u; v = v })
 unfolding face_xyz_to_uv
 side_back face u v p q = rw (before face u v, place_back face u v p q)
 
@@ -94,7 +94,7 @@ face_back (suc (suc (suc (suc (suc (suc n)))))) u v h p q = absurd (omega arith)
 
 -- so the face and the place are both read back
 pub xyz_back : (face : ℕ) (u v : Float) → face < 6 → lt (abs_of u) one_f ≡ true → lt (abs_of v) one_f ≡ true → T (fits binary64 u) → T (fits binary64 v)
-    → xyz_to_face_uv (face_uv_to_xyz face u v) ≡ record { face = face; u = u; v = v }
+    → xyz_to_face_uv (face_uv_to_xyz face u v) ≡ record { face = face; uv = record { u = u; v = v } }
 unfolding xyz_to_face_uv
 xyz_back face u v h p q f g = rw (face_back face u v h p q, place_back face u v f g)
 

@@ -1,6 +1,6 @@
 -- The cube's faces, and the coordinates (s, t) and (u, v) on them: s2/stuv.rs, in its order of operations. Definitions only.
 -- A face is 0 to 5; a function of a face is a row of six, and a face over 5 is barred where it is called.
-use Rattle.std.specs.Prelude.{ℕ, zero, suc, ◌+◌, Bool, cond, Float}
+use Rattle.std.specs.Prelude.{ℕ, zero, suc, ◌+◌, Bool, cond, Float, Option, Some, None}
 use Rattle.std.specs.Float.{binary64}
 use Rattle.std.specs.Float.Ieee.{neg, lt, le}
 use Rattle.root.specs.Root.{root}
@@ -8,7 +8,6 @@ use Rattle.point.specs.Floats.{◌⊕◌, ◌⊖◌, ◌⊗◌, ◌⊘◌, zero_
 use Rattle.point.specs.declared.Point.{Point}
 use Rattle.stuv.specs.declared.Uv.{Uv}
 use Rattle.stuv.specs.declared.FaceUv.{FaceUv}
-use Rattle.stuv.specs.declared.Side.{Side}
 
 unfoldable pub st_to_uv : Float → Float
 st_to_uv s =
@@ -65,7 +64,7 @@ uv_at face r =
     (uv (neg r.y ⊘ r.z) (neg r.x ⊘ r.z))
 
 unfoldable pub xyz_to_face_uv : Point → FaceUv
-xyz_to_face_uv r = record { face = face_toward r; u = (uv_at (face_toward r) r).u; v = (uv_at (face_toward r) r).v }
+xyz_to_face_uv r = record { face = face_toward r; uv = uv_at (face_toward r) r }
 
 unfoldable pub face_uv_to_xyz : ℕ → Float → Float → Point
 face_uv_to_xyz face u v =
@@ -88,8 +87,8 @@ behind face p =
     (le zero_f p.y)
     (le zero_f p.z)
 
-unfoldable pub face_xyz_to_uv : ℕ → Point → Side
-face_xyz_to_uv face p = cond (behind face p) Side.Behind (Side.At (uv_at face p))
+unfoldable pub face_xyz_to_uv : ℕ → Point → Option Uv
+face_xyz_to_uv face p = cond (behind face p) None (Some (uv_at face p))
 
 -- the normals of the lines of a constant u, and of a constant v, on a face
 unfoldable pub u_norm : ℕ → Float → Point

@@ -17,39 +17,35 @@ pub struct Uv {
     pub v: f64,
 }
 
-// A face and a place on it.
+// A face and a place on it. A face is a number, 0 to 5: it is that of an id's top three bits.
 #[derive(Clone, Copy)]
 pub struct FaceUv {
     pub face: u64,
-    pub u: f64,
-    pub v: f64,
-}
-
-// Where a vector meets a face, or that it points to the other side.
-#[derive(Clone, Copy)]
-pub enum Side {
-    At(Uv),
-    Behind,
+    pub uv: Uv,
 }
 
 // From (s, t) to (u, v): the quadratic map.
+#[tactic(auto, unfolding(crate::specs::Projection::st_to_uv))]
 pub fn st_to_uv(s: f64) -> f64
     ensures { result ≡ st_to_uv s }
 {
     if s >= 0.5 {
-        return (1.0 / 3.0) * (4.0 * s * s - 1.0);
+        (1.0 / 3.0) * (4.0 * s * s - 1.0)
+    } else {
+        (1.0 / 3.0) * (1.0 - 4.0 * (1.0 - s) * (1.0 - s))
     }
-    (1.0 / 3.0) * (1.0 - 4.0 * (1.0 - s) * (1.0 - s))
 }
 
 // The way back: one root.
+#[tactic(auto, unfolding(crate::specs::Projection::uv_to_st))]
 pub fn uv_to_st(u: f64) -> f64
     ensures { result ≡ uv_to_st u }
 {
     if u >= 0.0 {
-        return 0.5 * root::root(1.0 + 3.0 * u);
+        0.5 * root::root(1.0 + 3.0 * u)
+    } else {
+        1.0 - 0.5 * root::root(1.0 - 3.0 * u)
     }
-    1.0 - 0.5 * root::root(1.0 - 3.0 * u)
 }
 
 // The face that a vector points to, 0 to 5; of components of one size the first decides, and a NaN is
@@ -62,14 +58,15 @@ fn face(r: Point) -> u64
     let z = point::abs(r.z);
     if y > x {
         if z > y {
-            return signed(2, r.z);
+            signed(2, r.z)
+        } else {
+            signed(1, r.y)
         }
-        return signed(1, r.y);
+    } else if z > x {
+        signed(2, r.z)
+    } else {
+        signed(0, r.x)
     }
-    if z > x {
-        return signed(2, r.z);
-    }
-    signed(0, r.x)
 }
 
 // The face of an axis, by the sign of the component along it.
@@ -77,13 +74,11 @@ fn signed(axis: u64, value: f64) -> u64
     requires { axis < 3 }
     ensures { result ≡ cond (lt value zero_f) (axis + 3) axis }
 {
-    if value < 0.0 {
-        return axis + 3;
-    }
-    axis
+    if value < 0.0 { axis + 3 } else { axis }
 }
 
 // Where the line through r meets the face's plane: two divisions.
+#[tactic(auto, unfolding(crate::specs::Projection::uv_at))]
 fn valid_face_xyz_to_uv(face: u64, r: Point) -> Uv
     requires { face < 6 }
     ensures { result ≡ uv_at face r }
@@ -121,15 +116,12 @@ pub fn xyz_to_face_uv(r: Point) -> FaceUv
     ensures { result ≡ xyz_to_face_uv r }
 {
     let face = face(r);
-    let p = valid_face_xyz_to_uv(face, r);
-    FaceUv {
-        face,
-        u: p.u,
-        v: p.v,
-    }
+    let uv = valid_face_xyz_to_uv(face, r);
+    FaceUv { face, uv }
 }
 
 // The vector, not of unit length, that meets the face there.
+#[tactic(auto, unfolding(crate::specs::Projection::face_uv_to_xyz))]
 pub fn face_uv_to_xyz(face: u64, u: f64, v: f64) -> Point
     requires { face < 6 }
     ensures { result ≡ face_uv_to_xyz face u v }
@@ -164,6 +156,7 @@ pub fn face_uv_to_xyz(face: u64, u: f64, v: f64) -> Point
     }
 }
 
+#[tactic(auto, unfolding(crate::specs::Projection::behind))]
 fn is_behind(face: u64, p: Point) -> bool
     requires { face < 6 }
     ensures { result ≡ behind face p }
@@ -179,17 +172,20 @@ fn is_behind(face: u64, p: Point) -> bool
 }
 
 // Where p meets the face, if it is on the face's side.
-pub fn face_xyz_to_uv(face: u64, p: Point) -> Side
+#[tactic(auto, unfolding(crate::specs::Projection::face_xyz_to_uv))]
+pub fn face_xyz_to_uv(face: u64, p: Point) -> Option<Uv>
     requires { face < 6 }
     ensures { result ≡ face_xyz_to_uv face p }
 {
     if is_behind(face, p) {
-        return Side::Behind;
+        None
+    } else {
+        Some(valid_face_xyz_to_uv(face, p))
     }
-    Side::At(valid_face_xyz_to_uv(face, p))
 }
 
 // The normal, not of unit length, of the plane through the origin and the face's line of a constant u.
+#[tactic(auto, unfolding(crate::specs::Projection::u_norm))]
 pub fn unorm(face: u64, u: f64) -> Point
     requires { face < 6 }
     ensures { result ≡ u_norm face u }
@@ -228,7 +224,8 @@ pub fn unorm(face: u64, u: f64) -> Point
     }
 }
 
-// The same for a constant v.
+// The same for a constant v. A row of its own: the faces take other axes, and other signs, for v than for u.
+#[tactic(auto, unfolding(crate::specs::Projection::v_norm))]
 pub fn vnorm(face: u64, v: f64) -> Point
     requires { face < 6 }
     ensures { result ≡ v_norm face v }
