@@ -24,7 +24,7 @@ st_to_ij s = min (to_unsigned 64 (max_size ⊗ s)) (2 ^ 30 - 1)
 unfoldable pub leaf_of_point : Point → ℕ
 leaf_of_point p =
     let f = xyz_to_face_uv p in
-    leaf_of f.face (st_to_ij (uv_to_st f.u)) (st_to_ij (uv_to_st f.v))
+    leaf_of f.face (st_to_ij (uv_to_st f.uv.u)) (st_to_ij (uv_to_st f.uv.v))
 
 -- 1 over 2 ^ 30, and the next float above 1
 abbrev pub scale : Float
@@ -44,7 +44,7 @@ middle_at k = clamp_of (scale ⊗ (two_f ⊗ of_int binary64 (minus k 1) ⊕ one
 unfoldable pub leaf_wrapped : ℕ → ℕ → ℕ → ℕ
 leaf_wrapped face i j =
     let f = xyz_to_face_uv (face_uv_to_xyz face (middle_at i) (middle_at j)) in
-    leaf_of f.face (st_to_ij (half_f ⊗ (f.u ⊕ one_f))) (st_to_ij (half_f ⊗ (f.v ⊕ one_f)))
+    leaf_of f.face (st_to_ij (half_f ⊗ (f.uv.u ⊕ one_f))) (st_to_ij (half_f ⊗ (f.uv.v ⊕ one_f)))
 
 -- the same, known to lie on the face itself or not
 unfoldable pub leaf_beside : ℕ → ℕ → ℕ → Bool → ℕ

@@ -7,35 +7,29 @@ ghost use Rattle.std.specs.Prelude.{◌≡◌, ◌+◌, ◌^◌, ◌<◌, ◌≤
 ghost use Rattle.std.specs.Float.{binary64};
 ghost use Rattle.std.specs.Float.Ieee.{minus, of_int};
 ghost use Rattle.cellid.specs.CellId.{Cell};
-ghost use Rattle.neighbors.specs.Neighbors.{st_to_ij, leaf_of_point, clamp_of, middle_at, leaf_wrapped, leaf_beside, toward_of, vertex_neighbors, in_four, AtLevel};
+ghost use Rattle.neighbors.specs.Neighbors.{st_to_ij, leaf_of_point, middle_at, leaf_wrapped, leaf_beside, toward_of, vertex_neighbors, in_four, AtLevel};
 
 use point::Point;
 
-// The way to the cell beside: whether it is on the same face, and its coordinate, one up.
+// The way to the cell beside: whether it is on the same face, and its coordinate, one up, which is read in either case.
 #[derive(Clone, Copy)]
 struct Toward {
     same: bool,
     at: u64,
 }
 
-// The cells around a corner, in the first `count` places, zeros after.
+// The cells around a corner, in the first `count` places, zeros after: there is no heap for three or four.
 #[derive(Clone, Copy)]
 pub struct Neighbors {
     pub ids: [u64; 4],
     pub count: usize,
 }
 
+#[tactic(auto, unfolding(crate::specs::Neighbors::st_to_ij))]
 fn st_to_ij(s: f64) -> u64
     ensures { result ≡ st_to_ij s }
 {
-    let x = 1073741824.0 * s;
-    if x >= 1.0 {
-        if x < 1073741824.0 {
-            return std::num::truncating_f64_to_u64(x);
-        }
-        return 1073741823;
-    }
-    0
+    std::num::saturating_f64_to_u64(1073741824.0 * s).min(1073741823)
 }
 
 // The leaf that a point lies in: a valid id whatever the floats are. Two roots, two divisions.
@@ -44,21 +38,9 @@ pub fn cellid_from_point(p: Point) -> u64
     ensures leaf { AtLevel 30 result }
 {
     let f = stuv::xyz_to_face_uv(p);
-    let i = st_to_ij(stuv::uv_to_st(f.u));
-    let j = st_to_ij(stuv::uv_to_st(f.v));
+    let i = st_to_ij(stuv::uv_to_st(f.uv.u));
+    let j = st_to_ij(stuv::uv_to_st(f.uv.v));
     hilbert::from_face_ij(f.face, i, j)
-}
-
-fn clamp(x: f64, lo: f64, hi: f64) -> f64
-    ensures { result ≡ clamp_of x lo hi }
-{
-    if x < lo {
-        return lo;
-    }
-    if x > hi {
-        return hi;
-    }
-    x
 }
 
 // k - 1 as a float.
@@ -66,22 +48,16 @@ fn coordinate(k: u64) -> f64
     requires { k ≤ 2 ^ 30 + 1 }
     ensures { result ≡ of_int binary64 (minus k 1) }
 {
-    if k == 0 {
-        return -1.0;
-    }
-    ((k - 1) as u32) as f64
+    (k as i64 - 1) as f64
 }
 
 // The middle of the leaf k - 1 along a face, from -1 to 1 and the next floats beyond.
+#[tactic(auto, unfolding(crate::specs::Neighbors::middle_at, crate::specs::Neighbors::clamp_of))]
 fn middle(k: u64) -> f64
     requires { k ≤ 2 ^ 30 + 1 }
     ensures { result ≡ middle_at k }
 {
-    clamp(
-        SCALE * (2.0 * coordinate(k) + 1.0 - 1073741824.0),
-        -LIMIT,
-        LIMIT,
-    )
+    (SCALE * (2.0 * coordinate(k) + 1.0 - 1073741824.0)).clamp(-LIMIT, LIMIT)
 }
 
 const SCALE: f64 = 9.313225746154785e-10;
@@ -98,8 +74,8 @@ fn from_face_ij_wrap(face: u64, i: u64, j: u64) -> u64
     let f = stuv::xyz_to_face_uv(stuv::face_uv_to_xyz(face, middle(i), middle(j)));
     hilbert::from_face_ij(
         f.face,
-        st_to_ij(0.5 * (f.u + 1.0)),
-        st_to_ij(0.5 * (f.v + 1.0)),
+        st_to_ij(0.5 * (f.uv.u + 1.0)),
+        st_to_ij(0.5 * (f.uv.v + 1.0)),
     )
 }
 
@@ -110,9 +86,10 @@ fn from_face_ij_same(face: u64, i: u64, j: u64, same: bool) -> u64
     ensures { result ≡ leaf_beside face i j same }
 {
     if same {
-        return hilbert::from_face_ij(face, i - 1, j - 1);
+        hilbert::from_face_ij(face, i - 1, j - 1)
+    } else {
+        from_face_ij_wrap(face, i, j)
     }
-    from_face_ij_wrap(face, i, j)
 }
 
 // From the coordinate i to the nearer of the cells beside its own, of twice 2^place leaves a side.
@@ -124,24 +101,16 @@ fn nearer(i: u64, place: u64) -> Toward
     let half = 1 << place;
     let size = half << 1;
     if i & half != 0 {
-        if i + size < 1073741824 {
-            return Toward {
-                same: true,
-                at: i + size + 1,
-            };
+        Toward {
+            same: i + size < 1073741824,
+            at: (i + size).min(1073741824) + 1,
         }
-        return Toward {
-            same: false,
-            at: 1073741825,
-        };
+    } else {
+        Toward {
+            same: size <= i,
+            at: (i + 1).saturating_sub(size),
+        }
     }
-    if i >= size {
-        return Toward {
-            same: true,
-            at: i + 1 - size,
-        };
-    }
-    Toward { same: false, at: 0 }
 }
 
 // The cells of a level that meet at the corner next to the cell's middle, three or four, in the Rust's
@@ -162,13 +131,14 @@ pub fn vertex_neighbors(id: u64, level: u64) -> Neighbors
             from_face_ij_same(f.face, a.at, b.at, a.same & b.same),
             level,
         );
-        return Neighbors {
+        Neighbors {
             ids: [own, along_i, along_j, across],
             count: 4,
-        };
-    }
-    Neighbors {
-        ids: [own, along_i, along_j, 0],
-        count: 3,
+        }
+    } else {
+        Neighbors {
+            ids: [own, along_i, along_j, 0],
+            count: 3,
+        }
     }
 }

@@ -21,6 +21,6 @@ pub returns-then-same : goal.returns-then-same
 unfolding leaf_beside
 returns-then-same c = rw c.if-same.true c.from_face_ij.ensures
 
-pub returns : goal.returns
+pub returns-else-same : goal.returns-else-same
 unfolding leaf_beside
-returns c = rw c.if-same.false c.from_face_ij_wrap.ensures
+returns-else-same c = rw c.if-same.false c.from_face_ij_wrap.ensures

@@ -75,7 +75,7 @@ unfolding vertex_neighbors
 returns-then-a-b c =
     rw (← c.face_ij_orientation-f.ensures, ← c.nearer-a.ensures, ← c.nearer-b.ensures, ← c.from_face_ij_same.ensures, ← c.from_face_ij_same-2.ensures, ← c.from_face_ij_same-then-a-b.ensures, ← c.parent-own.ensures, ← c.parent-along_i.ensures, ← c.parent-along_j.ensures, ← c.parent-across.ensures, c.if-a-b.true)
 
-pub returns : goal.returns
+pub returns-else-a-b : goal.returns-else-a-b
 unfolding vertex_neighbors
-returns c =
+returns-else-a-b c =
     rw (← c.face_ij_orientation-f.ensures, ← c.nearer-a.ensures, ← c.nearer-b.ensures, ← c.from_face_ij_same.ensures, ← c.from_face_ij_same-2.ensures, ← c.parent-own.ensures, ← c.parent-along_i.ensures, ← c.parent-along_j.ensures, c.if-a-b.false)
