@@ -1,6 +1,6 @@
 -- Cells as pieces of the sphere, cell.rs: the bounds in (u, v), the four corners and edges, the test for a point, and the cap around a cell.
 -- Every float step is the Rust's, in its order, each rounded once. Definitions only.
-use Rattle.std.specs.Prelude.{ℕ, zero, suc, ◌+◌, ◌-◌, ◌*◌, ◌/◌, ◌^◌, Bool, false, cond, ◌&&◌, List, [], ◌∷◌, pos, Float}
+use Rattle.std.specs.Prelude.{ℕ, zero, suc, ◌+◌, ◌-◌, ◌*◌, ◌/◌, ◌^◌, Bool, false, cond, ◌&&◌, List, [], ◌∷◌, pos, Float, Option, Some, None}
 use Rattle.std.specs.Float.{binary64}
 use Rattle.std.specs.Float.Ieee.{neg, lt, le, ne, of_int}
 use Rattle.cellid.specs.CellId.{level_of}
@@ -10,7 +10,7 @@ use Rattle.point.specs.Vector.{mul_of, normalize_of}
 use Rattle.point.specs.ChordAngle.{chord_angle}
 use Rattle.point.specs.declared.Point.{Point}
 use Rattle.stuv.specs.Projection.{st_to_uv, face_uv_to_xyz, face_xyz_to_uv, u_norm, v_norm}
-use Rattle.stuv.specs.declared.Side.{Side}
+use Rattle.stuv.specs.declared.Uv.{Uv}
 use Rattle.cell.specs.declared.Interval.{Interval}
 use Rattle.cell.specs.declared.Rect.{Rect}
 use Rattle.cell.specs.declared.Cell.{Cell}
@@ -90,9 +90,9 @@ in_interval i p = le i.lo p && le p i.hi
 unfoldable pub expanded_of : Interval → Interval
 expanded_of i = cond (lt i.hi i.lo) i (record { lo = i.lo ⊖ margin; hi = i.hi ⊕ margin })
 
-unfoldable pub on_side : Rect → Side → Bool
-on_side b Side.Behind = false
-on_side b (Side.At p) = in_interval (expanded_of b.x) p.u && in_interval (expanded_of b.y) p.v
+unfoldable pub on_side : Rect → Option Uv → Bool
+on_side b None = false
+on_side b (Some p) = in_interval (expanded_of b.x) p.u && in_interval (expanded_of b.y) p.v
 
 unfoldable pub holds_point : Cell → Point → Bool
 holds_point c p = on_side c.uv (face_xyz_to_uv c.face p)

@@ -22,6 +22,36 @@ pub struct Interval {
     pub hi: f64,
 }
 
+impl Interval {
+    // The interval with the margin on both sides; an empty one as it is.
+    #[tactic(auto, unfolding(crate::specs::Cell::expanded_of))]
+    fn expanded(self) -> Interval
+        ensures { result ≡ expanded_of self }
+    {
+        if self.lo > self.hi {
+            self
+        } else {
+            Interval {
+                lo: self.lo - DBL_EPSILON,
+                hi: self.hi + DBL_EPSILON,
+            }
+        }
+    }
+
+    #[tactic(auto, unfolding(crate::specs::Cell::in_interval))]
+    fn contains(self, p: f64) -> bool
+        ensures { result ≡ in_interval self p }
+    {
+        self.lo <= p && p <= self.hi
+    }
+
+    fn center(self) -> f64
+        ensures { result ≡ center_of self }
+    {
+        0.5 * (self.lo + self.hi)
+    }
+}
+
 // An interval in u and one in v.
 #[derive(Clone, Copy)]
 pub struct Rect {
@@ -45,6 +75,34 @@ pub struct Cap {
 
 const DBL_EPSILON: f64 = 2.220446049250313e-16;
 
+// The larger of two floats; of a number and a NaN, the number. Not std's `max`, which leaves open which of two equal floats it is.
+#[tactic(auto, unfolding(crate::specs::Cell::max_of))]
+fn max(a: f64, b: f64) -> f64
+    ensures { result ≡ max_of a b }
+{
+    if a != a || a < b { b } else { a }
+}
+
+impl Cap {
+    // The cap grown to reach p; an empty one becomes the point.
+    #[tactic(auto, unfolding(crate::specs::Cell::add_point))]
+    fn add_point(self, p: Point) -> Cap
+        ensures { result ≡ add_point self p }
+    {
+        if self.radius < 0.0 {
+            Cap {
+                center: p,
+                radius: 0.0,
+            }
+        } else {
+            Cap {
+                center: self.center,
+                radius: max(self.center.chordangle(p), self.radius),
+            }
+        }
+    }
+}
+
 // A line of the leaves' grid in (s, t). A signed number becomes a float in one instruction, an unsigned one in six.
 fn ij_to_stmin(i: u64) -> f64
     requires { i ≤ 2 ^ 30 }
@@ -54,6 +112,7 @@ fn ij_to_stmin(i: u64) -> f64
 }
 
 // A line of the leaves' grid in (u, v).
+#[tactic(auto, unfolding(crate::specs::Cell::line_at))]
 fn line_at(i: u64) -> f64
     requires { i ≤ 2 ^ 30 }
     ensures { result ≡ line_at i }
@@ -75,6 +134,7 @@ fn span_at(i: u64, level: u64) -> Interval
 }
 
 // The bounds of the cell at a level that has the leaf at i, j in it.
+#[tactic(auto, unfolding(crate::specs::Cell::bound_uv))]
 fn ij_level_to_bound_uv(i: u64, j: u64, level: u64) -> Rect
     requires { (i < 2 ^ 30) × (j < 2 ^ 30) × (level ≤ 30) }
     ensures { result ≡ bound_uv i j level }
@@ -96,6 +156,7 @@ pub fn from_id(id: u64) -> Cell
 }
 
 // The unit vector to a place of a face: one root, one division.
+#[tactic(auto, unfolding(crate::specs::Cell::unit_at))]
 fn unit_at(face: u64, u: f64, v: f64) -> Point
     requires { face < 6 }
     ensures { result ≡ unit_at face u v }
@@ -103,108 +164,126 @@ fn unit_at(face: u64, u: f64, v: f64) -> Point
     stuv::face_uv_to_xyz(face, u, v).normalize()
 }
 
-// The k-th corner, 0 to 3: lower left, lower right, upper right, upper left in (u, v).
-pub fn vertex(c: Cell, k: u64) -> Point
-    requires { (c.face < 6) × (k < 4) }
-    ensures { result ≡ vertex_at c k }
+// What brings the normals of a line to unit length: one root, one division.
+#[tactic(auto, unfolding(crate::specs::Siblings::scale_of))]
+fn scale(w: f64) -> f64
+    ensures { result ≡ scale_of w }
 {
-    match k {
-        0 => unit_at(c.face, c.uv.x.lo, c.uv.y.lo),
-        1 => unit_at(c.face, c.uv.x.hi, c.uv.y.lo),
-        2 => unit_at(c.face, c.uv.x.hi, c.uv.y.hi),
-        _ => unit_at(c.face, c.uv.x.lo, c.uv.y.hi),
-    }
+    1.0 / root::root(1.0 + w * w)
 }
 
-// The interval with the margin on both sides; an empty one as it is.
-fn expanded(i: Interval) -> Interval
-    ensures { result ≡ expanded_of i }
-{
-    if i.lo > i.hi {
-        return i;
+impl Cell {
+    // The k-th corner, 0 to 3: lower left, lower right, upper right, upper left in (u, v).
+    #[tactic(auto, unfolding(crate::specs::Cell::vertex_at))]
+    pub fn vertex(self, k: u64) -> Point
+        requires { (self.face < 6) × (k < 4) }
+        ensures { result ≡ vertex_at self k }
+    {
+        match k {
+            0 => unit_at(self.face, self.uv.x.lo, self.uv.y.lo),
+            1 => unit_at(self.face, self.uv.x.hi, self.uv.y.lo),
+            2 => unit_at(self.face, self.uv.x.hi, self.uv.y.hi),
+            _ => unit_at(self.face, self.uv.x.lo, self.uv.y.hi),
+        }
     }
-    Interval {
-        lo: i.lo - DBL_EPSILON,
-        hi: i.hi + DBL_EPSILON,
+
+    // Whether the cell, its bounds widened by DBL_EPSILON, has the point in it: two divisions, no root.
+    #[tactic(auto, unfolding(crate::specs::Cell::holds_point, crate::specs::Cell::on_side))]
+    pub fn contains_point(self, p: Point) -> bool
+        requires { self.face < 6 }
+        ensures { result ≡ holds_point self p }
+    {
+        match stuv::face_xyz_to_uv(self.face, p) {
+            Some(q) => self.uv.x.expanded().contains(q.u) && self.uv.y.expanded().contains(q.v),
+            None => false,
+        }
     }
-}
 
-fn contains(i: Interval, p: f64) -> bool
-    ensures { result ≡ in_interval i p }
-{
-    i.lo <= p && p <= i.hi
-}
-
-fn center(i: Interval) -> f64
-    ensures { result ≡ center_of i }
-{
-    0.5 * (i.lo + i.hi)
-}
-
-// Whether the cell, its bounds widened by DBL_EPSILON, has the point in it: two divisions, no root.
-pub fn contains_point(c: Cell, p: Point) -> bool
-    requires { c.face < 6 }
-    ensures { result ≡ holds_point c p }
-{
-    let s = stuv::face_xyz_to_uv(c.face, p);
-    match s {
-        stuv::Side::At(q) => contains(expanded(c.uv.x), q.u) && contains(expanded(c.uv.y), q.v),
-        stuv::Side::Behind => false,
-    }
-}
-
-// The larger of two floats; of a number and a NaN, the number.
-fn max(a: f64, b: f64) -> f64
-    ensures { result ≡ max_of a b }
-{
-    if a != a {
-        return b;
-    }
-    if a < b {
-        return b;
-    }
-    a
-}
-
-// The cap grown to reach p; an empty one becomes the point.
-fn add_point(c: Cap, p: Point) -> Cap
-    ensures { result ≡ add_point c p }
-{
-    if c.radius < 0.0 {
-        return Cap {
-            center: p,
+    // The cap around a cell: five roots, five divisions.
+    #[tactic(auto, unfolding(crate::specs::Cell::cap_bound, crate::specs::Cell::middle_of))]
+    pub fn cap_bound(self) -> Cap
+        requires { self.face < 6 }
+        ensures { result ≡ cap_bound self }
+    {
+        let cap = Cap {
+            center: unit_at(self.face, self.uv.x.center(), self.uv.y.center()),
             radius: 0.0,
         };
+        let a = cap.add_point(self.vertex(0));
+        let b = a.add_point(self.vertex(1));
+        let d = b.add_point(self.vertex(2));
+        d.add_point(self.vertex(3))
     }
-    let center = c.center;
-    Cap {
-        center,
-        radius: max(center.chordangle(p), c.radius),
+
+    // The scales of a cell's four lines.
+    #[tactic(auto, unfolding(crate::specs::Siblings::cell_scales))]
+    pub fn scales(self) -> Rect
+        ensures { result ≡ cell_scales self }
+    {
+        let x = Interval {
+            lo: scale(self.uv.x.lo),
+            hi: scale(self.uv.x.hi),
+        };
+        let y = Interval {
+            lo: scale(self.uv.y.lo),
+            hi: scale(self.uv.y.hi),
+        };
+        Rect { x, y }
+    }
+
+    // The k-th edge's inward normal, at unit length, where the scales of the cell's lines are known: no root, no division.
+    pub fn edge(self, m: Rect, k: u64) -> Point
+        requires { (self.face < 6) × (k < 4) × (m ≡ cell_scales self) }
+        ensures { result ≡ edge_at self k }
+    {
+        match k {
+            0 => stuv::vnorm(self.face, self.uv.y.lo).mul(m.y.lo),
+            1 => stuv::unorm(self.face, self.uv.x.hi).mul(m.x.hi),
+            2 => stuv::vnorm(self.face, self.uv.y.hi).mul(-1.0).mul(m.y.hi),
+            _ => stuv::unorm(self.face, self.uv.x.lo).mul(-1.0).mul(m.x.lo),
+        }
     }
 }
 
-// The cap around a cell: five roots, five divisions.
-pub fn cap_bound(c: Cell) -> Cap
-    requires { c.face < 6 }
-    ensures { result ≡ cap_bound c }
-{
-    let center = unit_at(c.face, center(c.uv.x), center(c.uv.y));
-    let cap = Cap {
-        center,
-        radius: 0.0,
-    };
-    let a = add_point(cap, vertex(c, 0));
-    let b = add_point(a, vertex(c, 1));
-    let d = add_point(b, vertex(c, 2));
-    add_point(d, vertex(c, 3))
-}
-
-// Three lines of u, or of v: the first, the middle and the last of a cell.
+// Three lines of u, or of v: the first, the middle and the last of a cell. They are named, not counted: each half and each corner takes its own.
 #[derive(Clone, Copy)]
 pub struct Lines {
     pub a: f64,
     pub b: f64,
     pub c: f64,
+}
+
+impl Lines {
+    #[tactic(auto, unfolding(crate::specs::Siblings::half_of))]
+    fn lower(self) -> Interval
+        ensures { result ≡ half_of self 0 }
+    {
+        Interval {
+            lo: self.a,
+            hi: self.b,
+        }
+    }
+
+    #[tactic(auto, unfolding(crate::specs::Siblings::half_of))]
+    fn upper(self) -> Interval
+        ensures { result ≡ half_of self 1 }
+    {
+        Interval {
+            lo: self.b,
+            hi: self.c,
+        }
+    }
+
+    #[tactic(auto, unfolding(crate::specs::Siblings::scales_of))]
+    fn scales(self) -> Lines
+        ensures { result ≡ scales_of self }
+    {
+        Lines {
+            a: scale(self.a),
+            b: scale(self.b),
+            c: scale(self.c),
+        }
+    }
 }
 
 // The lines between which the four children of a cell lie, and the order in which the curve passes them.
@@ -247,18 +326,6 @@ pub fn quarters_of(id: u64) -> Quarters
     }
 }
 
-fn lower(l: Lines) -> Interval
-    ensures { result ≡ half_of l 0 }
-{
-    Interval { lo: l.a, hi: l.b }
-}
-
-fn upper(l: Lines) -> Interval
-    ensures { result ≡ half_of l 1 }
-{
-    Interval { lo: l.b, hi: l.c }
-}
-
 fn between(face: u64, x: Interval, y: Interval) -> Cell
     ensures { result ≡ cell_between face x y }
 {
@@ -266,129 +333,57 @@ fn between(face: u64, x: Interval, y: Interval) -> Cell
     Cell { face, uv }
 }
 
-// The quarter 0 to 3, i's bit over j's.
-pub fn quarter(q: Quarters, n: u64) -> Cell
-    requires { n < 4 }
-    ensures { result ≡ quarter_at q n }
-{
-    match n {
-        0 => between(q.face, lower(q.x), lower(q.y)),
-        1 => between(q.face, lower(q.x), upper(q.y)),
-        2 => between(q.face, upper(q.x), lower(q.y)),
-        _ => between(q.face, upper(q.x), upper(q.y)),
+impl Quarters {
+    // The quarter 0 to 3, i's bit over j's.
+    #[tactic(auto, unfolding(crate::specs::Siblings::quarter_at))]
+    pub fn quarter(self, n: u64) -> Cell
+        requires { n < 4 }
+        ensures { result ≡ quarter_at self n }
+    {
+        match n {
+            0 => between(self.face, self.x.lower(), self.y.lower()),
+            1 => between(self.face, self.x.lower(), self.y.upper()),
+            2 => between(self.face, self.x.upper(), self.y.lower()),
+            _ => between(self.face, self.x.upper(), self.y.upper()),
+        }
     }
-}
 
-// The corner that all four children share.
-pub fn shared_corner(q: Quarters) -> Point
-    requires { q.face < 6 }
-    ensures { result ≡ shared_corner q }
-{
-    unit_at(q.face, q.x.b, q.y.b)
-}
-
-// The nine corners of the four children, the one on the i-th line of u and the j-th of v at 3 * i + j.
-pub fn corners(q: Quarters) -> [Point; 9]
-    requires { q.face < 6 }
-    ensures { result ≡ corners_of q }
-{
-    [
-        unit_at(q.face, q.x.a, q.y.a),
-        unit_at(q.face, q.x.a, q.y.b),
-        unit_at(q.face, q.x.a, q.y.c),
-        unit_at(q.face, q.x.b, q.y.a),
-        unit_at(q.face, q.x.b, q.y.b),
-        unit_at(q.face, q.x.b, q.y.c),
-        unit_at(q.face, q.x.c, q.y.a),
-        unit_at(q.face, q.x.c, q.y.b),
-        unit_at(q.face, q.x.c, q.y.c),
-    ]
-}
-
-// What brings the normals of a line to unit length: one root, one division.
-fn scale(w: f64) -> f64
-    ensures { result ≡ scale_of w }
-{
-    1.0 / root::root(1.0 + w * w)
-}
-
-fn scales(l: Lines) -> Lines
-    ensures { result ≡ scales_of l }
-{
-    Lines {
-        a: scale(l.a),
-        b: scale(l.b),
-        c: scale(l.c),
+    // The corner that all four children share.
+    pub fn shared_corner(self) -> Point
+        requires { self.face < 6 }
+        ensures { result ≡ shared_corner self }
+    {
+        unit_at(self.face, self.x.b, self.y.b)
     }
-}
 
-// The scales of six lines, in their places.
-pub fn scaled(q: Quarters) -> Quarters
-    ensures { result ≡ scaled_of q }
-{
-    let x = scales(q.x);
-    let y = scales(q.y);
-    Quarters {
-        face: q.face,
-        orientation: q.orientation,
-        x,
-        y,
+    // The nine corners of the four children, the one on the i-th line of u and the j-th of v at 3 * i + j.
+    #[tactic(auto, unfolding(crate::specs::Siblings::corners_of))]
+    pub fn corners(self) -> [Point; 9]
+        requires { self.face < 6 }
+        ensures { result ≡ corners_of self }
+    {
+        [
+            unit_at(self.face, self.x.a, self.y.a),
+            unit_at(self.face, self.x.a, self.y.b),
+            unit_at(self.face, self.x.a, self.y.c),
+            unit_at(self.face, self.x.b, self.y.a),
+            unit_at(self.face, self.x.b, self.y.b),
+            unit_at(self.face, self.x.b, self.y.c),
+            unit_at(self.face, self.x.c, self.y.a),
+            unit_at(self.face, self.x.c, self.y.b),
+            unit_at(self.face, self.x.c, self.y.c),
+        ]
     }
-}
 
-// The scales of a cell's four lines.
-pub fn cell_scales(c: Cell) -> Rect
-    ensures { result ≡ cell_scales c }
-{
-    let x = Interval {
-        lo: scale(c.uv.x.lo),
-        hi: scale(c.uv.x.hi),
-    };
-    let y = Interval {
-        lo: scale(c.uv.y.lo),
-        hi: scale(c.uv.y.hi),
-    };
-    Rect { x, y }
-}
-
-// The normals of the lines of a face, and their opposites, at unit length, where the scale is known: no root, no division.
-fn v_edge(face: u64, w: f64, m: f64) -> Point
-    requires { (face < 6) × (m ≡ scale_of w) }
-    ensures { result ≡ normalize_of (v_norm face w) }
-{
-    stuv::vnorm(face, w).mul(m)
-}
-
-fn u_edge(face: u64, w: f64, m: f64) -> Point
-    requires { (face < 6) × (m ≡ scale_of w) }
-    ensures { result ≡ normalize_of (u_norm face w) }
-{
-    stuv::unorm(face, w).mul(m)
-}
-
-fn v_back(face: u64, w: f64, m: f64) -> Point
-    requires { (face < 6) × (m ≡ scale_of w) }
-    ensures { result ≡ normalize_of (mul_of (v_norm face w) (neg one_f)) }
-{
-    stuv::vnorm(face, w).mul(-1.0).mul(m)
-}
-
-fn u_back(face: u64, w: f64, m: f64) -> Point
-    requires { (face < 6) × (m ≡ scale_of w) }
-    ensures { result ≡ normalize_of (mul_of (u_norm face w) (neg one_f)) }
-{
-    stuv::unorm(face, w).mul(-1.0).mul(m)
-}
-
-// The k-th edge's inward normal, at unit length, where the scales of the cell's lines are known.
-pub fn edge(c: Cell, m: Rect, k: u64) -> Point
-    requires { (c.face < 6) × (k < 4) × (m ≡ cell_scales c) }
-    ensures { result ≡ edge_at c k }
-{
-    match k {
-        0 => v_edge(c.face, c.uv.y.lo, m.y.lo),
-        1 => u_edge(c.face, c.uv.x.hi, m.x.hi),
-        2 => v_back(c.face, c.uv.y.hi, m.y.hi),
-        _ => u_back(c.face, c.uv.x.lo, m.x.lo),
+    // The scales of six lines, in their places.
+    #[tactic(auto, unfolding(crate::specs::Siblings::scaled_of))]
+    pub fn scaled(self) -> Quarters
+        ensures { result ≡ scaled_of self }
+    {
+        Quarters {
+            x: self.x.scales(),
+            y: self.y.scales(),
+            ..self
+        }
     }
 }

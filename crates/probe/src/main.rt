@@ -128,13 +128,13 @@ fn number_of(k: u64, a: u64, g: Cap, id: u64, c: Cell, i: u64) -> u64
 {
     match k {
         7 => common_level(a, id),
-        8 => cell::contains_point(c, g.center) as u64,
+        8 => c.contains_point(g.center) as u64,
         9 => cap::look_at(g, id, true).is_inside() as u64,
         10 => cap::look_at(g, id, false).passes() as u64,
         11 => grid_number(hilbert::face_ij_orientation(id), i),
-        12 => cap_number(cell::cap_bound(c), i),
-        13 => axis(cell::vertex(c, i / 3), i % 3),
-        14 => axis(cell::edge(c, cell::cell_scales(c), i / 3), i % 3),
+        12 => cap_number(c.cap_bound(), i),
+        13 => axis(c.vertex(i / 3), i % 3),
+        14 => axis(c.edge(c.scales(), i / 3), i % 3),
         _ => of_numbers(k, a, g),
     }
 }

@@ -96,7 +96,7 @@ impl Region<'_> {
     {
         match self {
             Region::Cap(c) => lay_cap_bound(c, mem),
-            Region::Cell(own) => lay_cap_bound(cell::cap_bound(cell::from_id(own)), mem),
+            Region::Cell(own) => lay_cap_bound(cell::from_id(own).cap_bound(), mem),
             Region::List(list) => lay_ids(list, mem),
         }
     }

@@ -1,7 +1,0 @@
--- `cell::u_back` meets its contract.
-use denote.Floats.{passes}
-use Rattle.cell.proofs.Lengths.{u_sized, back_scaled}
-use Rattle.cell.proofs.u_back.Goals as goal
-
-pub returns : goal.returns
-returns c = back_scaled _ _ _ _ _ _ (u_sized _ _ (passes _ c.well_formed.1.0.1)) c.requires.1 c.unorm.ensures c.mul.ensures c.mul-2.ensures
