@@ -13,7 +13,7 @@ use Rattle.point.specs.ChordAngle.{chord_angle}
 use Rattle.cell.specs.Cell.{vertex_at, edge_at, vertex_of, vertices_of, cell_of}
 use Rattle.cell.specs.declared.Cell.{Cell}
 use Rattle.cell.specs.declared.Cap.{Cap}
-use Rattle.cap.specs.declared.Verdict.{Verdict}
+use Rattle.std.specs.Prelude.{Option}
 use Rattle.cap.specs.Cap.{is_empty_cap, cap_holds, edge_says, edges_say, decide, touches, meets_cell, holds_cell, cap_intersects, cap_contains}
 use Rattle.point.proofs.Signs.{not_within, chord_plus}
 
@@ -34,7 +34,7 @@ pub face_of_lem : (id : ℕ) (c : Cell) → CellId.Cell id → c ≡ cell_of id 
 face_of_lem id c h e = rw e (cell_face id h)
 
 -- one edge more of the four
-pub edge_step : (center : Point) (sin2 : Float) (c : Cell) (edge : Point) (vs : List Point) (d : Point) (k : ℕ) (v : Verdict) → k < 4 → vs ≡ vertices_of c → edge ≡ edge_at c k
+pub edge_step : (center : Point) (sin2 : Float) (c : Cell) (edge : Point) (vs : List Point) (d : Point) (k : ℕ) (v : Option Bool) → k < 4 → vs ≡ vertices_of c → edge ≡ edge_at c k
     → v ≡ edge_says center sin2 edge (get_or vs k d) (get_or vs ((k + 1) % 4) d) → edges_say center sin2 c (4 - k) ≡ decide v (edges_say center sin2 c (4 - (k + 1)))
 unfolding edges_say
 edge_step center sin2 c edge vs d k v h e f g =

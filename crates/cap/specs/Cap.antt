@@ -1,6 +1,6 @@
 -- The tests of caps, cap.rs: "a contained vertex means intersects; otherwise a radius of RIGHT or more answers no; empty answers no. Containment needs all
 -- four vertices and the complement's edge test." Every float step is the Rust's, in its order, each rounded once. Definitions only.
-use Rattle.std.specs.Prelude.{ℕ, zero, suc, ◌+◌, ◌-◌, ◌%◌, Bool, true, false, cond, not, ◌&&◌, ◌||◌, Float}
+use Rattle.std.specs.Prelude.{ℕ, zero, suc, ◌+◌, ◌-◌, ◌%◌, Bool, true, false, cond, not, ◌&&◌, ◌||◌, Float, Option, Some, None}
 use Rattle.std.specs.Float.Ieee.{neg, lt, le, eq}
 use Rattle.point.specs.Floats.{◌⊖◌, ◌⊗◌, zero_f, one_f}
 use Rattle.point.specs.Vector.{mul_of, dot_of, cross_of, norm2_of}
@@ -9,7 +9,6 @@ use Rattle.point.specs.declared.Point.{Point}
 use Rattle.cell.specs.Cell.{cell_of, vertex_at, edge_at, holds_point}
 use Rattle.cell.specs.declared.Cell.{Cell}
 use Rattle.cell.specs.declared.Cap.{Cap}
-use Rattle.cap.specs.declared.Verdict.{Verdict}
 
 -- a negative radius means empty, and the half turn full
 unfoldable pub is_empty_cap : Cap → Bool
@@ -37,20 +36,19 @@ complement_of c =
 
 -- what one edge says, from its inward normal and its two ends: on to the next where the centre lies on its inner side; no where the cap doesn't reach its
 -- great circle; yes where the circle's nearest point to the centre lies between the ends
-unfoldable pub edge_says : Point → Float → Point → Point → Point → Verdict
+unfoldable pub edge_says : Point → Float → Point → Point → Point → Option Bool
 edge_says center sin2 edge a b =
     let d = dot_of center edge in
     let dir = cross_of edge center in
     cond (lt zero_f d)
-    Verdict.Next
+    None
     (cond (lt (sin2 ⊗ norm2_of edge) (d ⊗ d))
-    Verdict.No
-    (cond (lt (dot_of dir a) zero_f && lt zero_f (dot_of dir b)) Verdict.Yes Verdict.Next))
+    (Some false)
+    (cond (lt (dot_of dir a) zero_f && lt zero_f (dot_of dir b)) (Some true) None))
 
-abbrev pub decide : Verdict → Bool → Bool
-decide Verdict.Next rest = rest
-decide Verdict.No rest = false
-decide Verdict.Yes rest = true
+abbrev pub decide : Option Bool → Bool → Bool
+decide None rest = rest
+decide (Some answer) rest = answer
 
 -- the last n of the four edges, in turn
 unfoldable pub edges_say : Point → Float → Cell → ℕ → Bool

@@ -3,7 +3,7 @@
 // bit for bit, whatever the floats are. The four children of a cell are looked at together.
 #![tactic(auto)]
 
-ghost use Rattle.std.specs.Prelude.{◌≡◌, true, not, ◌&&◌, ℕ, ◌*◌, ◌/◌, ◌%◌, ◌^◌, ◌<◌, ◌≤◌, eqb, get_or};
+ghost use Rattle.std.specs.Prelude.{◌≡◌, true, not, ◌&&◌, IfSome, ℕ, ◌*◌, ◌/◌, ◌%◌, ◌^◌, ◌<◌, ◌≤◌, eqb, get_or};
 ghost use Rattle.cellid.specs.CellId as CellId;
 ghost use Rattle.cellid.specs.CellId.{one};
 ghost use Rattle.cell.specs.Cell.{vertex_at, vertices_of};
@@ -18,15 +18,7 @@ use cell::{Cap, Cell, Quarters, Rect};
 use point::Point;
 use sight::{Sight, Sights};
 
-// What an edge says of a cap that has none of the corners: nothing, or the answer.
-#[derive(Clone, Copy)]
-pub enum Verdict {
-    Next,
-    No,
-    Yes,
-}
-
-// The cells of a bound, in the first `count` places, zeros after.
+// The cells of a bound, in the first `count` places, zeros after: there is no heap for three, four or six.
 #[derive(Clone, Copy)]
 pub struct Bound {
     pub ids: [u64; 6],
@@ -71,36 +63,35 @@ pub fn complement(c: Cap) -> Cap
     ensures { result ≡ complement_of c }
 {
     if is_full(c) {
-        return around(point::NEGATIVE);
-    }
-    if is_empty(c) {
-        return around(point::STRAIGHT);
-    }
-    Cap {
-        center: c.center.mul(-1.0),
-        radius: point::STRAIGHT - c.radius,
+        around(point::NEGATIVE)
+    } else if is_empty(c) {
+        around(point::STRAIGHT)
+    } else {
+        Cap {
+            center: c.center.mul(-1.0),
+            radius: point::STRAIGHT - c.radius,
+        }
     }
 }
 
-// What the edge with the inward normal `edge`, from a to b, says of a cap. No root, no division.
-fn edge_says(center: Point, sin2: f64, edge: Point, a: Point, b: Point) -> Verdict
+// What the edge with the inward normal `edge`, from a to b, says of a cap that has none of the corners: nothing, or the answer. No root, no division.
+#[tactic(auto, unfolding(crate::specs::Cap::edge_says))]
+fn edge_says(center: Point, sin2: f64, edge: Point, a: Point, b: Point) -> Option<bool>
     ensures { result ≡ edge_says center sin2 edge a b }
 {
     let dot = center.dot(edge);
     if dot > 0.0 {
-        return Verdict::Next;
+        return None;
     }
     if dot * dot > sin2 * edge.norm2() {
-        return Verdict::No;
+        return Some(false);
     }
     let dir = edge.cross(center);
-    if dir.dot(a) < 0.0 {
-        if dir.dot(b) > 0.0 {
-            return Verdict::Yes;
-        }
-        return Verdict::Next;
+    if dir.dot(a) < 0.0 && dir.dot(b) > 0.0 {
+        Some(true)
+    } else {
+        None
     }
-    Verdict::Next
 }
 
 // The four edges of a cell with these corners and these scales of its lines, in turn: no root, no division.
@@ -109,20 +100,12 @@ fn edges_say(center: Point, sin2: f64, c: Cell, m: Rect, vertices: [Point; 4]) -
     requires vertices_value { vertices ≡ vertices_of c }
     ensures { result ≡ edges_say center sin2 c 4 }
 {
-    let mut k: usize = 0;
-    while k < 4 {
-        let edge = cell::edge(c, m, k as u64);
+    for k in 0..4 {
+        let edge = c.edge(m, k as u64);
         let says = edge_says(center, sin2, edge, vertices[k], vertices[(k + 1) % 4]);
-        match says {
-            Verdict::Next => {}
-            Verdict::No => {
-                return false;
-            }
-            Verdict::Yes => {
-                return true;
-            }
+        if let Some(reached) = says {
+            return reached;
         }
-        k += 1;
     }
     false
 }
@@ -134,35 +117,23 @@ fn can_reach(cap: Cap) -> bool
     !(cap.radius >= point::RIGHT)
 }
 
-// The scales of a cell's lines: m where they are known, else four roots and four divisions.
-fn scales_of(c: Cell, known: bool, m: Rect) -> Rect
-    requires { known ≡ true → m ≡ cell_scales c }
-    ensures { result ≡ cell_scales c }
-{
-    if known {
-        return m;
-    }
-    cell::cell_scales(c)
-}
-
-// Whether it has one, where it can: the centre lies in the cell, or an edge is crossed. Two divisions; the scales of the cell's lines only for the edges.
-fn touches_by(cap: Cap, c: Cell, known: bool, m: Rect, vertices: [Point; 4]) -> bool
-    requires { (can_reach cap ≡ true) × (c.face < 6) × (vertices ≡ vertices_of c) × (known ≡ true → m ≡ cell_scales c) }
+// Whether it has one, where it can: the centre lies in the cell, or an edge is crossed. Two divisions; the scales of the cell's lines, where m doesn't tell
+// them, only for the edges.
+fn touches_by(cap: Cap, c: Cell, m: Option<Rect>, vertices: [Point; 4]) -> bool
+    requires { (can_reach cap ≡ true) × (c.face < 6) × (vertices ≡ vertices_of c) × IfSome m (λ m. m ≡ cell_scales c) }
     ensures { result ≡ touches cap c }
 {
     if is_empty(cap) {
         return false;
     }
-    if cell::contains_point(c, cap.center) {
+    if c.contains_point(cap.center) {
         return true;
     }
-    edges_say(
-        cap.center,
-        point::sin2(cap.radius),
-        c,
-        scales_of(c, known, m),
-        vertices,
-    )
+    let scales = match m {
+        Some(m) => m,
+        None => c.scales(),
+    };
+    edges_say(cap.center, point::sin2(cap.radius), c, scales, vertices)
 }
 
 // What a cell is to a cap that has all of its corners, or none: crossing where the other side of the rim reaches into it.
@@ -170,12 +141,12 @@ fn sight_past(all: bool, reached: bool) -> Sight
     ensures { result ≡ sight_past all reached }
 {
     if reached {
-        return Sight::Crossing;
+        Sight::Crossing
+    } else if all {
+        Sight::Inside
+    } else {
+        Sight::Outside
     }
-    if all {
-        return Sight::Inside;
-    }
-    Sight::Outside
 }
 
 // ---- one cell
@@ -184,10 +155,7 @@ fn sight_past(all: bool, reached: bool) -> Sight
 fn other_side(cap: Cap, all: bool) -> Cap
     ensures { result ≡ other_side cap all }
 {
-    if all {
-        return complement(cap);
-    }
-    cap
+    if all { complement(cap) } else { cap }
 }
 
 // What a cell is to a cap that has all of its corners, or none. `look_past` says the same where the scales are known: with one call of `touches_by` in all,
@@ -198,39 +166,30 @@ fn look_edges(cap: Cap, c: Cell, vertices: [Point; 4], all: bool) -> Sight
 {
     let other = other_side(cap, all);
     if can_reach(other) {
-        return sight_past(all, touches_by(other, c, false, c.uv, vertices));
+        sight_past(all, touches_by(other, c, None, vertices))
+    } else {
+        sight_past(all, false)
     }
-    sight_past(all, false)
 }
 
-// Past the first corner: one that doesn't lie where the first does, in the cap or not, decides; else the other side of the rim does.
+// Past the first corner: one that doesn't lie where the first does, in the cap or not, decides, before the next is worked out; else the other side of the rim does.
 fn look_corners(cap: Cap, c: Cell, a: Point, all: bool) -> Sight
     requires { (c.face < 6) × (a ≡ vertex_at c 0) × (all ≡ cap_holds cap a) }
     ensures { result ≡ sight_in cap true c }
 {
-    let b = cell::vertex(c, 1);
+    let b = c.vertex(1);
     if contains_point(cap, b) != all {
         return Sight::Crossing;
     }
-    let d = cell::vertex(c, 2);
+    let d = c.vertex(2);
     if contains_point(cap, d) != all {
         return Sight::Crossing;
     }
-    let e = cell::vertex(c, 3);
+    let e = c.vertex(3);
     if contains_point(cap, e) != all {
         return Sight::Crossing;
     }
     look_edges(cap, c, [a, b, d, e], all)
-}
-
-// Whether a corner says all that is asked: it lies in the cap, and only outside or not is asked.
-fn is_enough(held: bool, whole: bool) -> bool
-    ensures { result ≡ (not whole && held) }
-{
-    if whole {
-        return false;
-    }
-    held
 }
 
 // What the cell of a valid id is to the cap; where `whole` is false only outside or not. At best one root and one division, at worst eight roots and ten divisions.
@@ -239,27 +198,22 @@ pub fn look_at(cap: Cap, id: u64, whole: bool) -> Sight
     ensures { result ≡ sight_of (cap_intersects cap) (cap_contains cap) whole id }
 {
     let c = cell::from_id(id);
-    let a = cell::vertex(c, 0);
+    let a = c.vertex(0);
     let all = contains_point(cap, a);
-    if is_enough(all, whole) {
-        return Sight::Crossing;
+    if all && !whole {
+        Sight::Crossing
+    } else {
+        look_corners(cap, c, a, all)
     }
-    look_corners(cap, c, a, all)
 }
 
 // ---- the four children of a cell
 
-// 1 for true, 0 for false.
-fn mark(b: bool) -> u64
-    ensures { result ≡ one b }
-{
-    if b { 1 } else { 0 }
-}
-
+// 1 for a point in the cap, 0 for another.
 fn held(cap: Cap, p: Point) -> u64
     ensures { result ≡ one (cap_holds cap p) }
 {
-    mark(contains_point(cap, p))
+    contains_point(cap, p) as u64
 }
 
 // Which of the nine corners lie in the cap.
@@ -303,37 +257,20 @@ fn some_zero(a: u64, b: u64, c: u64, d: u64) -> bool
     a * b * c * d == 0
 }
 
-// Whether the edges of such a quarter may be asked by a side of the rim: it can reach into a cell.
-fn asked_by(can: bool, a: u64, b: u64, c: u64, d: u64) -> bool
-    requires { (a ≤ 4) × (b ≤ 4) × (c ≤ 4) × (d ≤ 4) }
-    ensures { result ≡ (can && eqb (a * b * c * d) 0) }
-{
-    if can {
-        return some_zero(a, b, c, d);
-    }
-    false
-}
-
 // Whether some quarter's edges may be asked, of whose corners a, b, c and d lie in the cap: one that has none of them where the cap can reach into it, or all
-// where the other side of the rim can.
+// where the other side of the rim can. Four numbers and no array, here and below: each is handed to the look at its own quarter.
 fn asks_edges(near: bool, beyond: bool, a: u64, b: u64, c: u64, d: u64) -> bool
     requires { (a ≤ 4) × (b ≤ 4) × (c ≤ 4) × (d ≤ 4) }
     ensures { result ≡ asks_edges near beyond a b c d }
 {
-    if asked_by(near, a, b, c, d) {
-        return true;
-    }
-    asked_by(beyond, 4 - a, 4 - b, 4 - c, 4 - d)
+    near && some_zero(a, b, c, d) || beyond && some_zero(4 - a, 4 - b, 4 - c, 4 - d)
 }
 
 // The scales of the six lines, if they may be asked for: six roots and six divisions.
 fn scaled_if(asked: bool, q: Quarters) -> Quarters
     ensures { asked ≡ true → result ≡ scaled_of q }
 {
-    if asked {
-        return cell::scaled(q);
-    }
-    q
+    if asked { q.scaled() } else { q }
 }
 
 // What a quarter with all of its corners in the cap, or none, is to it, where `other` is the side of the rim that has none of them.
@@ -342,9 +279,10 @@ fn look_past(other: Cap, can: bool, c: Cell, m: Rect, vertices: [Point; 4], all:
     ensures { result ≡ sight_past all (touches other c) }
 {
     if can {
-        return sight_past(all, touches_by(other, c, true, m, vertices));
+        sight_past(all, touches_by(other, c, Some(m), vertices))
+    } else {
+        sight_past(all, false)
     }
-    sight_past(all, false)
 }
 
 // What a quarter is to the cap: some corners in and some out decide by themselves; only none or all take the edges.
@@ -361,13 +299,11 @@ fn look_quarter(
     requires face_bound { (c.face < 6) × (vertices ≡ vertices_of c) × (held ≡ 0 → near ≡ true → m ≡ cell_scales c) × (held ≡ 4 → beyond ≡ true → m ≡ cell_scales c) }
     ensures { result ≡ sight_in cap true c }
 {
-    if held == 0 {
-        return look_past(cap, near, c, m, vertices, false);
+    match held {
+        0 => look_past(cap, near, c, m, vertices, false),
+        4 => look_past(complement(cap), beyond, c, m, vertices, true),
+        _ => Sight::Crossing,
     }
-    if held == 4 {
-        return look_past(complement(cap), beyond, c, m, vertices, true);
-    }
-    Sight::Crossing
 }
 
 // The four quarters, of whose corners a, b, c and d lie in the cap. What each takes is picked here, at known places: a call that took all of it would copy
@@ -380,47 +316,15 @@ fn look_parts(cap: Cap, q: Quarters, p: [Point; 9], a: u64, b: u64, c: u64, d: u
     let near = can_reach(cap);
     let beyond = can_reach(complement(cap));
     let s = scaled_if(asks_edges(near, beyond, a, b, c, d), q);
-    let k = cell::quarter(s, 0);
-    let l = cell::quarter(s, 1);
-    let m = cell::quarter(s, 2);
-    let n = cell::quarter(s, 3);
+    let k = s.quarter(0);
+    let l = s.quarter(1);
+    let m = s.quarter(2);
+    let n = s.quarter(3);
     sight::four(
-        look_quarter(
-            cap,
-            near,
-            beyond,
-            cell::quarter(q, 0),
-            k.uv,
-            square(p, 0),
-            a,
-        ),
-        look_quarter(
-            cap,
-            near,
-            beyond,
-            cell::quarter(q, 1),
-            l.uv,
-            square(p, 1),
-            b,
-        ),
-        look_quarter(
-            cap,
-            near,
-            beyond,
-            cell::quarter(q, 2),
-            m.uv,
-            square(p, 3),
-            c,
-        ),
-        look_quarter(
-            cap,
-            near,
-            beyond,
-            cell::quarter(q, 3),
-            n.uv,
-            square(p, 4),
-            d,
-        ),
+        look_quarter(cap, near, beyond, q.quarter(0), k.uv, square(p, 0), a),
+        look_quarter(cap, near, beyond, q.quarter(1), l.uv, square(p, 1), b),
+        look_quarter(cap, near, beyond, q.quarter(2), m.uv, square(p, 3), c),
+        look_quarter(cap, near, beyond, q.quarter(3), n.uv, square(p, 4), d),
     )
 }
 
@@ -430,10 +334,7 @@ fn shared_is_enough(cap: Cap, q: Quarters, whole: bool) -> bool
     requires { q.face < 6 }
     ensures { result ≡ (not whole && cap_holds cap (shared_corner q)) }
 {
-    if whole {
-        return false;
-    }
-    contains_point(cap, cell::shared_corner(q))
+    !whole && contains_point(cap, q.shared_corner())
 }
 
 // The four quarters together: nine corners, and the edges of those quarters alone that have no corner in the cap or all four.
@@ -447,7 +348,7 @@ fn look_quarters(cap: Cap, q: Quarters, whole: bool) -> Sights
             inside: 0,
         };
     }
-    let p = cell::corners(q);
+    let p = q.corners();
     let h = held_nine(cap, p);
     look_parts(
         cap,
@@ -497,6 +398,7 @@ pub fn look_children(cap: Cap, id: u64, whole: bool) -> Sights
 // ---- the bound
 
 // The largest squared chord radius at which the Rust still takes level n + 1 for a bound.
+#[tactic(auto, unfolding(crate::specs::Bound::thresholds))]
 fn threshold(n: u64) -> f64
     requires { n < 30 }
     ensures { result ≡ get_or thresholds n nan }
@@ -539,11 +441,8 @@ fn threshold(n: u64) -> f64
 pub fn level_for(radius: f64) -> u64
     ensures { result ≡ level_for radius }
 {
-    let mut level: u64 = 0;
-    while level < 30 {
-        if radius <= threshold(level) {
-            level += 1;
-        } else {
+    for level in 0..30 {
+        if !(radius <= threshold(level)) {
             return level;
         }
     }

@@ -12,6 +12,6 @@ pub returns-then-is_empty : goal.returns-then-is_empty
 unfolding complement_of
 returns-then-is_empty c = rw (sym c.is_full.ensures ∙ c.if-is_full.false, sym c.is_empty.ensures ∙ c.if-is_empty.true) c.around-then-is_empty.ensures
 
-pub returns : goal.returns
+pub returns-else-is_empty : goal.returns-else-is_empty
 unfolding complement_of
-returns c = rw (sym c.is_full.ensures ∙ c.if-is_full.false, sym c.is_empty.ensures ∙ c.if-is_empty.false, c.mul.ensures)
+returns-else-is_empty c = rw (sym c.is_full.ensures ∙ c.if-is_full.false, sym c.is_empty.ensures ∙ c.if-is_empty.false, c.mul.ensures)

@@ -4,13 +4,13 @@ use Rattle.cap.proofs.BoundLaws.{level_first, level_up, level_here, level_last}
 use Rattle.cap.proofs.level_for.Goals as goal
 
 pub loop-level-init : goal.loop-level-init
-loop-level-init c = (omega arith, level_first _)
+loop-level-init c = level_first _
 
 pub loop-level-preserved : goal.loop-level-preserved
-loop-level-preserved c = (omega arith, level_up _ _ c.loop-level-test.true c.loop-level.invariant.1 (rw c.threshold.ensures at c.if-radius-threshold.true))
+loop-level-preserved c = level_up _ _ c.loop-level-test.true c.loop-level.invariant (rw c.threshold.ensures at c.if-not-radius-threshold.false)
 
-pub returns-else-radius-threshold : goal.returns-else-radius-threshold
-returns-else-radius-threshold c = sym (level_here _ _ c.loop-level-test.true c.loop-level.invariant.1 (rw c.threshold.ensures at c.if-radius-threshold.false))
+pub returns-then-not-radius-threshold : goal.returns-then-not-radius-threshold
+returns-then-not-radius-threshold c = sym (level_here _ _ c.loop-level-test.true c.loop-level.invariant (rw c.threshold.ensures at c.if-not-radius-threshold.true))
 
 pub returns : goal.returns
-returns c = let e : c.loop-level.level ≡ 30 = omega arith in sym (level_last _ (rw e at c.loop-level.invariant.1))
+returns c = let e : c.loop-level.level ≡ 30 = omega arith in sym (level_last _ (rw e at c.loop-level.invariant))

@@ -1,12 +1,9 @@
 -- `cap::level_for` meets its contract. The invariant: the thresholds passed, and the level in the rest of the table.
 use Rattle.cap.specs.Bound.{thresholds, level_in, level_for}
 use mathlib.Core.Path.{◌≡◌}
-use Prim.Native.Nat.{◌+◌, ◌-◌, ◌≤◌}
+use Prim.Native.Nat.{◌+◌}
 use lib.ListN.{drop}
 use Rattle.cap.proofs.level_for.Given as goal
 
 abbrev pub invariant-loop-level : goal.invariant-loop-level
-invariant-loop-level l = (l.level ≤ 30) × (level_for l.radius ≡ l.level + level_in (drop l.level thresholds) l.radius)
-
-abbrev pub decreases-loop-level : goal.decreases-loop-level
-decreases-loop-level l = 30 - l.level
+invariant-loop-level l = level_for l.radius ≡ l.level + level_in (drop l.level thresholds) l.radius

@@ -4,6 +4,7 @@ use lib.Ieee.{le}
 use Rattle.point.specs.ChordAngle.{right}
 use Rattle.cap.specs.Cap.{touches}
 use borrow.Author.Tests.{not-true}
+use Rattle.cap.proofs.touches_by.Goals.{in-Some, in-None}
 use Rattle.cap.proofs.touches_by.Goals as goal
 
 pub returns-then-is_empty : goal.returns-then-is_empty
@@ -16,7 +17,13 @@ returns-then-contains_point c = rw (not-true (le right c.args.cap.radius) c.requ
 
 pub edges_say-requires : goal.edges_say-requires
 edges_say-requires c = record {
-  face_bound = (c.requires.1, c.scales_of.ensures);
+  face_bound = (
+    c.requires.1,
+    elim c.match-m.branch [
+      | in-Some w ↦ w.scales-is ∙ (rw w.in-Some.is at c.requires.3)
+      | in-None w ↦ w.scales-is ∙ w.scales-scales.ensures
+    ],
+  );
   vertices_value = c.requires.2;
 }
 
