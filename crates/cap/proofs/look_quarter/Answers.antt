@@ -2,7 +2,6 @@
 use mathlib.Core.Path.{◌≡◌, sym, ◌∙◌}
 use native.Mathlib.Omega.{arith}
 use Rattle.cap.proofs.Looks.{none_held, all_held, some_held}
-use Rattle.cap.proofs.look_quarter.Goals.{In_default}
 use Rattle.cap.proofs.look_quarter.Goals as goal
 
 pub look_past-requires : goal.look_past-requires
@@ -17,11 +16,7 @@ look_past-requires-in-4 c = let n = c.requires.near_value in let z = c.requires.
 pub returns-in-4 : goal.returns-in-4
 returns-in-4 c = rw (← c.complement.ensures) c.look_past-in-4.ensures ∙ sym (all_held _ _ (sym c.requires.near_value.2 ∙ c.in-4.is))
 
-none : (c : In_default) → c.args.held ≡ 0 → ⊥
-none c e = grind (arith, e)
-
-all : (c : In_default) → c.args.held ≡ 4 → ⊥
-all c e = grind (arith, e)
-
 pub returns-in_default : goal.returns-in_default
-returns-in_default c = let h = c.requires.near_value.2 in let d = (goal.at.returns-in_default c).In_default in sym (some_held _ _ (λ e. none d (h ∙ e)) (λ e. all d (h ∙ e)))
+returns-in_default c =
+    let h = c.requires.near_value.2 in
+    sym (some_held _ _ (λ e. let z : c.args.held ≡ 0 = h ∙ e in grind (arith, z)) (λ e. let z : c.args.held ≡ 4 = h ∙ e in grind (arith, z)))
