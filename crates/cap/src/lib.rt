@@ -94,7 +94,8 @@ fn edge_says(center: Point, sin2: f64, edge: Point, a: Point, b: Point) -> Optio
     }
 }
 
-// The four edges of a cell with these corners and these scales of its lines, in turn: no root, no division.
+// The four edges of a cell with these corners and these scales of its lines, in turn: no root, no division. Corners are there before it is known
+// whether scales are asked for, so a cell, its scales and its corners go by themselves, here and below, and with them that the corners are the cell's.
 fn edges_say(center: Point, sin2: f64, c: Cell, m: Rect, vertices: [Point; 4]) -> bool
     requires face_bound { (c.face < 6) × (m ≡ cell_scales c) }
     requires vertices_value { vertices ≡ vertices_of c }
@@ -124,16 +125,16 @@ fn touches_by(cap: Cap, c: Cell, m: Option<Rect>, vertices: [Point; 4]) -> bool
     ensures { result ≡ touches cap c }
 {
     if is_empty(cap) {
-        return false;
+        false
+    } else if c.contains_point(cap.center) {
+        true
+    } else {
+        let scales = match m {
+            Some(m) => m,
+            None => c.scales(),
+        };
+        edges_say(cap.center, point::sin2(cap.radius), c, scales, vertices)
     }
-    if c.contains_point(cap.center) {
-        return true;
-    }
-    let scales = match m {
-        Some(m) => m,
-        None => c.scales(),
-    };
-    edges_say(cap.center, point::sin2(cap.radius), c, scales, vertices)
 }
 
 // What a cell is to a cap that has all of its corners, or none: crossing where the other side of the rim reaches into it.

@@ -59,6 +59,8 @@ pub struct Rect {
     pub y: Interval,
 }
 
+// A cell is its face and its bounds. That a face is one of six, and a place one of a face's, is asked where it matters and not held by the types: the
+// definitions make a cell of any number.
 #[derive(Clone, Copy)]
 pub struct Cell {
     pub face: u64,

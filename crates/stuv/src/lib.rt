@@ -17,7 +17,8 @@ pub struct Uv {
     pub v: f64,
 }
 
-// A face and a place on it. A face is a number, 0 to 5: it is that of an id's top three bits.
+// A face and a place on it. A face is a number, 0 to 5: it is that of an id's top three bits. What takes one asks for
+// that, here and above: the definitions have a row for any number.
 #[derive(Clone, Copy)]
 pub struct FaceUv {
     pub face: u64,

@@ -5,7 +5,7 @@ ghost use Rattle.std.specs.Prelude.{◌≡◌, ◌<◌};
 ghost use Rattle.turns.specs.Table.{turns_word};
 
 // The table of 1,024 entries, four to a word, in read-only memory: three groups of four digits, i, four times the next row, j; in each group
-// a digit for each row from which the turns begin, the last digit for row 0.
+// a digit for each row from which the turns begin, the last digit for row 0. The way back has a table of its own, with other words (`positions`).
 #[tactic(auto, unfolding(crate::specs::Table::turns_word, crate::specs::Table::by_row, crate::specs::Table::turns_from, crate::specs::Table::four_turns, crate::specs::Turns::turn_of, crate::specs::Turns::ij_at, crate::specs::Turns::row_at))]
 pub fn four_at(pos: u64) -> u64
     requires { pos < 256 }

@@ -27,7 +27,7 @@ edges_say-requires c = record {
   vertices_value = c.requires.2;
 }
 
-pub returns : goal.returns
+pub returns-after-m : goal.returns-after-m
 unfolding touches
-returns c =
+returns-after-m c =
     rw (not-true (le right c.args.cap.radius) c.requires.0, sym c.is_empty.ensures ∙ c.if-is_empty.false, sym c.contains_point.ensures ∙ c.if-contains_point.false, ← c.sin2.ensures) c.edges_say.ensures
