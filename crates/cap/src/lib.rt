@@ -217,7 +217,7 @@ fn held(cap: Cap, p: Point) -> u64
     contains_point(cap, p) as u64
 }
 
-// Which of the nine corners lie in the cap.
+// Which of the nine corners lie in the cap. Written out: nine in a row are one piece of machine code, packed in pairs (docs/SPEED.md).
 fn held_nine(cap: Cap, p: [Point; 9]) -> [u64; 9]
     ensures { result ≡ held_nine cap p }
 {
