@@ -81,16 +81,16 @@ fn edge_says(center: Point, sin2: f64, edge: Point, a: Point, b: Point) -> Optio
 {
     let dot = center.dot(edge);
     if dot > 0.0 {
-        return None;
-    }
-    if dot * dot > sin2 * edge.norm2() {
-        return Some(false);
-    }
-    let dir = edge.cross(center);
-    if dir.dot(a) < 0.0 && dir.dot(b) > 0.0 {
-        Some(true)
-    } else {
         None
+    } else if dot * dot > sin2 * edge.norm2() {
+        Some(false)
+    } else {
+        let dir = edge.cross(center);
+        if dir.dot(a) < 0.0 && dir.dot(b) > 0.0 {
+            Some(true)
+        } else {
+            None
+        }
     }
 }
 
