@@ -26,6 +26,7 @@ pub struct Bound {
 }
 
 // A negative radius means empty.
+#[tactic(auto, unfolding(crate::specs::Cap::is_empty_cap))]
 pub fn is_empty(c: Cap) -> bool
     ensures { result ≡ is_empty_cap c }
 {
@@ -33,6 +34,7 @@ pub fn is_empty(c: Cap) -> bool
 }
 
 // The half turn means full.
+#[tactic(auto, unfolding(crate::specs::Cap::is_full_cap))]
 pub fn is_full(c: Cap) -> bool
     ensures { result ≡ is_full_cap c }
 {
@@ -40,6 +42,7 @@ pub fn is_full(c: Cap) -> bool
 }
 
 // Whether the point is at most the radius away from the centre.
+#[tactic(auto, unfolding(crate::specs::Cap::cap_holds))]
 pub fn contains_point(c: Cap, p: Point) -> bool
     ensures { result ≡ cap_holds c p }
 {
@@ -59,6 +62,7 @@ fn around(radius: f64) -> Cap
 }
 
 // The other side of the sphere, with the cap's edge: full gives empty, and empty full.
+#[tactic(auto, unfolding(crate::specs::Cap::complement_of))]
 pub fn complement(c: Cap) -> Cap
     ensures { result ≡ complement_of c }
 {
@@ -218,6 +222,7 @@ fn held(cap: Cap, p: Point) -> u64
 }
 
 // Which of the nine corners lie in the cap. Written out: nine in a row are one piece of machine code, packed in pairs (docs/SPEED.md).
+#[tactic(auto, unfolding(crate::specs::Looks::held_nine))]
 fn held_nine(cap: Cap, p: [Point; 9]) -> [u64; 9]
     ensures { result ≡ held_nine cap p }
 {
@@ -235,6 +240,7 @@ fn held_nine(cap: Cap, p: [Point; 9]) -> [u64; 9]
 }
 
 // The corners of the square whose lower left one is at `at` of the nine.
+#[tactic(auto, unfolding(crate::specs::Looks::square_at))]
 fn square(p: [Point; 9], at: usize) -> [Point; 4]
     requires { at ≤ 4 }
     ensures { result ≡ square_at p at }

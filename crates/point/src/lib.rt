@@ -57,6 +57,7 @@ pub fn bits_of_float(x: f64) -> u64
 }
 
 impl Point {
+    #[tactic(auto, unfolding(crate::specs::Vector::sub_of))]
     fn sub(self, b: Point) -> Point
         ensures { result ≡ sub_of self b }
     {
@@ -68,6 +69,7 @@ impl Point {
     }
 
     // The vector times a number.
+    #[tactic(auto, unfolding(crate::specs::Vector::mul_of))]
     pub fn mul(self, m: f64) -> Point
         ensures { result ≡ mul_of self m }
     {
@@ -79,6 +81,7 @@ impl Point {
     }
 
     // The scalar product.
+    #[tactic(auto, unfolding(crate::specs::Vector::dot_of))]
     pub fn dot(self, b: Point) -> f64
         ensures { result ≡ dot_of self b }
     {
@@ -86,6 +89,7 @@ impl Point {
     }
 
     // The vector product.
+    #[tactic(auto, unfolding(crate::specs::Vector::cross_of))]
     pub fn cross(self, b: Point) -> Point
         ensures { result ≡ cross_of self b }
     {
@@ -97,6 +101,7 @@ impl Point {
     }
 
     // The square of the vector's length.
+    #[tactic(auto, unfolding(crate::specs::Vector::norm2_of))]
     pub fn norm2(self) -> f64
         ensures { result ≡ norm2_of self }
     {
@@ -104,6 +109,7 @@ impl Point {
     }
 
     // The vector's length, by the software root: one root.
+    #[tactic(auto, unfolding(crate::specs::Vector::norm_of))]
     fn norm(self) -> f64
         ensures { result ≡ norm_of self }
     {
@@ -111,6 +117,7 @@ impl Point {
     }
 
     // The vector at unit length; the zero vector as it is. One root and one division.
+    #[tactic(auto, unfolding(crate::specs::Vector::normalize_of, crate::specs::Vector::is_zero))]
     pub fn normalize(self) -> Point
         ensures { result ≡ normalize_of self }
     {
@@ -122,6 +129,7 @@ impl Point {
     }
 
     // Whether the vector has about unit length.
+    #[tactic(auto, unfolding(crate::specs::Vector::is_unit))]
     pub fn is_unit(self) -> bool
         ensures { result ≡ is_unit self }
     {
@@ -129,6 +137,7 @@ impl Point {
     }
 
     // The chord angle between two points, at most 4; 4 where the distance is no number. Not by std's `min`, which leaves open which of two equal floats it is.
+    #[tactic(auto, unfolding(crate::specs::ChordAngle::chord_angle, crate::specs::ChordAngle::at_most4))]
     pub fn chordangle(self, b: Point) -> f64
         ensures { result ≡ chord_angle self b }
     {
@@ -138,6 +147,7 @@ impl Point {
 }
 
 // The square of a chord angle's sine.
+#[tactic(auto, unfolding(crate::specs::ChordAngle::sin2_of))]
 pub fn sin2(length2: f64) -> f64
     ensures { result ≡ sin2_of length2 }
 {

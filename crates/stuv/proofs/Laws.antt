@@ -1,7 +1,6 @@
 -- A face of the cube is 0 to 5: the face of a vector, whatever its floats are, and the last arm of a match on one.
-use mathlib.Core.Path.{◌≡◌, refl}
 use mathlib.Core.Bool.{Bool, true, false, cond}
-use Prim.Native.Nat.{ℕ, zero, suc, ◌+◌, ◌<◌}
+use Prim.Native.Nat.{ℕ, ◌+◌, ◌<◌}
 use native.Mathlib.Omega.{arith}
 use lib.Dec.{lit<}
 use lib.Ieee.{lt}
@@ -27,12 +26,3 @@ sided false n h = omega arith
 pub face_lt : (r : Point) → face_toward r < 6
 unfolding face_toward
 face_lt r = sided (lt (along_axis (axis_of r) r) zero_f) (axis_of r) (axis_lt r)
-
--- what is left of a match on a face
-pub face_five : {R : Type 0} (n : ℕ) → n < 6 → (((((R × (n ≡ 0 → ⊥)) × (n ≡ 1 → ⊥)) × (n ≡ 2 → ⊥)) × (n ≡ 3 → ⊥)) × (n ≡ 4 → ⊥)) → n ≡ 5
-face_five zero h q = absurd (q.0.0.0.0.1 refl)
-face_five (suc zero) h q = absurd (q.0.0.0.1 refl)
-face_five (suc (suc zero)) h q = absurd (q.0.0.1 refl)
-face_five (suc (suc (suc zero))) h q = absurd (q.0.1 refl)
-face_five (suc (suc (suc (suc zero)))) h q = absurd (q.1 refl)
-face_five (suc (suc (suc (suc (suc n))))) h q = omega arith
