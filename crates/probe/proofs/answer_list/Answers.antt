@@ -6,5 +6,5 @@ use Rattle.probe.proofs.answer_list.Goals as goal
 
 pub put_answer-requires : goal.put_answer-requires
 put_answer-requires c =
-    let v = early_none _ _ _ (sym c.first_refusal-first.ensures ∙ c.in-Open.is) in
+    let v = early_none _ _ _ (sym c.first_refusal-first.ensures ∙ c.in-Ok.is) in
     (valid_domain _ _ _ v, c.cells_in_front-m.ensures)

@@ -6,5 +6,5 @@ use Rattle.probe.proofs.answer_region.Goals as goal
 
 pub put_region-requires : goal.put_region-requires
 put_region-requires c =
-    let v = early_none _ _ _ (sym c.first_refusal-first.ensures ∙ c.in-Open.is) in
+    let v = early_none _ _ _ (sym c.first_refusal-first.ensures ∙ c.in-Ok.is) in
     (valid_domain _ _ _ v, v.region, c.cell_id-id.ensures)
