@@ -2,14 +2,16 @@
 // its specs/Masks.
 #![tactic(auto)]
 
+mod asking;
+
 ghost use Rattle.std.specs.Prelude.{◌≡◌, ◌+◌, ◌<◌, ◌≤◌};
 ghost use Rattle.cellid.specs.CellId.{Cell, level_of};
 ghost use Rattle.run.specs.Run.{level_mod, look, depth};
-ghost use Rattle.region.specs.Region.{area_of};
 ghost use Rattle.run.specs.Masks.{place_in, found};
-ghost use Rattle.candidate.specs.Candidate.{task_of, Asks, asks_whole, crossing_as, candidate_of, Roomy};
+ghost use Rattle.candidate.specs.Asking.{asked};
+ghost use Rattle.candidate.specs.Candidate.{asks_whole, crossing_as, candidate_of, Roomy};
 
-use region::Region;
+pub use asking::Asking;
 use run::{Found, Request};
 use sight::Sight;
 
@@ -52,47 +54,6 @@ fn asks_whole(q: Request, level: u64, crossing: Option<Candidate>) -> bool
     }
 }
 
-// What the cell is to the run: kept if it is terminal, queued if it is to be expanded, none if it lies outside or an inner run can't use it. One look, for no
-// more than the run asks.
-pub fn new_candidate(q: Request, g: Region<'_>, id: u64) -> Option<Candidate>
-    requires asks { Asks q (area_of g) }
-    requires cell { Cell id }
-    ensures { result ≡ candidate_of (look (task_of q (area_of g.entry)) id) }
-{
-    let level = cellid::level(id);
-    let c = crossing(q, level);
-    match g.look_at(id, asks_whole(q, level, c)) {
-        Sight::Outside => None,
-        Sight::Crossing => c,
-        Sight::Inside => Some(Candidate::Kept),
-    }
-}
-
-// The sets of the four children of a cell, which have one level, so that one rule holds for all four.
-fn children(q: Request, g: Region<'_>, id: u64) -> Found
-    requires asks { Asks q (area_of g) }
-    requires cell { Cell id × (level_of id < 30) }
-    ensures { result ≡ found (task_of q (area_of g.entry)) 1 id }
-{
-    let under = cellid::level(id) + 1;
-    let c = crossing(q, under);
-    let l = g.look_children(id, asks_whole(q, under, c));
-    match c {
-        Some(Candidate::Kept) => Found {
-            present: l.passing,
-            terminal: l.passing,
-        },
-        Some(Candidate::Queued) => Found {
-            present: l.passing,
-            terminal: l.inside,
-        },
-        None => Found {
-            present: l.inside,
-            terminal: l.inside,
-        },
-    }
-}
-
 // `f` joined to `acc` as the k-th of four parts of `width` places each.
 fn placed(acc: Found, f: Found, width: u64, k: u64) -> Found
     requires { Roomy acc f width k }
@@ -104,41 +65,84 @@ fn placed(acc: Found, f: Found, width: u64, k: u64) -> Found
     }
 }
 
-// The children `left` levels under a cell, one level inside another: the cells between are looked at four by four, each cell once.
-fn expand_children(q: Request, g: Region<'_>, id: u64, left: u64) -> Found
-    requires asks { Asks q (area_of g) }
-    requires left_nonzero { (0 < left) × (left ≤ 3) }
-    requires cell { Cell id × (level_of id + left ≤ 30) }
-    ensures { result ≡ found (task_of q (area_of g.entry)) left id }
-{
-    if left == 1 {
-        return children(q, g, id);
+impl Asking<'_> {
+    // What the cell is to the run: kept if it is terminal, queued if it is to be expanded, none if it lies outside or an inner run can't use it. One look, for no
+    // more than the run asks.
+    pub fn new_candidate(self, id: u64) -> Option<Candidate>
+        requires cell { Cell id }
+        ensures { result ≡ candidate_of (look (asked self.entry) id) }
+    {
+        let level = cellid::level(id);
+        let c = crossing(self.request, level);
+        match self.region.look_at(id, asks_whole(self.request, level, c)) {
+            Sight::Outside => None,
+            Sight::Crossing => c,
+            Sight::Inside => Some(Candidate::Kept),
+        }
     }
-    let less = left - 1;
-    let width: u64 = 1 << (2 * less);
-    let l = g.look_children(id, false);
-    let passing = l.passing;
-    let mut acc = NONE;
-    for k in 0..4 {
-        let f = if (passing >> k) & 1 == 1 {
-            expand_children(q, g, cellid::child(id, k), less)
-        } else {
-            NONE
-        };
-        acc = placed(acc, f, width, k);
-    }
-    acc
-}
 
-// The children of a candidate that is to be expanded: by one level below min, else by level_mod.
-pub fn expand(q: Request, g: Region<'_>, id: u64) -> Found
-    requires asks { Asks q (area_of g) }
-    requires cell { Cell id × (level_of id + depth q id ≤ 30) }
-    ensures { result ≡ found (task_of q (area_of g.entry)) (depth q id) id }
-{
-    if cellid::level(id) < q.coverer.min_level || q.coverer.level_mod == 1 {
-        children(q, g, id)
-    } else {
-        expand_children(q, g, id, q.coverer.level_mod)
+    // The sets of the four children of a cell, which have one level, so that one rule holds for all four.
+    fn children(self, id: u64) -> Found
+        requires cell { Cell id × (level_of id < 30) }
+        ensures { result ≡ found (asked self.entry) 1 id }
+    {
+        let under = cellid::level(id) + 1;
+        let c = crossing(self.request, under);
+        let l = self
+            .region
+            .look_children(id, asks_whole(self.request, under, c));
+        match c {
+            Some(Candidate::Kept) => Found {
+                present: l.passing,
+                terminal: l.passing,
+            },
+            Some(Candidate::Queued) => Found {
+                present: l.passing,
+                terminal: l.inside,
+            },
+            None => Found {
+                present: l.inside,
+                terminal: l.inside,
+            },
+        }
+    }
+
+    // The children `left` levels under a cell, one level inside another: the cells between are looked at four by four, each cell once.
+    fn expand_children(self, id: u64, left: u64) -> Found
+        requires left_nonzero { (0 < left) × (left ≤ 3) }
+        requires cell { Cell id × (level_of id + left ≤ 30) }
+        ensures { result ≡ found (asked self.entry) left id }
+    {
+        if left == 1 {
+            return self.children(id);
+        }
+        let less = left - 1;
+        let width: u64 = 1 << (2 * less);
+        let l = self.region.look_children(id, false);
+        let passing = l.passing;
+        let mut acc = NONE;
+        for k in 0..4 {
+            let f = if (passing >> k) & 1 == 1 {
+                self.expand_children(cellid::child(id, k), less)
+            } else {
+                NONE
+            };
+            acc = placed(acc, f, width, k);
+        }
+        acc
+    }
+
+    // The children of a candidate that is to be expanded: by one level below min, else by level_mod.
+    pub fn expand(self, id: u64) -> Found
+        requires cell { Cell id × (level_of id + depth self.request id ≤ 30) }
+        ensures { result ≡ found (asked self.entry) (depth self.entry.request id) id }
+    {
+        if cellid::level(id) < self.request.coverer.min_level
+            || self.request.coverer.level_mod == 1
+        {
+            self.children(id)
+        } else {
+            self.expand_children(id, self.request.coverer.level_mod)
+        }
     }
 }

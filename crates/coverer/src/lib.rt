@@ -23,7 +23,7 @@ ghost use Rattle.coverer.specs.Engine.{words_at, past, listed, is_in, child_if, 
 
 mod job;
 
-use candidate::Candidate;
+use candidate::{Asking, Candidate};
 use job::Job;
 use queue::Engine;
 use records::Rec;
@@ -199,7 +199,11 @@ impl<'a> Job<'a> {
         if terminal {
             return keep(m, t, id);
         }
-        let f = candidate::expand(self.request, self.region, id);
+        let asking = Asking {
+            request: self.request,
+            region: self.region,
+        };
+        let f = asking.expand(id);
         if f.present == 0 {
             return Ok(set_aside(self.request, t, cellid::lsb(id)));
         }
@@ -312,7 +316,11 @@ impl<'a> Job<'a> {
         requires aside_fits { t.aside + leaves_of id < 2 ^ 64 }
         ensures { Does self.entry.engine (task self.entry) from (start_one (task self.entry) (grown from id)) m.old t m.new result }
     {
-        let c = candidate::new_candidate(self.request, self.region, id);
+        let asking = Asking {
+            request: self.request,
+            region: self.region,
+        };
+        let c = asking.new_candidate(id);
         match c {
             Some(Candidate::Kept) => self.add_candidate(m, t, from, id, true),
             Some(Candidate::Queued) => self.add_candidate(m, t, from, id, false),

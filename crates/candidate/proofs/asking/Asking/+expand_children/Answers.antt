@@ -13,8 +13,8 @@ use Rattle.run.specs.declared.Request.{Request}
 use Rattle.candidate.specs.Candidate.{task_of}
 use Rattle.candidate.proofs.Laws.{positive, child_of_lem, width_is, roomy}
 use Rattle.candidate.proofs.Siblings.{bit_test, bit_yes, bit_no}
-use Rattle.candidate.proofs.+expand_children.Goals.{Joined-passing-k-eq1, then-passing-k-eq1, else-passing-k-eq1}
-use Rattle.candidate.proofs.+expand_children.Goals as goal
+use Rattle.candidate.proofs.asking.Asking.+expand_children.Goals.{Joined-passing-k-eq1, then-passing-k-eq1, else-passing-k-eq1}
+use Rattle.candidate.proofs.asking.Asking.+expand_children.Goals as goal
 
 -- a child's sets, with n levels left beneath it
 abbrev part : Request → Area → ℕ → ℕ → Found
@@ -32,20 +32,17 @@ expand_children-f-requires t c =
     let z = c.requires in (
       omega (arith, z.left_nonzero.0),
       (
-        z.asks,
-        (
-          (omega (arith, c.if-left-eq1.false, z.left_nonzero.0), omega (arith, z.left_nonzero.1)),
-          rw c.child.ensures (child_of_lem c.args.id c.loop-k.k c.args.left z.cell.0 (omega arith) z.left_nonzero.0 z.cell.1),
-        ),
+        (omega (arith, c.if-left-eq1.false, z.left_nonzero.0), omega (arith, z.left_nonzero.1)),
+        rw c.child.ensures (child_of_lem c.args.id c.loop-k.k c.args.left z.cell.0 (omega arith) z.left_nonzero.0 z.cell.1),
       ),
     )
 
 -- what the two ways give is the child's sets
-part_is : (t : ℕ) (c : Joined-passing-k-eq1 t) → c.if-passing-k-eq1.f ≡ part c.args.q (area_of c.args.g) (c.args.left - 1) (child_of c.args.id c.loop-k.k)
+part_is : (t : ℕ) (c : Joined-passing-k-eq1 t) → c.if-passing-k-eq1.f ≡ part c.args.self.request (area_of c.args.self.region) (c.args.left - 1) (child_of c.args.id c.loop-k.k)
 part_is t c =
-    let T = task_of c.args.q (area_of c.args.g) in
-    let hits = intersects_cell (area_of c.args.g) in
-    let within = contains_cell (area_of c.args.g) in
+    let T = task_of c.args.self.request (area_of c.args.self.region) in
+    let hits = intersects_cell (area_of c.args.self.region) in
+    let within = contains_cell (area_of c.args.self.region) in
     let some : 0 < c.args.left - 1 = omega (arith, c.requires.left_nonzero.0, c.if-left-eq1.false) in
     let k = c.loop-k.k in
     let n = c.args.left - 1 in
@@ -60,7 +57,7 @@ placed-acc-requires t c =
     let n = c.args.left - 1 in
     let l : n ≤ 2 = omega (arith, c.requires.left_nonzero.1) in
     rw (part_is t c, c.loop-k.invariant.so_far, width_is n l)
-    (roomy (task_of c.args.q (area_of c.args.g)) n c.args.id c.loop-k.k l (omega arith))
+    (roomy (task_of c.args.self.request (area_of c.args.self.region)) n c.args.id c.loop-k.k l (omega arith))
 
 pub loop-k-preserved : goal.loop-k-preserved
 unfolding up_to
@@ -75,6 +72,6 @@ pub returns : goal.returns
 returns t c =
     let four : c.loop-k.k ≡ 4 = omega arith in
     let more : c.args.left ≡ suc (c.args.left - 1) = omega (arith, c.requires.left_nonzero.0) in
-    c.loop-k.invariant.so_far ∙ ap (up_to (part c.args.q (area_of c.args.g) (c.args.left - 1)) (2 ^ (2 * (c.args.left - 1))) c.args.id) four
-    ∙ sym (found_four (task_of c.args.q (area_of c.args.g)) (c.args.left - 1) c.args.id)
-    ∙ ap (λ (n : ℕ). found (task_of c.args.q (area_of c.args.g)) n c.args.id) (sym more)
+    c.loop-k.invariant.so_far ∙ ap (up_to (part c.args.self.request (area_of c.args.self.region) (c.args.left - 1)) (2 ^ (2 * (c.args.left - 1))) c.args.id) four
+    ∙ sym (found_four (task_of c.args.self.request (area_of c.args.self.region)) (c.args.left - 1) c.args.id)
+    ∙ ap (λ (n : ℕ). found (task_of c.args.self.request (area_of c.args.self.region)) n c.args.id) (sym more)

@@ -12,7 +12,6 @@ pub expand-f-requires : goal.expand-f-requires
 expand-f-requires c =
     let D = domain _ _ c.args.self.asks in
     record {
-      asks = c.args.self.asks;
       cell = expands _ D _ (queued _ D _ _ c.if-terminal.false c.requires.child_ok);
     }
 
