@@ -27,7 +27,8 @@ pub fn face(id: u64) -> u64
     id >> 61
 }
 
-// The level, read from the lowest set bit; 0 where that stands above every level's place.
+// The level, read from the lowest set bit; 0 where that stands above every level's place. No Option: `level_of` gives every number a level, and who holds a
+// cell needs no case for none.
 pub fn level(id: u64) -> u64
     ensures { result ≡ level_of id }
 {

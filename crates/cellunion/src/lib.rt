@@ -20,6 +20,7 @@ pub fn is_valid(ids: &[u64]) -> bool
     ensures { result ≡ is_list ids.now }
 {
     let mut last = 0;
+    // A loop with an early end: each test needs the last leaf of the cell before.
     for &id in ids {
         if !listed(last, id) {
             return false;
@@ -43,6 +44,7 @@ fn are_siblings(x: u64, y: u64, z: u64, c: u64) -> bool
     requires { Cell c × (x < y) × (y < z) × (z < c) }
     ensures { result ≡ is_four x y z c }
 {
+    // An early end: most words fail the quick test, and no mask is made for them.
     if x ^ y ^ z ^ c != 0 {
         return false;
     }
@@ -51,11 +53,15 @@ fn are_siblings(x: u64, y: u64, z: u64, c: u64) -> bool
     x & mask == should && y & mask == should && z & mask == should && 0 < cellid::level(c)
 }
 
+// In place, in lent memory: the first k words are the kept cells, a stack, and the words still to be read stand behind them in the same slice. So the
+// functions down to `widen` take the memory and how many words of it are meant; a struct of the two would borrow the words that are read.
+
 // How many of the first k are left without those inside c.
 fn clear_of(mem: &[u64], k: usize, c: u64) -> usize
     requires { (k ≤ length mem.now) × (0 < c) }
     ensures { (result ≤ k) × (top_first result mem.now ≡ clear_of c (top_first k mem.now)) }
 {
+    // The stack is popped as long as its top lies inside.
     let mut left = k;
     while 0 < left && cellid::contains(c, mem[left - 1]) {
         left -= 1;
@@ -68,6 +74,7 @@ fn collapse(mem: &mut [u64], k: usize, c: u64) -> usize
     requires { (k < length mem.old) × Topped (top_first k mem.old) c }
     ensures { Gives (collapse (top_first k mem.old) c) k mem.old mem.new result }
 {
+    // Three are popped a turn.
     let mut left = k;
     let mut top = c;
     while 3 <= left && are_siblings(mem[left - 3], mem[left - 2], mem[left - 1], top) {
@@ -184,7 +191,7 @@ pub fn widen(mem: &mut [u64], k: usize, at: usize, c: u64) -> usize
     kept
 }
 
-// Copies the first n words to the output's first places.
+// Copies the first n words to the output's first places: as a function, for its promise is in the words of `laid`, which callers count on.
 pub fn copy(ids: &[u64], n: usize, out: &mut [u64])
     requires { (n ≤ length ids.now) × (n ≤ length out.old) }
     ensures { out.new ≡ laid 0 (take n ids.now) out.old }

@@ -192,7 +192,7 @@ module _ (id to : ℕ) (out : List ℕ) (at bit low L n : ℕ) (g : to ≤ 30) (
       let b : length (below to id) ≡ n = length_below to id ∙ sym m in
       let p = (spread_done id to (take n (drop at out)) 0 bit part c (length part - i) i G (omega arith)).1 in
       let z : part ≡ below to id = p ∙ laid_start (below to id) (take n (drop at out))
-          ∙ ap (λ (s : List ℕ). below to id ++ s) (drop_of_length-le (take n (drop at out)) {i = length (below to id)} (omega (arith, part_length))) ∙ append-nil (below to id) in
+      ∙ ap (λ (s : List ℕ). below to id ++ s) (drop_of_length-le (take n (drop at out)) {i = length (below to id)} (omega (arith, part_length))) ∙ append-nil (below to id) in
       (omega (arith, m, e), put_laid out at n part (below to id) z b)
 
 pub spread_next : (id to : ℕ) (part₀ : List ℕ) (bit : ℕ) (part : List ℕ) (c i : ℕ) → Spreading id to part₀ 0 bit part c (length part - i) i → i < length part

@@ -6,6 +6,8 @@ ghost use Rattle.cellid.specs.CellId.{Cell, level_of};
 ghost use Rattle.cellunion.specs.Memory.{laid, room_for, laid_over};
 ghost use Rattle.denorm.specs.Denorm.{goal, below, denormalise, count_of, AsksList};
 
+// `low` and `step` are two numbers of a request, whose struct stands in a crate above.
+
 // The level a cell goes to.
 fn goal_level(level: u64, low: u64, step: u64) -> u64
     requires { (level ≤ 30) × (low ≤ 30) × (0 < step) }
@@ -24,6 +26,7 @@ fn fits(list: &[u64], low: u64, step: u64, room: usize) -> bool
     for &id in list {
         let level = cellid::level(id);
         let cells = 1 << (2 * (goal_level(level, low, step) - level));
+        // An early end: what has no room is not counted on.
         if left < cells {
             return false;
         }

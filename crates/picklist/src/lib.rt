@@ -18,7 +18,7 @@ pub fn is_pick_list(list: &[u64]) -> bool
     list.len() <= PICKS_MOST && cellunion::is_valid(list)
 }
 
-// The first place whose cell ends with the leaf `first` or after it, the list's length where none does. The ids ascend, and of those before the leaf only the
+// The first place whose cell ends with the leaf `first` or after it, the list's length where none does, as std's searches tell it. The ids ascend, and of those before the leaf only the
 // last can end behind it.
 fn find(list: &[u64], first: u64) -> usize
     requires { is_pick_list list.now ≡ true }

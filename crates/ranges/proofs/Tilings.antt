@@ -80,6 +80,10 @@ pub record Sizing (s e k : ℕ) : Type 0 where
   pub on : 2 * k ≤ count_trailing_zeros 64 s
   pub same : size_from k s e ≡ size s e
 
+pub aligned_le : (s : ℕ) → aligned s ≤ 30
+unfolding aligned
+aligned_le s = omega arith
+
 pub size_start : (s e k : ℕ) → s < 2 ^ 64 → k ≡ aligned s → Sizing s e k
 unfolding size aligned
 size_start s e k h q = record {

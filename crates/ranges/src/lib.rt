@@ -51,13 +51,11 @@ fn size(s: u64, e: u64) -> u64
     requires { (s < e) × (e ≤ leaves) }
     ensures { result ≡ size s e }
 {
-    let mut k = aligned(s);
-    while 0 < k {
-        let z: u64 = 1 << (2 * k);
+    for k in (1..aligned(s) + 1).rev() {
+        let z = 1 << (2 * k);
         if s + z <= e {
             return z;
         }
-        k -= 1;
     }
     1
 }
@@ -67,6 +65,7 @@ pub fn tile(s: u64, e: u64, out: &mut [u64], at: usize) -> usize
     requires { (s ≤ e) × (e ≤ leaves) × (at + (e - s) < 2 ^ 64) }
     ensures { (result ≡ at + length (tile s e)) × (out.new ≡ sets out.old at (tile s e)) }
 {
+    // From cell to cell, however large they are.
     let mut from = s;
     let mut place = at;
     while from < e {

@@ -53,7 +53,8 @@ fn hi(id: u64) -> u64
     (id + cellid::lsb(id)) >> 1
 }
 
-// Where a list stands at a leaf: the place of the next cell, the next leaf at which that cell begins or has ended, and whether it has begun.
+// Where a list stands at a leaf: the place of the next cell, the next leaf at which that cell begins or has ended, and whether it has begun. No Option: the edge
+// is there either way.
 #[derive(Clone, Copy)]
 struct Cursor {
     at: usize,
@@ -134,6 +135,7 @@ fn sweep(op: Op, a: &[u64], b: &[u64], out: &mut [u64]) -> usize
     let mut s = 0;
     let mut p = 0;
     let mut at = 0;
+    // From edge to edge, however far that is.
     while p < LEAVES {
         let want = wants(op, first.inside, second.inside);
         let q = first.edge.min(second.edge);
@@ -169,6 +171,7 @@ fn has_room(op: Op, a: &[u64], b: &[u64], room: usize) -> bool
     requires { (is_pick_list a.now ≡ true) × (is_pick_list b.now ≡ true) }
     ensures { result ≡ leb (length (combined op a.now b.now)) room }
 {
+    // An early end: nothing is counted where the lengths tell.
     if is_short(op) && a.len() + b.len() <= room {
         return true;
     }
