@@ -75,6 +75,7 @@ pub fn four(a: Sight, b: Sight, c: Sight, d: Sight) -> Sights
 }
 
 // What the four children of a valid id that is no leaf are to a region, by a look at one cell.
+#[tactic(auto, using(cellid::proofs::Laws::cell_pos))]
 pub fn look_children_by<F: Fn(u64) -> Sight>(id: u64, look: F) -> Sights
     requires parted { Cell id × (level_of id < 30) }
     requires looks { (child : ℕ) → Cell child → F.pre look child }
@@ -89,6 +90,7 @@ pub fn look_children_by<F: Fn(u64) -> Sight>(id: u64, look: F) -> Sights
 }
 
 // What the four children of a valid id that is no leaf are to the cell `own`.
+#[tactic(auto, using(cellid::proofs::Laws::cell_pos))]
 pub fn look_children(own: u64, id: u64, whole: bool) -> Sights
     requires { (0 < own) × Cell id × (level_of id < 30) }
     ensures { result ≡ sights_of (sight_of (meets own) (holds own) whole) id }

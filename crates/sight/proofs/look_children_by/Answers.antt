@@ -1,30 +1,17 @@
 -- `sight::look_children_by` meets its contract.
 use native.Mathlib.Omega.{arith}
-use Rattle.cellid.proofs.Laws.{cell_pos}
 use Rattle.cellid.proofs.Leaves.{child_valid}
 use Rattle.sight.specs.Sight.{sights_of}
 use Rattle.sight.proofs.look_children_by.Goals as goal
 
-pub child-requires-clause-id_nonzero : goal.child-requires-clause-id_nonzero
-child-requires-clause-id_nonzero g c = cell_pos _ _ _ c.requires.parted.0.2
-
 pub look-requires : goal.look-requires
 look-requires g c = let z = c.requires in z.looks _ (child_valid _ 0 _ z.parted.0 z.parted.1 (omega arith) c.child.ensures)
-
-pub child-requires-2-clause-id_nonzero : goal.child-requires-2-clause-id_nonzero
-child-requires-2-clause-id_nonzero g c = cell_pos _ _ _ c.requires.parted.0.2
 
 pub look-requires-2 : goal.look-requires-2
 look-requires-2 g c = let z = c.requires in z.looks _ (child_valid _ 1 _ z.parted.0 z.parted.1 (omega arith) c.child-2.ensures)
 
-pub child-requires-3-clause-id_nonzero : goal.child-requires-3-clause-id_nonzero
-child-requires-3-clause-id_nonzero g c = cell_pos _ _ _ c.requires.parted.0.2
-
 pub look-requires-3 : goal.look-requires-3
 look-requires-3 g c = let z = c.requires in z.looks _ (child_valid _ 2 _ z.parted.0 z.parted.1 (omega arith) c.child-3.ensures)
-
-pub child-requires-4-clause-id_nonzero : goal.child-requires-4-clause-id_nonzero
-child-requires-4-clause-id_nonzero g c = cell_pos _ _ _ c.requires.parted.0.2
 
 pub look-requires-4 : goal.look-requires-4
 look-requires-4 g c = let z = c.requires in z.looks _ (child_valid _ 3 _ z.parted.0 z.parted.1 (omega arith) c.child-4.ensures)
