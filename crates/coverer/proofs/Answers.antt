@@ -3,10 +3,10 @@ use Rattle.std.specs.Prelude.{Result}
 use Rattle.std.specs.Prelude.Result.{Ok, Err}
 use Rattle.refusal.specs.declared.Refusal.{Refusal}
 use mathlib.Core.Path.{◌≡◌, sym, ap, ◌∙◌, subst}
-use mathlib.Core.List.{List}
+use mathlib.Core.List.{List, ◌++◌}
 use Prim.Native.Nat.{ℕ, ◌+◌, ◌≤◌, ◌<◌}
 use native.Mathlib.Omega.{arith}
-use lib.ListN.{length}
+use lib.ListN.{length, take, drop}
 use Rattle.run.specs.Run.{State, Outcome, refused, going, then, after, run, raw_ids, Task, in_edition, raw_most, queue_words, memory_words}
 use Rattle.totals.proofs.Laws.{totals_by_lem}
 use Rattle.run.specs.Sixes.{aside_from, aside_six}
@@ -15,7 +15,7 @@ use Rattle.coverer.specs.declared.Tally.{Tally}
 use Rattle.coverer.specs.declared.Ran.{Ran}
 use Rattle.coverer.specs.Coverer.{cleared, engine_answer, engine_memory}
 use Rattle.coverer.specs.Engine.{Stage, ran_of, Holds, Leads, Comes}
-use Rattle.coverer.proofs.Memory.{cleared_front, cleared_only}
+use Rattle.coverer.proofs.Memory.{cleared_front, cleared_only, front_cleared, front_only}
 use Rattle.coverer.proofs.Stands.{raw_length}
 use Rattle.coverer.proofs.Runs.{waiting, idle, unless_queued, run_after}
 
@@ -62,6 +62,12 @@ module _ (E : Engine) (T : Task) (l : List ℕ) (k : ℕ) (m m₁ : List ℕ) (r
           rw (g, raw_length E T 0 long (S.at 0), ← (S.at 0).steps, ← totals) d.0,
           rw g (d.1 ∙ cleared_only queue_words memory_words t.kept (raw_ids ended.0) m m₁ (omega (arith, answer_room)) long (S.at 0).raw C.frame),
         )
+
+-- what stands behind the words of a run is as it was
+pub whole : (o : Outcome) (m m₁ m₂ : List ℕ) → m₁ ≡ take memory_words m → m₂ ≡ engine_memory o m₁ → m₂ ++ drop memory_words m ≡ engine_memory o m
+unfolding engine_memory
+whole (refused r) m m₁ m₂ first e = front_cleared memory_words m m₁ m₂ first e
+whole (going s) m m₁ m₂ first e = front_only memory_words m m₁ m₂ first queue_words (raw_ids s) e
 
 -- any two results that the engine's contract allows are one: the answer, and the whole memory
 pub determined : (o : Outcome) (m : List ℕ) (r r' : Result Ran Refusal) (m₁ m₂ : List ℕ) → (r ≡ engine_answer o) × (m₁ ≡ engine_memory o m) → (r' ≡ engine_answer o) × (m₂ ≡ engine_memory o m) → (r ≡ r') × (m₁ ≡ m₂)

@@ -5,7 +5,8 @@ use Prim.Native.Nat.{ℕ, ◌+◌, ◌-◌, ◌*◌, ◌≤◌, ◌<◌}
 use native.Mathlib.Numerals.{add-one}
 use native.Mathlib.Nat.{sub-zero}
 use native.Mathlib.Omega.{arith}
-use lib.ListN.{length, take, drop, set, length-append, length-drop}
+use Rattle.std.proofs.Common.{append-nil}
+use lib.ListN.{drop_of_length-le, length-take, length, take, drop, set, length-append, length-drop}
 use lib.Seq.{length-take-le, drop-drop, drop-set-lt, drop-set-add, take-suc-set, take-append-add, drop-append-add}
 use Rattle.cellunion.specs.Memory.{zeros, laid}
 use Rattle.cellunion.proofs.Memory.{drop_more, laid_start, length_zeros}
@@ -108,3 +109,16 @@ only_past a b l m h =
     ∙ drop_over (zeros a) (l ++ (zeros n ++ drop b m)) a (length l + (n + 0)) (length_zeros a)
     ∙ drop_over l (zeros n ++ drop b m) (length l) (n + 0) refl
     ∙ drop_over (zeros n) (drop b m) n 0 (length_zeros n)
+
+-- ---- the first b words of a memory, lent as an array: what stands behind them stays
+
+module _ (b : ℕ) (m m₁ m₂ : List ℕ) (first : m₁ ≡ take b m) where
+  none_behind : drop b m₁ ≡ []
+  none_behind = ap (drop b) first ∙ drop_of_length-le (take b m) (omega (arith, length-take b m))
+
+  pub front_cleared : m₂ ≡ cleared 0 b m₁ → m₂ ++ drop b m ≡ cleared 0 b m
+  front_cleared e = ap (λ (x : List ℕ). x ++ drop b m) (e ∙ front b m₁ ∙ ap (λ (x : List ℕ). zeros b ++ x) none_behind ∙ append-nil (zeros b)) ∙ sym (front b m)
+
+  pub front_only : (a : ℕ) (l : List ℕ) → m₂ ≡ only_words a b l m₁ → m₂ ++ drop b m ≡ only_words a b l m
+  unfolding only_words
+  front_only a l e = ap (λ (x : List ℕ). x ++ drop b m) (e ∙ ap (λ (x : List ℕ). zeros a ++ (l ++ (zeros (b - (a + length l)) ++ x))) none_behind) ∙ simp append_assoc

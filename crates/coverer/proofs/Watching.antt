@@ -34,9 +34,9 @@ use Rattle.coverer.proofs.Stands.{rec_tells, rest_past, queue_length, raw_length
 use Rattle.coverer.proofs.Answers.{six_are}
 
 -- a part that is lent to the memory's end holds the kept ids
-pub lay_part : (a n : ℕ) (m out out₁ : List ℕ) → out₁ ≡ laid 0 (take n (take (length m - a) (drop a m))) out → out₁ ≡ laid 0 (words_at a n m) out
+pub lay_part : (a n k : ℕ) (m out out₁ : List ℕ) → length m - a ≡ k → out₁ ≡ laid 0 (take n (take k (drop a m))) out → out₁ ≡ laid 0 (words_at a n m) out
 unfolding words_at
-lay_part a n m out out₁ e = e ∙ ap (λ (l : List ℕ). laid 0 (take n l) out) (part_to_end m a)
+lay_part a n k m out out₁ z e = e ∙ ap (λ (l : List ℕ). laid 0 (take n l) out) (ap (λ (j : ℕ). take j (drop a m)) (sym z) ∙ part_to_end m a)
 
 -- ---- the queue is listed: what is left of it, laid over the output as it is now, makes the output that is wanted
 

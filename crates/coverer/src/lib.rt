@@ -79,8 +79,7 @@ pub struct Seen {
 }
 
 // Keeps a cell: refused with 8 where the raw list is full.
-fn keep(m: &mut [u64], t: Counts, id: u64) -> Result<Counts, Refusal>
-    requires { memory_words ≤ length m.old }
+fn keep(m: &mut [u64; MEMORY_WORDS], t: Counts, id: u64) -> Result<Counts, Refusal>
     ensures does { (e : Engine) (T : Task) (i : ℕ) → Does e T i (keep (grown i id)) m.old t m.new result }
     ensures aside_up_to { AsideUpTo t.aside result }
 {
@@ -97,8 +96,7 @@ fn keep(m: &mut [u64], t: Counts, id: u64) -> Result<Counts, Refusal>
 }
 
 // Queues a record: refused with 7 where the queue is full.
-fn enqueue(m: &mut [u64], t: Counts, e: Engine, r: Rec) -> Result<Counts, Refusal>
-    requires { memory_words ≤ length m.old }
+fn enqueue(m: &mut [u64; MEMORY_WORDS], t: Counts, e: Engine, r: Rec) -> Result<Counts, Refusal>
     ensures does { (T : Task) (i : ℕ) → 0 < level_mod T.asked → i < places_most → r ≡ rec_of T (grown i r.id) → Does e T i (enqueue (by_edition T) (grown i r.id)) m.old t m.new result }
     ensures aside_up_to { AsideUpTo t.aside result }
 {
@@ -183,13 +181,12 @@ impl<'a> Job<'a> {
     // children, or queued.
     fn add_candidate(
         self,
-        m: &mut [u64],
+        m: &mut [u64; MEMORY_WORDS],
         t: Counts,
         from: u64,
         id: u64,
         terminal: bool,
     ) -> Result<Counts, Refusal>
-        requires memory_words_in_bounds { memory_words ≤ length m.old }
         requires from_lt_places_most { from < places_most }
         requires child_ok { ChildOk (task self) (record { id = id; ends = terminal }) }
         requires aside_fits { t.aside + leaves_of id < 2 ^ 64 }
@@ -217,8 +214,13 @@ impl<'a> Job<'a> {
     }
 
     // Adds the child at the place j, if there is one; in an inner run only while the results are below max_cells.
-    fn add_child(self, m: &mut [u64], t: Counts, b: Brood, j: u64) -> Result<Counts, Refusal>
-        requires memory_words_in_bounds { memory_words ≤ length m.old }
+    fn add_child(
+        self,
+        m: &mut [u64; MEMORY_WORDS],
+        t: Counts,
+        b: Brood,
+        j: u64,
+    ) -> Result<Counts, Refusal>
         requires j_bound { (j < 64) × (b.from < places_most) }
         requires all { All (ChildOk (task self)) (child_if b j) }
         requires aside_fits { t.aside + leaves_in (child_if b j) < 2 ^ 64 }
@@ -238,8 +240,12 @@ impl<'a> Job<'a> {
     }
 
     // Adds the children of a brood, in order.
-    fn add_children(self, m: &mut [u64], s: Counts, b: Brood) -> Result<Counts, Refusal>
-        requires memory_words_in_bounds { memory_words ≤ length m.old }
+    fn add_children(
+        self,
+        m: &mut [u64; MEMORY_WORDS],
+        s: Counts,
+        b: Brood,
+    ) -> Result<Counts, Refusal>
         requires places_bound { (b.places ≤ 64) × (b.from < places_most) }
         requires all { All (ChildOk (task self)) (children_from b 0) }
         requires aside_fits { s.aside + leaves_in (children_from b 0) < 2 ^ 64 }
@@ -253,8 +259,13 @@ impl<'a> Job<'a> {
     }
 
     // Hands a taken candidate on to its children. What failed in its expansion is set aside: the places without a child, each as many leaves as a child has.
-    fn hand_on(self, m: &mut [u64], t: Counts, r: Rec, children: u64) -> Result<Counts, Refusal>
-        requires memory_words_in_bounds { memory_words ≤ length m.old }
+    fn hand_on(
+        self,
+        m: &mut [u64; MEMORY_WORDS],
+        t: Counts,
+        r: Rec,
+        children: u64,
+    ) -> Result<Counts, Refusal>
         requires taken { Taken (task self) r }
         requires children_value { children ≡ ones r.present }
         requires aside_fits { t.aside + leaves_of r.id < 2 ^ 64 }
@@ -266,8 +277,7 @@ impl<'a> Job<'a> {
     }
 
     // What is done with a taken record.
-    fn use_taken(self, m: &mut [u64], t: Counts, r: Rec) -> Result<Counts, Refusal>
-        requires memory_words_in_bounds { memory_words ≤ length m.old }
+    fn use_taken(self, m: &mut [u64; MEMORY_WORDS], t: Counts, r: Rec) -> Result<Counts, Refusal>
         requires kept_le_raw_most { (t.kept ≤ raw_most) × (t.queued ≤ queue_most) }
         requires taken { Taken (task self) r }
         requires aside_fits { t.aside + leaves_of r.id < 2 ^ 64 }
@@ -285,8 +295,7 @@ impl<'a> Job<'a> {
     }
 
     // One step: takes the least of the queue.
-    fn step(self, m: &mut [u64], t: Tally) -> Result<Tally, Refusal>
-        requires memory_words_in_bounds { memory_words ≤ length m.old }
+    fn step(self, m: &mut [u64; MEMORY_WORDS], t: Tally) -> Result<Tally, Refusal>
         requires live { Live self.engine (task self) m.old t }
         requires queued_nonzero { (0 < t.queued) × (t.steps + 1 < 2 ^ 32) }
         ensures { (l : List ℕ) → Reached self.entry.engine (task self.entry) l m.old t → Comes self.entry.engine (task self.entry) (after (in_edition (task self.entry)) l (t.steps + 1)) m.old m.new result }
@@ -309,8 +318,13 @@ impl<'a> Job<'a> {
     }
 
     // The start cell at the place `from`: added if it is a candidate. One that fails is set aside.
-    fn start(self, m: &mut [u64], t: Counts, from: u64, id: u64) -> Result<Counts, Refusal>
-        requires memory_words_in_bounds { memory_words ≤ length m.old }
+    fn start(
+        self,
+        m: &mut [u64; MEMORY_WORDS],
+        t: Counts,
+        from: u64,
+        id: u64,
+    ) -> Result<Counts, Refusal>
         requires from_lt_places_most { from < places_most }
         requires fit { Fit self.request id }
         requires aside_fits { t.aside + leaves_of id < 2 ^ 64 }
@@ -329,8 +343,11 @@ impl<'a> Job<'a> {
     }
 
     // The start cells, in order.
-    fn initial_candidates(self, m: &mut [u64], starts: &[u64]) -> Result<Tally, Refusal>
-        requires memory_words_in_bounds { memory_words ≤ length m.old }
+    fn initial_candidates(
+        self,
+        m: &mut [u64; MEMORY_WORDS],
+        starts: &[u64],
+    ) -> Result<Tally, Refusal>
         requires count_bound { length starts.now ≤ 6 }
         requires all { All (Fit self.request) starts.now }
         ensures { Comes self.entry.engine (task self.entry) (after (in_edition (task self.entry)) starts.now 0) m.old m.new result }
@@ -355,8 +372,12 @@ impl<'a> Job<'a> {
     }
 
     // Step after step until the queue is empty or the allowance is used up.
-    fn proceed(self, m: &mut [u64], s: Tally, allowance: u32) -> Result<Tally, Refusal>
-        requires memory_words_in_bounds { memory_words ≤ length m.old }
+    fn proceed(
+        self,
+        m: &mut [u64; MEMORY_WORDS],
+        s: Tally,
+        allowance: u32,
+    ) -> Result<Tally, Refusal>
         requires live { Live self.engine (task self) m.old s }
         requires steps_le_allowance { s.steps ≤ allowance }
         ensures { (l : List ℕ) → Reached self.entry.engine (task self.entry) l m.old s → Comes self.entry.engine (task self.entry) (after (in_edition (task self.entry)) l allowance) m.old m.new result }
@@ -371,11 +392,10 @@ impl<'a> Job<'a> {
     // The start cells, then the steps that are allowed.
     fn covering_internal(
         self,
-        m: &mut [u64],
+        m: &mut [u64; MEMORY_WORDS],
         starts: &[u64],
         allowance: u32,
     ) -> Result<Tally, Refusal>
-        requires memory_words_in_bounds { memory_words ≤ length m.old }
         requires count_bound { length starts.now ≤ 6 }
         requires all { All (Fit self.request) starts.now }
         ensures { Comes self.entry.engine (task self.entry) (after (in_edition (task self.entry)) starts.now allowance) m.old m.new result }
@@ -386,22 +406,21 @@ impl<'a> Job<'a> {
 }
 
 // The words of a run become zero, and the refusal is passed on.
-fn refuse(mem: &mut [u64], refusal: Refusal) -> Result<Ran, Refusal>
-    requires { memory_words ≤ length mem.old }
-    ensures { (result ≡ Err refusal) × (mem.new ≡ cleared 0 memory_words mem.old) }
+fn refuse(m: &mut [u64; MEMORY_WORDS], refusal: Refusal) -> Result<Ran, Refusal>
+    ensures { (result ≡ Err refusal) × (m.new ≡ cleared 0 memory_words m.old) }
 {
-    cellunion::clear(mem, 0, MEMORY_WORDS);
+    cellunion::clear(m, 0, MEMORY_WORDS);
     Err(refusal)
 }
 
 // Of the words of a run only the kept ids are left; the others become zero.
-fn finish(mem: &mut [u64], t: Tally) -> Ran
-    requires { (memory_words ≤ length mem.old) × (t.kept ≤ raw_most) }
-    ensures { (result ≡ ran_of t) × (mem.new ≡ cleared (queue_words + t.kept) memory_words (cleared 0 queue_words mem.old)) }
+fn finish(m: &mut [u64; MEMORY_WORDS], t: Tally) -> Ran
+    requires { t.kept ≤ raw_most }
+    ensures { (result ≡ ran_of t) × (m.new ≡ cleared (queue_words + t.kept) memory_words (cleared 0 queue_words m.old)) }
 {
     let end = QUEUE_WORDS + t.kept;
-    cellunion::clear(mem, 0, QUEUE_WORDS);
-    cellunion::clear(mem, end, MEMORY_WORDS);
+    cellunion::clear(m, 0, QUEUE_WORDS);
+    cellunion::clear(m, end, MEMORY_WORDS);
     Ran {
         count: t.kept,
         steps: t.steps,
@@ -433,29 +452,32 @@ pub fn run(
         region: g,
         engine,
     };
-    match job.covering_internal(mem, &ids[..count], allowance) {
-        Err(r) => refuse(mem, r),
+    let Some(m) = mem.first_chunk_mut::<MEMORY_WORDS>() else {
+        unreachable!()
+    };
+    match job.covering_internal(m, &ids[..count], allowance) {
+        Err(r) => refuse(m, r),
         Ok(t) => {
             if 0 < t.queued {
-                refuse(mem, Refusal::Allowance)
+                refuse(m, Refusal::Allowance)
             } else {
-                Ok(finish(mem, t))
+                Ok(finish(m, t))
             }
         }
     }
 }
 
 // Lays the kept ids over the output's first places.
-fn lay_raw(m: &[u64], count: usize, out: &mut [u64])
-    requires { (memory_words ≤ length m.now) × (count ≤ raw_most) × (count ≤ length out.old) }
+fn lay_raw(m: &[u64; MEMORY_WORDS], count: usize, out: &mut [u64])
+    requires { (count ≤ raw_most) × (count ≤ length out.old) }
     ensures { out.new ≡ laid 0 (words_at queue_words count m.now) out.old }
 {
     cellunion::copy(&m[QUEUE_WORDS..], count, out);
 }
 
 // Empties a queue of n records: the id, the cost and the start cell's place of each go to the output, from the place `at` on, the next one first.
-fn list_queue(m: &mut [u64], n: usize, e: Engine, out: &mut [u64], at: usize)
-    requires { (memory_words ≤ length m.old) × (n ≤ queue_most) × (at + 3 * n ≤ length out.old) }
+fn list_queue(m: &mut [u64; MEMORY_WORDS], n: usize, e: Engine, out: &mut [u64], at: usize)
+    requires { (n ≤ queue_most) × (at + 3 * n ≤ length out.old) }
     ensures out_after { (q : List Rec) → InQueue e m.old n q → out.new ≡ laid at (listed q) out.old }
     ensures m_unchanged { past memory_words m.new ≡ past memory_words m.old }
 {
@@ -470,8 +492,8 @@ fn list_queue(m: &mut [u64], n: usize, e: Engine, out: &mut [u64], at: usize)
 }
 
 // Tells how a run stands: its kept ids and its queue over the output's first places, if these have room for all.
-fn tell(m: &mut [u64], t: Tally, e: Engine, out: &mut [u64]) -> Result<Seen, Refusal>
-    requires { (memory_words ≤ length m.old) × (t.kept ≤ raw_most) × (t.queued ≤ queue_most) }
+fn tell(m: &mut [u64; MEMORY_WORDS], t: Tally, e: Engine, out: &mut [u64]) -> Result<Seen, Refusal>
+    requires { (t.kept ≤ raw_most) × (t.queued ≤ queue_most) }
     ensures value { (T : Task) (s : State) → Holds e T m.old t s → (result ≡ seen_of T (length out.old) (going s)) × (out.new ≡ seen_over T (going s) out.old) }
     ensures m_unchanged { past memory_words m.new ≡ past memory_words m.old }
 {
@@ -517,10 +539,13 @@ pub fn watch(
         region: g,
         engine,
     };
-    let seen = match job.covering_internal(mem, &ids[..count], steps) {
-        Err(r) => Err(r),
-        Ok(t) => tell(mem, t, engine, out),
+    let Some(m) = mem.first_chunk_mut::<MEMORY_WORDS>() else {
+        unreachable!()
     };
-    cellunion::clear(mem, 0, MEMORY_WORDS);
+    let seen = match job.covering_internal(m, &ids[..count], steps) {
+        Err(r) => Err(r),
+        Ok(t) => tell(m, t, engine, out),
+    };
+    cellunion::clear(m, 0, MEMORY_WORDS);
     seen
 }

@@ -7,7 +7,7 @@ use Rattle.coverer.proofs.enqueue.Goals as goal
 pub returns-then-t-lt-QUEUE_MOST : goal.returns-then-t-lt-QUEUE_MOST
 unfolding AsideUpTo
 returns-then-t-lt-QUEUE_MOST c = record {
-  does = λ T i some placed er. queues _ T i some placed _ _ _ _ c.requires (omega (arith, c.if-t-lt-QUEUE_MOST.true)) er c.add.ensures;
+  does = λ T i some placed er. queues _ T i some placed _ _ _ _ (omega arith) (omega (arith, c.if-t-lt-QUEUE_MOST.true)) er c.add.ensures;
   aside_up_to = omega arith;
 }
 

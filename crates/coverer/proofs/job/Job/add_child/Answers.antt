@@ -20,7 +20,6 @@ pub add_candidate-requires : goal.add_candidate-requires
 add_candidate-requires c =
     let e = sym c.is_in.ensures ∙ c.if-is_in.true in
     record {
-      memory_words_in_bounds = c.requires.memory_words_in_bounds;
       from_lt_places_most = c.requires.j_bound.1;
       child_ok = child_ok _ _ _ _ e c.is_in-ends.ensures c.requires.all;
       aside_fits = omega (arith, leaves_there c.args.b c.args.j e, c.requires.aside_fits);
@@ -31,7 +30,7 @@ unfolding AsideUpTo
 returns-then-is_full c =
     let e = sym c.is_in.ensures ∙ c.if-is_in.true in
     record {
-      does = child_full _ _ (domain _ _ c.args.self.asks) _ _ _ _ _ _ c.requires.memory_words_in_bounds e c.is_full.ensures c.if-is_full.true;
+      does = child_full _ _ (domain _ _ c.args.self.asks) _ _ _ _ _ _ (omega arith) e c.is_full.ensures c.if-is_full.true;
       aside_up_to = omega arith;
     }
 
@@ -39,7 +38,7 @@ pub returns-else-is_full : goal.returns-else-is_full
 returns-else-is_full c =
     let e = sym c.is_in.ensures ∙ c.if-is_in.true in
     record {
-      does = child_added _ _ (domain _ _ c.args.self.asks) _ _ _ _ _ _ _ _ _ c.requires.memory_words_in_bounds e c.is_full.ensures c.if-is_full.false c.is_in-ends.ensures c.add_candidate.ensures.does;
+      does = child_added _ _ (domain _ _ c.args.self.asks) _ _ _ _ _ _ _ _ _ (omega arith) e c.is_full.ensures c.if-is_full.false c.is_in-ends.ensures c.add_candidate.ensures.does;
       aside_up_to = up_to _ _ _ (omega (arith, leaves_there c.args.b c.args.j e)) c.add_candidate.ensures.aside_up_to;
     }
 

@@ -14,20 +14,18 @@ use Rattle.coverer.specs.declared.Brood.{Brood}
 use Rattle.coverer.specs.declared.Counts.{Counts}
 use Rattle.queue.specs.declared.Engine.{Engine}
 use Rattle.region.specs.Region.{Area}
-use lib.ListN.{length}
 use mathlib.Core.List.{List}
-use mathlib.Core.Path.{◌≡◌, refl, ◌∙◌, subst}
+use mathlib.Core.Path.{◌≡◌, subst}
 use native.Mathlib.Omega.{arith}
 use Rattle.coverer.proofs.job.Job.add_children.Invariants.{Inv}
 use Rattle.coverer.proofs.job.Job.add_children.Goals as goal
 
 turn : (e : Engine) (q : Request) (a : Area) (b : Brood) (m₀ : List ℕ) (t₀ : Counts) (m : List ℕ) (t : Counts) (j : ℕ) (m' : List ℕ) (r : Turn) (u : Counts) → Asks q a → j < b.places → r ≡ Ok u
-    → Does e (task_of q a) b.from (add_all (course_of q a) b.from (child_if b j)) m t m' r → AsideUpTo (t.aside + leaves_in (child_if b j)) r → length m' ≡ length m → Inv e q a b m₀ t₀ m t j → Inv e q a b m₀ t₀ m' u (j + 1)
+    → Does e (task_of q a) b.from (add_all (course_of q a) b.from (child_if b j)) m t m' r → AsideUpTo (t.aside + leaves_in (child_if b j)) r → Inv e q a b m₀ t₀ m t j → Inv e q a b m₀ t₀ m' u (j + 1)
 unfolding AsideUpTo
-turn e q a b m₀ t₀ m t j m' r u A j-in er d k l I =
+turn e q a b m₀ t₀ m t j m' r u A j-in er d k I =
     let aside : u.aside ≤ t.aside + leaves_in (child_if b j) = subst (AsideUpTo (t.aside + leaves_in (child_if b j))) er k in
     record {
-      long = l ∙ I.long;
       waits = waiting_next (ChildOk (task_of q a)) t u b j j-in aside I.waits;
       goes = goes_turn _ _ _ _ _ _ _ m₀ t₀ m t m' u (children_then _ (domain q a A) b j j-in _) (subst (Does e (task_of q a) _ _ m t m') er d) I.goes;
     }
@@ -39,14 +37,13 @@ stop e q a b m₀ t₀ m t j m' r n A j-in er d I =
 
 pub loop-j-init : goal.loop-j-init
 loop-j-init c =
-    record { long = refl; waits = record { all = c.requires.all; room = c.requires.aside_fits }; goes = goes_start _ _ _ _ _ _ }
+    record { waits = record { all = c.requires.all; room = c.requires.aside_fits }; goes = goes_start _ _ _ _ _ _ }
 
 pub add_child-requires : goal.add_child-requires
 add_child-requires c =
     let I = c.loop-j.invariant in
     let W = waiting_one (ChildOk _) _ _ _ c.loop-j-test.true I.waits in
     record {
-      memory_words_in_bounds = omega (arith, c.requires.memory_words_in_bounds, I.long);
       j_bound = (omega (arith, c.requires.places_bound.0), c.requires.places_bound.1);
       all = W.all;
       aside_fits = W.room;
@@ -56,7 +53,7 @@ pub returns-in_err-t : goal.returns-in_err-t
 returns-in_err-t c = let p = err_from_is_err_and c.from_residual.result c.from_residual.ensures.1 in rw (p.1, p.2) (stop _ _ _ _ _ _ _ _ _ _ _ _ c.args.self.asks c.loop-j-test.true c.in_err-t.was c.add_child.ensures.does c.loop-j.invariant)
 
 pub loop-j-preserved : goal.loop-j-preserved
-loop-j-preserved c = turn _ _ _ _ _ _ _ _ _ _ _ _ c.args.self.asks c.loop-j-test.true c.in_ok-t.was c.add_child.ensures.does c.add_child.ensures.aside_up_to c.add_child.auto.m c.loop-j.invariant
+loop-j-preserved c = turn _ _ _ _ _ _ _ _ _ _ _ _ c.args.self.asks c.loop-j-test.true c.in_ok-t.was c.add_child.ensures.does c.add_child.ensures.aside_up_to c.loop-j.invariant
 
 pub returns : goal.returns
 returns c =

@@ -12,13 +12,10 @@ use Rattle.coverer.specs.declared.Brood.{Brood}
 use Rattle.coverer.specs.declared.Counts.{Counts}
 use Rattle.queue.specs.declared.Engine.{Engine}
 use Rattle.region.specs.Region.{Area, area_of}
-use lib.ListN.{length}
 use mathlib.Core.List.{List}
-use mathlib.Core.Path.{◌≡◌}
 use Rattle.coverer.proofs.job.Job.add_children.Given as goal
 
 pub record Inv (e : Engine) (q : Request) (a : Area) (b : Brood) (m₀ : List ℕ) (t₀ : Counts) (m : List ℕ) (t : Counts) (j : ℕ) : Type 0 where
-  pub long : length m ≡ length m₀
   pub waits : Waiting (ChildOk (task_of q a)) t (children_from b j)
   pub goes : Goes e (task_of q a) b.from (add_all (course_of q a) b.from (children_from b 0)) (add_all (course_of q a) b.from (children_from b j)) m₀ t₀ m t
 

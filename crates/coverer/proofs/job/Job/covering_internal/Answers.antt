@@ -1,7 +1,6 @@
 -- `Job::covering_internal` meets its contract.
 use Rattle.std.proofs.lemmas.Result.{err_from_is_err_and}
 use Rattle.coverer.proofs.Runs.{runs_live, runs_room, runs_refused, runs_on}
-use native.Mathlib.Omega.{arith}
 use Rattle.coverer.proofs.job.Job.covering_internal.Goals as goal
 
 pub proceed-requires : goal.proceed-requires
@@ -9,7 +8,6 @@ proceed-requires c =
     let d = c.initial_candidates in
     let e = c.in_ok-t.was in
     record {
-      memory_words_in_bounds = omega (arith, d.auto.m, c.requires.memory_words_in_bounds);
       live = runs_live _ _ _ _ _ _ c.args.allowance d.ensures _ e c.requires.all c.requires.count_bound;
       steps_le_allowance = runs_room _ _ _ _ _ _ _ d.ensures _ e;
     }

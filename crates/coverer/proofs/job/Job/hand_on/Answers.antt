@@ -50,7 +50,6 @@ add_children-requires c =
     let B = made _ _ c.args.self.asks _ _ _ _ c.requires.taken c.levels_under.ensures c.requires.children_value c.cells_under-b.ensures in
     let h : c.set_aside.result.aside + leaves_in (children_from c.cells_under-b.result 0) ≤ c.args.t.aside + leaves_of c.args.r.id = brood_leaves _ _ _ _ _ _ B _ _ c.set_aside.ensures in
     record {
-      memory_words_in_bounds = c.requires.memory_words_in_bounds;
       places_bound = (brood_places _ _ _ _ _ _ B A.some A.few, omega (arith, brood_from _ _ _ _ _ _ B, c.requires.taken.place));
       all = brood_ok _ _ _ _ _ _ B;
       aside_fits = omega (arith, c.requires.aside_fits);

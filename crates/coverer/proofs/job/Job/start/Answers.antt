@@ -19,7 +19,6 @@ queued_is c = let k = rw c.in-Some-Queued.is at c.in-Some-Queued.field-0-is in c
 pub add_candidate-requires : goal.add_candidate-requires
 add_candidate-requires c =
     record {
-      memory_words_in_bounds = c.requires.memory_words_in_bounds;
       from_lt_places_most = c.requires.from_lt_places_most;
       child_ok = start_kept_ok _ _ _ c.new_candidate-c.ensures c.requires.fit (kept_is (goal.at.add_candidate-requires c).In-Some-Kept);
       aside_fits = c.requires.aside_fits;
@@ -28,7 +27,6 @@ add_candidate-requires c =
 pub add_candidate-requires-in-Some-Queued : goal.add_candidate-requires-in-Some-Queued
 add_candidate-requires-in-Some-Queued c =
     record {
-      memory_words_in_bounds = c.requires.memory_words_in_bounds;
       from_lt_places_most = c.requires.from_lt_places_most;
       child_ok = start_queued_ok _ _ _ c.new_candidate-c.ensures c.requires.fit (queued_is (goal.at.add_candidate-requires-in-Some-Queued c).In-Some-Queued);
       aside_fits = c.requires.aside_fits;
