@@ -2,37 +2,13 @@
 // refused is told on standard error, and nothing is written to standard output then.
 #![tactic(auto)]
 
-ghost use Rattle.std.specs.Prelude.{◌≡◌, ◌≤◌, ◌<◌, replicate, length};
+ghost use Rattle.std.specs.Prelude.{◌≡◌, ◌≤◌, ◌<◌, length};
 ghost use Rattle.replies.specs.Write.{Wrote};
 ghost use Rattle.filter.specs.Filter.{Turned, malformed_text, over_text, refusal_text, length_said, Replied};
 
-use input::{All, Found, Streams};
+use input::{Found, Streams};
 use refusal::Refusal;
 use tokens::Form;
-
-// Room for a text of 1,114,112 bytes, 65,536 lines of sixteen digits, and one byte more.
-pub fn buffer() -> [u8; 1114113]
-    ensures value { 1114113 ≡ length result }
-    ensures value_2 { result ≡ replicate 1114113 0 }
-{
-    [0; 1114113]
-}
-
-// Room for the ids of a text.
-pub fn places() -> [u64; 65536]
-    ensures value { 65536 ≡ length result }
-    ensures value_2 { result ≡ replicate 65536 0 }
-{
-    [0; 65536]
-}
-
-// Room for the text of as many ids.
-pub fn page() -> [u8; 1114112]
-    ensures value { 1114112 ≡ length result }
-    ensures value_2 { result ≡ replicate 1114112 0 }
-{
-    [0; 1114112]
-}
 
 // Turns a text in one form into one in the other, over the list that it is.
 pub fn turn(
@@ -97,28 +73,43 @@ fn tell(streams: Streams, reply: Result<usize, usize>, page: &[u8])
 {
     match reply {
         Ok(n) => {
-            input::tell(streams, Found::Line, &page[..n]);
+            input::write(streams, &page[..n]);
         }
         Err(n) => input::say(streams, &page[..n]),
     }
 }
 
 // Takes all of standard input.
-pub fn run(streams: Streams, from: Form, to: Form, buf: &mut [u8], ids: &mut [u64], page: &mut [u8])
+fn turn_all(
+    streams: Streams,
+    from: Form,
+    to: Form,
+    buf: &mut [u8],
+    ids: &mut [u64],
+    page: &mut [u8],
+)
     requires { (0 < length buf.old) × (64 ≤ length page.old) }
 {
-    let all = input::read_all(streams, buf);
-    match all {
-        All::Held(n) => {
-            let r = answer(from, to, &buf[..n], ids, page);
-            tell(streams, r, page);
+    match input::read_all(streams, buf) {
+        Ok(Some(n)) => {
+            let reply = answer(from, to, &buf[..n], ids, page);
+            tell(streams, reply, page);
         }
-        All::TooLong => {
+        Ok(None) => {
             let n = put_over(page, buf.len() - 1, b" bytes\n");
             tell(streams, Err(n), page);
         }
-        All::Failed => {
+        Err(_) => {
             input::tell(streams, Found::Failed, b"");
         }
     }
+}
+
+// The whole of either program: a text of at most 65,536 lines of sixteen digits.
+pub fn run(streams: Streams, from: Form, to: Form) {
+    // A byte more than the longest text, as reading to the end needs.
+    let mut buf: [u8; 1_114_113] = blank::filled(0);
+    let mut ids: [u64; 65_536] = blank::filled(0);
+    let mut page: [u8; 1_114_112] = blank::filled(0);
+    turn_all(streams, from, to, &mut buf, &mut ids, &mut page);
 }

@@ -1,8 +1,8 @@
 -- Lines of an input, out of one buffer. A stream's contract says nothing of the bytes that come, nor of when it can't be read, so that is open here;
 -- said is where a line ends in the buffer, and that it begins with the bytes that were unread.
-use Rattle.std.specs.Prelude.{◌≡◌, Bool, true, false, cond, ◌&&◌, List, ℕ, ◌+◌, ◌-◌, ◌≤◌, ◌<◌, eqb, leb, ltb, length, take, drop}
+use Rattle.std.specs.Prelude.{◌≡◌, Bool, true, false, cond, ◌&&◌, Option, option_map, position, ◌==◌, List, ℕ, ◌+◌, ◌-◌, ◌≤◌, ◌<◌, eqb, leb, ltb, length, take, drop}
 use Rattle.text.specs.Text.{until}
-use Rattle.input.specs.declared.All.{All}
+use Rattle.input.specs.declared.Span.{Span}
 use Rattle.input.specs.declared.Found.{Found}
 use Rattle.input.specs.declared.Feed.{Feed}
 
@@ -14,39 +14,58 @@ between from to l = take (to - from) (drop from l)
 abbrev pub line_end : ℕ → ℕ → List ℕ → ℕ
 line_end from to l = from + until 10 (between from to l)
 
+-- the place of that newline, where there is one
+abbrev pub newline_in : ℕ → ℕ → List ℕ → Option ℕ
+newline_in from to l = option_map (λ n. from + n) (position (λ b. b == 10) (between from to l))
+
 -- ---- answers
+
+abbrev pub span : ℕ → ℕ → Span
+span start end = record { start = start; end = end }
+
+-- the bytes of a part of a buffer
+abbrev pub part_of : Span → List ℕ → List ℕ
+part_of s l = between s.start s.end l
 
 -- the line up to a newline at a place
 abbrev pub line_to : ℕ → ℕ → ℕ → Feed
-line_to start end filled = record { start = start; end = end; next = end + 1; filled = filled; found = Found.Line }
+line_to start end filled = record { found = Found.Line (span start end); unread = span (end + 1) filled }
 
 -- what is left at the input's end: a line of all the bytes, if there are any
 abbrev pub last_line : ℕ → Feed
-last_line n = record { start = 0; end = n; next = n; filled = n; found = elim (eqb n 0) [ true ↦ Found.End | false ↦ Found.Line ] }
+last_line n = record { found = elim (eqb n 0) [ true ↦ Found.End | false ↦ Found.Line (span 0 n) ]; unread = span n n }
 
 -- a line too long, of which nothing is kept
 abbrev pub too_long : ℕ → ℕ → Feed
-too_long next filled = record { start = 0; end = 0; next = next; filled = filled; found = Found.TooLong }
+too_long next filled = record { found = Found.TooLong; unread = span next filled }
 
 -- a read that failed
 abbrev pub failure : Feed
-failure = record { start = 0; end = 0; next = 0; filled = 0; found = Found.Failed }
+failure = record { found = Found.Failed; unread = span 0 0 }
 
 -- no line follows
 abbrev pub is_last : Found → Bool
-is_last Found.Line = false
+is_last (Found.Line s) = false
 is_last Found.TooLong = false
 is_last Found.End = true
 is_last Found.Failed = true
 
 -- ---- contracts
 
+-- a part of a buffer of some size
+pub record Within (size : ℕ) (s : Span) : Type 0 where
+  pub order : s.start ≤ s.end
+  pub inside : s.end ≤ size
+
+-- a line that was found is one
+abbrev pub LineWithin : ℕ → Found → Type 0
+LineWithin size (Found.Line s) = Within size s
+LineWithin size _ = Unit {0}
+
 -- the parts that a line and the bytes after it take of a buffer of some size
 pub record Ready (size : ℕ) (r : Feed) : Type 0 where
-  pub line : r.start ≤ r.end
-  pub within : r.end ≤ size
-  pub left : r.next ≤ r.filled
-  pub held : r.filled ≤ size
+  pub line : LineWithin size r.found
+  pub unread : Within size r.unread
 
 -- no line: one too long for the buffer is passed over, and what is unread are the bytes after the first newline in the buffer, or none; or a read failed
 pub data NoLine (buf : List ℕ) (r : Feed) : Type 0 where
@@ -86,9 +105,3 @@ may_wait room waiting longest end filled = ltb end filled && leb longest (room -
 -- how many bytes are left waiting: all, or none
 unfoldable pub left_waiting : ℕ → ℕ → ℕ → ℕ → ℕ → ℕ
 left_waiting room waiting longest end filled = cond (may_wait room waiting longest end filled) waiting 0
-
--- how many bytes of a file are held
-unfoldable pub held_bytes : All → ℕ
-held_bytes (All.Held n) = n
-held_bytes All.TooLong = 0
-held_bytes All.Failed = 0

@@ -2,11 +2,15 @@
 // that neither a newline nor the true end of the input closes is never answered. Or all of an input at once, as far as a buffer holds it.
 #![tactic(auto)]
 
-ghost use Rattle.std.specs.Prelude.{◌≡◌, false, ◌&&◌, ◌+◌, ◌-◌, ◌≤◌, ◌<◌, replicate, length, take};
-ghost use Rattle.input.specs.Feed.{between, line_end, line_to, last_line, too_long, failure, is_last, Ready, NoLine, ReadOn, NextLine, may_wait, left_waiting, held_bytes};
+ghost use Rattle.std.specs.Prelude.{◌≡◌, None, false, IfOk, IfSome, ◌&&◌, ◌+◌, ◌-◌, ◌≤◌, ◌<◌, length, take};
+ghost use Rattle.input.specs.Feed.{part_of, line_end, newline_in, line_to, last_line, too_long, failure, is_last, Within, Ready, NoLine, ReadOn, NextLine, left_waiting};
 
+use std::io;
 use std::io::{Print, Read};
 use std::rt::{HostRuntime, Stderr, Stdin, Stdout};
+
+// Room for a line of 262,144 bytes and its newline.
+pub const ROOM: usize = 262_145;
 
 // The three standard streams.
 #[derive(Clone, Copy)]
@@ -16,53 +20,47 @@ pub struct Streams {
     pub errors: Stderr,
 }
 
+// A part of a buffer: buf[start..end].
+#[derive(Clone, Copy)]
+pub struct Span {
+    pub start: usize,
+    pub end: usize,
+}
+
+impl Span {
+    // No bytes.
+    pub const NONE: Span = Span { start: 0, end: 0 };
+
+    // Its bytes.
+    pub fn of(self, buf: &[u8]) -> &[u8]
+        requires { Within (length buf.now) self }
+        ensures { result.now ≡ part_of self buf.now }
+    {
+        &buf[self.start..self.end]
+    }
+}
+
 // What was found: a line, one that is too long for the buffer, the input's end, or that the input can't be read.
 #[derive(Clone, Copy)]
 pub enum Found {
-    Line,
+    Line(Span),
     TooLong,
     End,
     Failed,
 }
 
-// The line is buf[start..end]; what is read and not yet looked at is buf[next..filled].
+// What was found, and what is read and not yet looked at.
 #[derive(Clone, Copy)]
 pub struct Feed {
-    pub start: usize,
-    pub end: usize,
-    pub next: usize,
-    pub filled: usize,
     pub found: Found,
+    pub unread: Span,
 }
 
-// How many bytes of the buffer are filled after a read, and whether it failed.
-#[derive(Clone, Copy)]
-struct Filled {
-    filled: usize,
-    failed: bool,
-}
-
-// How many bytes of answers wait in a page, and whether the output failed.
-#[derive(Clone, Copy)]
-struct Page {
-    waiting: usize,
-    failed: bool,
-}
-
-// What was found, with what then waits in the page. Where the output failed, nothing was looked for.
+// What was found, and how many bytes of answers wait in a page then.
 #[derive(Clone, Copy)]
 pub struct Turn {
     pub feed: Feed,
     pub waiting: usize,
-    pub failed: bool,
-}
-
-// All of a file: how many bytes of the buffer it fills; or that the buffer can't hold it, or that it can't be read.
-#[derive(Clone, Copy)]
-pub enum All {
-    Held(usize),
-    TooLong,
-    Failed,
 }
 
 // The streams of a program.
@@ -74,73 +72,42 @@ pub fn standard_streams(rt: HostRuntime) -> Streams {
     }
 }
 
-// Room for a line of 262,144 bytes and its newline.
-pub fn buffer() -> [u8; 262145]
-    ensures value { 262145 ≡ length result }
-    ensures value_2 { result ≡ replicate 262145 0 }
+// The place of the first newline among some bytes.
+fn newline(buf: &[u8], part: Span) -> Option<usize>
+    requires { Within (length buf.now) part }
+    ensures { result ≡ newline_in part.start part.end buf.now }
 {
-    [0; 262145]
-}
-
-// The place of the first newline from `from` on and before `to`, or `to`.
-fn line_end(buf: &[u8], from: usize, to: usize) -> usize
-    requires { (from ≤ to) × (to ≤ length buf.now) }
-    ensures { (result ≡ line_end from to buf.now) × (from ≤ result) × (result ≤ to) }
-{
-    match text::find(&buf[from..to], b'\n') {
-        Some(n) => from + n,
-        None => to,
+    match text::find(part.of(buf), b'\n') {
+        Some(n) => Some(part.start + n),
+        None => None,
     }
 }
 
-// Moves buf[from..to] to the front.
-fn move_down(buf: &mut [u8], from: usize, to: usize)
-    requires { (from ≤ to) × (to ≤ length buf.old) }
-    ensures { take (to - from) buf.new ≡ between from to buf.old }
-{
-    let n = to - from;
-    let mut i = 0;
-    while i < n {
-        buf[i] = buf[from + i];
-        i += 1;
-    }
-}
-
-// Reads once into what is free behind the first `filled` bytes. At the input's end, and where the read fails, no more are filled than before.
-fn fill(streams: Streams, buf: &mut [u8], filled: usize) -> Filled
+// Reads once into what is free behind the first `filled` bytes, and tells how many are filled then: at the input's end no more than before.
+fn fill(streams: Streams, buf: &mut [u8], filled: usize) -> io::Result<usize>
     requires { filled ≤ length buf.old }
-    ensures { (filled ≤ result.filled) × (result.filled ≤ length buf.old) × (take filled buf.new ≡ take filled buf.old) }
+    ensures bound { IfOk result (λ n. (filled ≤ n) × (n ≤ length buf.old)) }
+    ensures kept { take filled buf.new ≡ take filled buf.old }
 {
     let mut input = streams.input;
-    match input.read(&mut buf[filled..]) {
-        Ok(got) => Filled {
-            filled: filled + got,
-            failed: false,
-        },
-        Err(_) => Filled {
-            filled,
-            failed: true,
-        },
-    }
+    let got = input.read(&mut buf[filled..])?;
+    Ok(filled + got)
 }
 
-// Reads a file to its end. Of a buffer that is full nobody knows whether it holds all, so a byte has to stay free.
-pub fn read_all(streams: Streams, buf: &mut [u8]) -> All
-    ensures { held_bytes result ≤ length buf.old }
+// Reads a file to its end, and tells how many bytes of the buffer it fills. Of a buffer that is full nobody knows whether it holds all, so a byte has to stay
+// free.
+pub fn read_all(streams: Streams, buf: &mut [u8]) -> io::Result<Option<usize>>
+    ensures { IfOk result (λ held. IfSome held (λ n. n ≤ length buf.old)) }
 {
     let mut filled = 0;
     while filled < buf.len() {
-        let f = fill(streams, buf, filled);
-        if f.failed {
-            return All::Failed;
-        }
-        let more = f.filled;
+        let more = fill(streams, buf, filled)?;
         if more == filled {
-            return All::Held(filled);
+            return Ok(Some(filled));
         }
         filled = more;
     }
-    All::TooLong
+    Ok(None)
 }
 
 // The line up to a newline at `end`.
@@ -149,11 +116,11 @@ fn line_to(start: usize, end: usize, filled: usize) -> Feed
     ensures { result ≡ line_to start end filled }
 {
     Feed {
-        start,
-        end,
-        next: end + 1,
-        filled,
-        found: Found::Line,
+        found: Found::Line(Span { start, end }),
+        unread: Span {
+            start: end + 1,
+            end: filled,
+        },
     }
 }
 
@@ -161,13 +128,19 @@ fn line_to(start: usize, end: usize, filled: usize) -> Feed
 fn last_line(filled: usize) -> Feed
     ensures { result ≡ last_line filled }
 {
-    let found = if filled == 0 { Found::End } else { Found::Line };
     Feed {
-        start: 0,
-        end: filled,
-        next: filled,
-        filled,
-        found,
+        found: if filled == 0 {
+            Found::End
+        } else {
+            Found::Line(Span {
+                start: 0,
+                end: filled,
+            })
+        },
+        unread: Span {
+            start: filled,
+            end: filled,
+        },
     }
 }
 
@@ -176,11 +149,11 @@ fn too_long(next: usize, filled: usize) -> Feed
     ensures { result ≡ too_long next filled }
 {
     Feed {
-        start: 0,
-        end: 0,
-        next,
-        filled,
         found: Found::TooLong,
+        unread: Span {
+            start: next,
+            end: filled,
+        },
     }
 }
 
@@ -189,11 +162,8 @@ fn failure() -> Feed
     ensures { result ≡ failure }
 {
     Feed {
-        start: 0,
-        end: 0,
-        next: 0,
-        filled: 0,
         found: Found::Failed,
+        unread: Span::NONE,
     }
 }
 
@@ -202,16 +172,19 @@ fn skip_line(streams: Streams, buf: &mut [u8]) -> Feed
     ensures { Ready (length buf.old) result × NoLine buf.new result }
 {
     for _ in 0..u64::MAX {
-        let f = fill(streams, buf, 0);
-        if f.failed {
+        let Ok(filled) = fill(streams, buf, 0) else {
             return failure();
-        }
-        let filled = f.filled;
+        };
         if filled == 0 {
             return too_long(0, 0);
         }
-        let end = line_end(buf, 0, filled);
-        if end < filled {
+        if let Some(end) = newline(
+            buf,
+            Span {
+                start: 0,
+                end: filled,
+            },
+        ) {
             return too_long(end + 1, filled);
         }
     }
@@ -225,16 +198,19 @@ fn read_on(streams: Streams, buf: &mut [u8], held: usize) -> Feed
 {
     let mut filled = held;
     while filled < buf.len() {
-        let f = fill(streams, buf, filled);
-        if f.failed {
+        let Ok(more) = fill(streams, buf, filled) else {
             return failure();
-        }
-        let more = f.filled;
+        };
         if more == filled {
             return last_line(filled);
         }
-        let end = line_end(buf, filled, more);
-        if end < more {
+        if let Some(end) = newline(
+            buf,
+            Span {
+                start: filled,
+                end: more,
+            },
+        ) {
             return line_to(0, end, more);
         }
         filled = more;
@@ -242,33 +218,34 @@ fn read_on(streams: Streams, buf: &mut [u8], held: usize) -> Feed
     skip_line(streams, buf)
 }
 
-// The next line: the unread bytes are buf[next..filled], and their first newline stands at `end`, or there is none and `end` is `filled`. Then what follows
-// them is read from the file, and no answer may wait to be written: who asks may wait for it before they send more. A last line needs no newline.
+// The next line: `end` is the place of the first newline among the unread bytes. Where there is none, what follows them is read from the file, and no answer may
+// wait to be written then: who asks may wait for it before they send more. A last line needs no newline.
 fn line_from(
     streams: Streams,
     buf: &mut [u8],
-    next: usize,
-    end: usize,
-    filled: usize,
+    unread: Span,
+    end: Option<usize>,
     waiting: usize,
 ) -> Feed
-    requires { (next ≤ filled) × (filled ≤ length buf.old) × (end ≡ line_end next filled buf.old) × (end ≤ filled) × (filled ≤ end → waiting ≡ 0) }
-    ensures { Ready (length buf.old) result × NextLine buf.old next filled buf.new result }
+    requires { Within (length buf.old) unread × (end ≡ newline_in unread.start unread.end buf.old) × (end ≡ None → waiting ≡ 0) }
+    ensures { Ready (length buf.old) result × NextLine buf.old unread.start unread.end buf.new result }
 {
-    if end < filled {
-        return line_to(next, end, filled);
+    match end {
+        Some(end) => line_to(unread.start, end, unread.end),
+        None => {
+            buf.copy_within(unread.start..unread.end, 0);
+            read_on(streams, buf, unread.end - unread.start)
+        }
     }
-    move_down(buf, next, filled);
-    read_on(streams, buf, filled - next)
 }
 
 // The next line, where no answer waits.
-pub fn next_line(streams: Streams, buf: &mut [u8], next: usize, filled: usize) -> Feed
-    requires { (next ≤ filled) × (filled ≤ length buf.old) }
-    ensures { Ready (length buf.old) result × NextLine buf.old next filled buf.new result }
+pub fn next_line(streams: Streams, buf: &mut [u8], unread: Span) -> Feed
+    requires { Within (length buf.old) unread }
+    ensures { Ready (length buf.old) result × NextLine buf.old unread.start unread.end buf.new result }
 {
-    let end = line_end(buf, next, filled);
-    line_from(streams, buf, next, end, filled, 0)
+    let end = newline(buf, unread);
+    line_from(streams, buf, unread, end, 0)
 }
 
 // Writes a text to standard error. Where that fails there is nobody left to tell.
@@ -276,17 +253,25 @@ pub fn say(streams: Streams, text: &[u8]) {
     let _ = streams.errors.write_all(text);
 }
 
+// Writes a text to standard output, and tells whether it could be written: where it could not, standard error says so.
+pub fn write(streams: Streams, text: &[u8]) -> bool {
+    let written = streams.output.write_all(text).is_ok();
+    if !written {
+        say(streams, b"the output could not be written\n");
+    }
+    written
+}
+
 // Writes the answer to what was found to standard output, and tells whether there is more to read: not after the input's end, nor where the input can't be
 // read or the output can't be written. Those two are said on standard error.
 pub fn tell(streams: Streams, found: Found, text: &[u8]) -> bool
     ensures { (result && is_last found) ≡ false }
 {
-    if streams.output.write_all(text).is_err() {
-        say(streams, b"the output could not be written\n");
+    if !write(streams, text) {
         return false;
     }
     match found {
-        Found::Line => true,
+        Found::Line(_) => true,
         Found::TooLong => true,
         Found::End => false,
         Found::Failed => {
@@ -296,82 +281,34 @@ pub fn tell(streams: Streams, found: Found, text: &[u8]) -> bool
     }
 }
 
-// Writes the answers that wait in the first bytes of a page, as `tell` does.
-pub fn tell_waiting(streams: Streams, found: Found, page: &[u8], waiting: usize) -> bool
-    requires { waiting ≤ length page.now }
-    ensures { (result && is_last found) ≡ false }
-{
-    tell(streams, found, &page[..waiting])
-}
-
-// Whether answers may go on waiting: the next line is held, its newline at `end`, before `filled`, and `longest` bytes have room behind them.
-fn may_wait(room: usize, waiting: usize, longest: usize, end: usize, filled: usize) -> bool
-    requires { waiting ≤ room }
-    ensures { result ≡ may_wait room waiting longest end filled }
-{
-    if end < filled {
-        return longest <= room - waiting;
-    }
-    false
-}
-
-// What waits in a page before the next line is looked for: as before where it may, else nothing, and what waited is written.
-fn make_room(
-    streams: Streams,
-    page: &[u8],
-    waiting: usize,
-    longest: usize,
-    end: usize,
-    filled: usize,
-) -> Page
-    requires { waiting ≤ length page.now }
-    ensures { result.waiting ≡ left_waiting (length page.now) waiting longest end filled }
-{
-    if may_wait(page.len(), waiting, longest, end, filled) {
-        return Page {
-            waiting,
-            failed: false,
-        };
-    }
-    let told = tell_waiting(streams, Found::Line, page, waiting);
-    Page {
-        waiting: 0,
-        failed: !told,
-    }
-}
-
 // The next line, as `next_line` finds it, where answers wait in the first bytes of a page: before anything is read they are written, and `longest` bytes have
-// room behind those that still wait.
+// room behind those that still wait. None: they could not be written, and nothing was looked for.
 pub fn read_line(
     streams: Streams,
     buf: &mut [u8],
-    next: usize,
-    filled: usize,
+    unread: Span,
     page: &[u8],
     waiting: usize,
     longest: usize,
-) -> Turn
-    requires { (next ≤ filled) × (filled ≤ length buf.old) × (waiting ≤ length page.now) × (longest ≤ length page.now) }
-    ensures ready { Ready (length buf.old) result.feed × (result.failed ≡ false → NextLine buf.old next filled buf.new result.feed) }
-    ensures waiting_value { (result.waiting ≡ left_waiting (length page.now) waiting longest (line_end next filled buf.old) filled) × (result.waiting + longest ≤ length page.now) }
+) -> Option<Turn>
+    requires { Within (length buf.old) unread × (waiting ≤ length page.now) × (longest ≤ length page.now) }
+    ensures ready { IfSome result (λ t. Ready (length buf.old) t.feed × NextLine buf.old unread.start unread.end buf.new t.feed) }
+    ensures waiting_value { IfSome result (λ t. (t.waiting ≡ left_waiting (length page.now) waiting longest (line_end unread.start unread.end buf.old) unread.end) × (t.waiting + longest ≤ length page.now)) }
 {
-    let end = line_end(buf, next, filled);
-    let p = make_room(streams, page, waiting, longest, end, filled);
-    let left = p.waiting;
-    if p.failed {
-        let feed = failure();
-        return Turn {
-            feed,
-            waiting: left,
-            failed: true,
-        };
-    }
-    let feed = line_from(streams, buf, next, end, filled, left);
-    Turn {
+    let end = newline(buf, unread);
+    let left = if end.is_some() && longest <= page.len() - waiting {
+        waiting
+    } else {
+        if !write(streams, &page[..waiting]) {
+            return None;
+        }
+        0
+    };
+    let feed = line_from(streams, buf, unread, end, left);
+    Some(Turn {
         feed,
         waiting: left,
-        failed: false,
-    }
+    })
 }
 
 // Whether a line follows what was found. Where none does, the answers that wait in a page are written.
@@ -380,9 +317,8 @@ pub fn goes_on(streams: Streams, found: Found, page: &[u8], waiting: usize) -> b
     ensures { (result && is_last found) ≡ false }
 {
     match found {
-        Found::Line => true,
+        Found::Line(_) => true,
         Found::TooLong => true,
-        Found::End => tell_waiting(streams, found, page, waiting),
-        Found::Failed => tell_waiting(streams, found, page, waiting),
+        _ => tell(streams, found, &page[..waiting]),
     }
 }

@@ -2,138 +2,51 @@
 // and no order is run. Else standard output has a line for each order, in their order, and a last line with the night's sums.
 #![tactic(auto)]
 
-ghost use Rattle.std.specs.Prelude.{◌≡◌, ◌&&◌, ◌+◌, ◌*◌, ◌≤◌, length, take};
-ghost use Rattle.input.specs.Feed.{Ready};
+ghost use Rattle.std.specs.Prelude.{◌≡◌, ◌+◌, ◌*◌, ◌≤◌, length};
+ghost use Rattle.input.specs.Feed.{LineWithin};
 ghost use Rattle.orders.specs.Nights.{places_of};
-ghost use Rattle.batch.specs.Batch.{is_head};
-ghost use Rattle.night.specs.Night.{is_end, head_heard, order_heard, line_heard, heard_in, ServedFirst};
+ghost use Rattle.night.specs.Night.{head_heard, order_heard, line_heard, heard_in};
 
 use batch::Head;
-use input::{Feed, Found, Streams};
+use input::{Found, Span, Streams};
 use orders::{NIGHT_MOST, Order};
 use run::{MEMORY_WORDS, RegionCoverer};
 use text::Fault;
 use tokens::Form;
 use totals::Totals;
 
-// What a line is: nothing, the line before the orders, or an order; or what is wrong with it.
+// What a line is: nothing, the line before the orders, or an order.
 #[derive(Clone, Copy)]
 enum Heard {
     Silent,
     Begin(Head),
     Take(Order),
-    Wrong(Fault),
 }
 
-// Words of working memory.
-fn memory() -> [u64; 8192]
-    ensures { 8192 ≡ length result }
-{
-    [0; 8192]
-}
-
-// Places of output.
-fn places() -> [u64; 65536]
-    ensures { 65536 ≡ length result }
-{
-    [0; 65536]
-}
-
-// Room for the longest line, 65,536 ids of 17 bytes each and what stands before and after them.
-fn blank_page() -> [u8; 1114368]
-    ensures { 1114368 ≡ length result }
-{
-    [0; 1114368]
-}
-
-// Whether the input has ended.
-fn is_end(found: Found) -> bool
-    ensures { result ≡ is_end found }
-{
-    match found {
-        Found::Line => false,
-        Found::TooLong => false,
-        Found::End => true,
-        Found::Failed => false,
-    }
-}
-
-// The line before the orders.
-fn hear_head(line: &[u8]) -> Heard
-    ensures { result ≡ head_heard line.now }
-{
-    match batch::read_head(line) {
-        Ok(head) => Heard::Begin(head),
-        Err(fault) => Heard::Wrong(fault),
-    }
-}
-
-// An order.
-fn hear_order(line: &[u8]) -> Heard
-    ensures { result ≡ order_heard line.now }
-{
-    match batch::read_order(line) {
-        Ok(order) => Heard::Take(order),
-        Err(fault) => Heard::Wrong(fault),
-    }
-}
-
-// Whether a line is the one before the orders: only the first that is not silent can be.
-fn comes_first(line: &[u8], first: bool) -> bool
-    ensures { result ≡ (first && is_head line.now) }
-{
-    if first {
-        return batch::is_head(line);
-    }
-    false
-}
-
-// What a line is.
-fn hear_line(line: &[u8], first: bool) -> Heard
+// What a line is, or what is wrong with it: only the first that is not silent can be the one before the orders.
+fn hear_line(line: &[u8], first: bool) -> Result<Heard, Fault>
     ensures { result ≡ line_heard line.now first }
 {
     if text::is_silent(line) {
-        return Heard::Silent;
+        Ok(Heard::Silent)
+    } else if first && batch::is_head(line) {
+        Ok(Heard::Begin(batch::read_head(line)?))
+    } else {
+        Ok(Heard::Take(batch::read_order(line)?))
     }
-    if comes_first(line, first) {
-        return hear_head(line);
-    }
-    hear_order(line)
 }
 
 // What was found in the input, before its end.
-fn hear(f: Feed, first: bool, buf: &[u8]) -> Heard
-    requires { Ready (length buf.now) f }
-    ensures { result ≡ heard_in f first buf.now }
+fn hear(found: Found, first: bool, buf: &[u8]) -> Result<Heard, Fault>
+    requires { LineWithin (length buf.now) found }
+    ensures { result ≡ heard_in found first buf.now }
 {
-    let found = f.found;
     match found {
-        Found::Line => {
-            let start = f.start;
-            let end = f.end;
-            hear_line(&buf[start..end], first)
-        }
-        Found::TooLong => Heard::Wrong(Fault::LineTooLong),
-        Found::End => Heard::Silent,
-        Found::Failed => Heard::Wrong(Fault::ReadFailed),
+        Found::Line(line) => hear_line(line.of(buf), first),
+        Found::TooLong => Err(Fault::LineTooLong),
+        Found::End => Ok(Heard::Silent),
+        Found::Failed => Err(Fault::ReadFailed),
     }
-}
-
-// Serves the first n of these orders in one call; the records come back as it leaves them.
-fn serve_first(orders: [Order; 256], n: usize, mem: &mut [u64], out: &mut [u64]) -> [Order; 256]
-    requires { n ≤ 256 }
-    ensures { ServedFirst n orders result mem.old mem.new out.old out.new }
-{
-    let mut served = orders;
-    let _ = orders::night(&mut served[..n], mem, out);
-    served
-}
-
-// 1 for the number of a refusal, 0 for that of a success.
-fn refusals(number: u64) -> u64
-    ensures { result ≤ 1 }
-{
-    if number == 0 { 0 } else { 1 }
 }
 
 // Writes the line of an order that was served to standard output, and tells whether it could be written.
@@ -148,7 +61,7 @@ fn tell_order(
     requires { (begin + o.count ≤ length out.now) × (17 * length out.now + 256 ≤ length page.old) }
 {
     let length = batch::put_served(page, form, o, begin, out);
-    input::tell_waiting(streams, Found::Line, page, length)
+    input::write(streams, &page[..length])
 }
 
 // Writes the last line of a night to standard output.
@@ -163,52 +76,50 @@ fn tell_end(
     requires { 128 ≤ length page.old }
 {
     let length = batch::put_summary(page, orders as u64, refused, cells as u64, left as u64);
-    input::tell_waiting(streams, Found::End, page, length);
+    input::write(streams, &page[..length]);
 }
 
-// Writes the line of each of the first n orders, and the last line.
-fn tell_night(
-    streams: Streams,
-    orders: [Order; 256],
-    n: usize,
-    form: Form,
-    out: &[u64],
-    page: &mut [u8],
-)
-    requires { (n ≤ 256) × (places_of (take n orders) ≤ length out.now) × (17 * length out.now + 256 ≤ length page.old) }
+// Writes the line of each of the orders that were served, and the last line.
+fn tell_night(streams: Streams, orders: &[Order], form: Form, out: &[u64], page: &mut [u8])
+    requires { (places_of orders.now ≤ length out.now) × (17 * length out.now + 256 ≤ length page.old) }
 {
     let mut begin: usize = 0;
     let mut refused: u64 = 0;
-    let mut k: usize = 0;
-    while k < n {
-        let o = orders[k];
-        if !tell_order(streams, o, begin, form, out, page) {
+    for order in orders {
+        if !tell_order(streams, *order, begin, form, out, page) {
             return;
         }
-        refused += refusals(o.number);
-        begin += o.count;
-        k += 1;
+        if order.number != 0 {
+            refused += 1;
+        }
+        begin += order.count;
     }
-    tell_end(streams, n, refused, begin, out.len() - begin, page);
+    tell_end(
+        streams,
+        orders.len(),
+        refused,
+        begin,
+        out.len() - begin,
+        page,
+    );
 }
 
 // Serves the orders that were read, with as much of the memory and of the output as the head asks for, and tells how they were answered.
 fn serve_and_tell(
     streams: Streams,
-    orders: [Order; 256],
-    n: usize,
+    orders: &mut [Order],
     head: Head,
     mem: &mut [u64],
     out: &mut [u64],
     page: &mut [u8],
 )
-    requires { (n ≤ 256) × (17 * length out.old + 256 ≤ length page.old) }
+    requires { (length orders.old ≤ 256) × (17 * length out.old + 256 ≤ length page.old) }
 {
     let m = (head.mem as usize).min(mem.len());
     let o = (head.out as usize).min(out.len());
-    let form = head.form;
-    let served = serve_first(orders, n, &mut mem[..m], &mut out[..o]);
-    tell_night(streams, served, n, form, &out[..o], page);
+    // Never refused: no more orders are taken than a night may have.
+    let _ = orders::night(orders, &mut mem[..m], &mut out[..o]);
+    tell_night(streams, orders, head.form, &out[..o], page);
 }
 
 // Says on standard error that there are too many orders.
@@ -228,7 +139,7 @@ fn say_wrong(streams: Streams, number: u64, fault: Fault, page: &mut [u8])
 }
 
 // A place for an order.
-fn blank() -> Order {
+fn no_order() -> Order {
     Order {
         number: 0,
         count: 0,
@@ -255,32 +166,28 @@ fn run(streams: Streams, buf: &mut [u8], mem: &mut [u64], out: &mut [u64], page:
     requires { 17 * length out.old + 256 ≤ length page.old }
 {
     let mut head = Head {
-        out: 65536,
+        out: 65_536,
         mem: MEMORY_WORDS as u64,
         form: Form::Digits,
     };
-    let mut orders = [blank(); 256];
+    // An array with a number of orders beside it: no memory is asked for.
+    let mut orders = [no_order(); NIGHT_MOST];
     let mut n: usize = 0;
     let mut first = true;
-    let mut next = 0;
-    let mut filled = 0;
-    let mut number: u64 = 0;
-    while number < u64::MAX {
-        let f = input::next_line(streams, buf, next, filled);
-        let found = f.found;
-        if is_end(found) {
-            serve_and_tell(streams, orders, n, head, mem, out, page);
+    let mut unread = Span::NONE;
+    for before in 0..u64::MAX {
+        let feed = input::next_line(streams, buf, unread);
+        if let Found::End = feed.found {
+            serve_and_tell(streams, &mut orders[..n], head, mem, out, page);
             return;
         }
-        number += 1;
-        let heard = hear(f, first, buf);
-        match heard {
-            Heard::Silent => {}
-            Heard::Begin(h) => {
+        match hear(feed.found, first, buf) {
+            Ok(Heard::Silent) => {}
+            Ok(Heard::Begin(h)) => {
                 head = h;
                 first = false;
             }
-            Heard::Take(o) => {
+            Ok(Heard::Take(o)) => {
                 if n == NIGHT_MOST {
                     say_too_many(streams, page);
                     return;
@@ -289,21 +196,21 @@ fn run(streams: Streams, buf: &mut [u8], mem: &mut [u64], out: &mut [u64], page:
                 n += 1;
                 first = false;
             }
-            Heard::Wrong(fault) => {
-                say_wrong(streams, number, fault, page);
+            Err(fault) => {
+                say_wrong(streams, before + 1, fault, page);
                 return;
             }
         }
-        next = f.next;
-        filled = f.filled;
+        unread = feed.unread;
     }
 }
 
 fn main(rt: HostRuntime) {
-    let mut buf = input::buffer();
-    let mut mem = memory();
-    let mut out = places();
-    let mut page = blank_page();
+    let mut buf: [u8; input::ROOM] = blank::filled(0);
+    let mut mem: [u64; 8192] = blank::filled(0);
+    let mut out: [u64; 65_536] = blank::filled(0);
+    // Room for the longest line, 65,536 ids of 17 bytes each and what stands before and after them.
+    let mut page: [u8; 1_114_368] = blank::filled(0);
     run(
         input::standard_streams(rt),
         &mut buf,

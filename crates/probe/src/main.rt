@@ -6,11 +6,11 @@ ghost use Rattle.std.specs.Prelude.{◌≡◌, true, ◌<◌, ◌≤◌, length}
 ghost use Rattle.cellid.specs.CellId as CellId;
 ghost use Rattle.region.specs.Region.{area_of, in_domain};
 ghost use Rattle.fast.specs.Memory.{NumbersFit, Cells};
-ghost use Rattle.input.specs.Feed.{Ready};
+ghost use Rattle.input.specs.Feed.{LineWithin};
 
 use cell::{Cap, Cell};
 use hilbert::FaceIj;
-use input::{Feed, Found, Streams};
+use input::{Found, Span, Streams};
 use point::Point;
 use region::Region;
 use run::{MEMORY_WORDS, RegionCoverer};
@@ -272,21 +272,6 @@ fn read_coverer(k: u64, line: &[u8], at: usize) -> Result<Read<RegionCoverer>, F
 
 // ---- questions about a region
 
-// Words for a list of a question.
-fn words() -> [u64; 4096] {
-    [0; 4096]
-}
-
-// Words of working memory.
-fn memory() -> [u64; 5120] {
-    [0; 5120]
-}
-
-// Words for a region's list: more than the longest line can fill.
-fn list_words() -> [u64; 16384] {
-    [0; 16384]
-}
-
 // The id of a cell, that of a face where the question has none.
 fn read_cell(k: u64, line: &[u8], at: usize) -> Result<Read<u64>, Fault> {
     if k < 18 {
@@ -301,7 +286,7 @@ fn read_cell(k: u64, line: &[u8], at: usize) -> Result<Read<u64>, Fault> {
 fn put_bound(g: Region<'_>, page: &mut Page) -> usize
     requires { in_domain (area_of g) ≡ true }
 {
-    let mut mem = memory();
+    let mut mem: [u64; MEMORY_WORDS] = blank::filled(0);
     let count = g.cell_union_bound(&mut mem);
     put_list(page, &mem, count)
 }
@@ -309,7 +294,7 @@ fn put_bound(g: Region<'_>, page: &mut Page) -> usize
 fn put_starts(c: RegionCoverer, g: Region<'_>, page: &mut Page) -> usize
     requires { NumbersFit c × (in_domain (area_of g) ≡ true) }
 {
-    let mut mem = memory();
+    let mut mem: [u64; MEMORY_WORDS] = blank::filled(0);
     let s = fast::starts(c, g, &mut mem);
     let ids = s.ids;
     put_list(page, &ids, s.count)
@@ -385,7 +370,8 @@ fn answer_region(k: u64, c: RegionCoverer, g: Region<'_>, last: u64, page: &mut 
 
 fn ask_region(k: u64, line: &[u8], at: usize, page: &mut Page) -> Result<usize, Fault> {
     let c = read_coverer(k, line, at)?;
-    let mut list = list_words();
+    // More words than the longest line can fill.
+    let mut list: [u64; 16_384] = blank::filled(0);
     let g = requests::read_region(line, c.after, &mut list)?;
     let id = read_cell(k, line, g.after)?;
     text::read_end(line, id.after)?;
@@ -447,7 +433,7 @@ fn put_laid(page: &mut Page, laid: Option<usize>, out: &[u64; 65536]) -> usize {
 fn put_covering(k: u64, c: RegionCoverer, ids: &mut [u64; 4096], n: usize, page: &mut Page) -> usize
     requires { NumbersFit c × Cells n ids.old }
 {
-    let mut out = places();
+    let mut out: [u64; 65_536] = blank::filled(0);
     let laid = lay(k, c, ids, n, &mut out);
     put_laid(page, laid, &out)
 }
@@ -482,13 +468,9 @@ fn answer_list(
     }
 }
 
-fn places() -> [u64; 65536] {
-    [0; 65536]
-}
-
 fn ask_list(k: u64, line: &[u8], at: usize, page: &mut Page) -> Result<usize, Fault> {
     let c = read_coverer(k, line, at)?;
-    let mut ids = words();
+    let mut ids: [u64; 4096] = blank::filled(0);
     let list = text::read_list(line, c.after, &mut ids)?;
     text::read_end(line, list.after)?;
     Ok(answer_list(k, c.value, &mut ids, list.value as usize, page))
@@ -522,16 +504,11 @@ fn answer_line(line: &[u8], number: u64, page: &mut Page) -> usize {
     }
 }
 
-fn answer(f: Feed, number: u64, answered: u64, buf: &[u8], page: &mut Page) -> usize
-    requires { Ready (length buf.now) f }
+fn answer(found: Found, number: u64, answered: u64, buf: &[u8], page: &mut Page) -> usize
+    requires { LineWithin (length buf.now) found }
 {
-    let found = f.found;
     match found {
-        Found::Line => {
-            let start = f.start;
-            let end = f.end;
-            answer_line(&buf[start..end], number, page)
-        }
+        Found::Line(line) => answer_line(line.of(buf), number, page),
         Found::TooLong => replies::put_error(page, number, Fault::LineTooLong),
         Found::Failed => replies::put_error(page, number, Fault::ReadFailed),
         Found::End => replies::put_end(page, answered),
@@ -540,40 +517,28 @@ fn answer(f: Feed, number: u64, answered: u64, buf: &[u8], page: &mut Page) -> u
 
 // Tells the answer, the first n bytes of the page, and whether there is more to read.
 fn tell(streams: Streams, found: Found, page: &[u8], n: usize) -> bool {
-    if n <= page.len() {
-        return input::tell(streams, found, &page[..n]);
-    }
-    false
+    n <= page.len() && input::tell(streams, found, &page[..n])
 }
 
 // Line after line, numbered from 1 on, until the input ends or fails, or the output can't be written.
 fn run(streams: Streams, buf: &mut [u8], page: &mut Page) {
-    let mut next = 0;
-    let mut filled = 0;
-    let mut number: u64 = 0;
+    let mut unread = Span::NONE;
     let mut answered: u64 = 0;
-    while number < u64::MAX {
-        let f = input::next_line(streams, buf, next, filled);
-        number += 1;
-        let n = answer(f, number, answered, buf, page);
-        let found = f.found;
-        if !tell(streams, found, page, n) {
+    for before in 0..u64::MAX {
+        let feed = input::next_line(streams, buf, unread);
+        let n = answer(feed.found, before + 1, answered, buf, page);
+        if !tell(streams, feed.found, page, n) {
             return;
         }
         if 0 < n {
             answered += 1;
         }
-        next = f.next;
-        filled = f.filled;
+        unread = feed.unread;
     }
 }
 
-fn blank_page() -> Page {
-    [0; 1114368]
-}
-
 fn main(rt: HostRuntime) {
-    let mut buf = input::buffer();
-    let mut page = blank_page();
+    let mut buf: [u8; input::ROOM] = blank::filled(0);
+    let mut page: Page = blank::filled(0);
     run(input::standard_streams(rt), &mut buf, &mut page);
 }

@@ -4,15 +4,5 @@
 use tokens::Form;
 
 fn main(rt: HostRuntime) {
-    let mut buf = filter::buffer();
-    let mut ids = filter::places();
-    let mut page = filter::page();
-    filter::run(
-        input::standard_streams(rt),
-        Form::Token,
-        Form::Digits,
-        &mut buf,
-        &mut ids,
-        &mut page,
-    );
+    filter::run(input::standard_streams(rt), Form::Token, Form::Digits);
 }

@@ -6,11 +6,13 @@
 #![tactic(auto)]
 
 ghost use Rattle.std.specs.Prelude.{◌+◌, ◌*◌, ◌≤◌, length};
-ghost use Rattle.input.specs.Feed.{Ready};
+ghost use Rattle.input.specs.Feed.{LineWithin};
 
+use coverer::Seen;
 use covering::Kind;
-use input::{Feed, Found, Streams};
+use input::{Found, Span, Streams};
 use queue::Engine;
+use refusal::Refusal;
 use region::Region;
 use requests::Asked;
 use run::RegionCoverer;
@@ -32,84 +34,82 @@ struct Ahead {
     from: u64,
 }
 
-// What a step leaves to do: nothing, with whether all is written, or a step more.
+// Why nothing more is read: the output can't be written, or the input has ended or failed.
 #[derive(Clone, Copy)]
-enum Shown {
-    Ended(bool),
-    Next(Ahead),
-}
+struct Stop;
 
-// What was written to a line: nothing, all, or not all.
+// A run that is followed: of a covering from outside or from inside.
 #[derive(Clone, Copy)]
-enum Told {
-    Nothing,
-    Whole,
-    Cut,
+struct Followed<'a> {
+    inner: bool,
+    coverer: RegionCoverer,
+    region: Region<'a>,
 }
 
 // ---- lines
 
-// Writes the first n bytes of the page, said of what was found, and tells whether there is more to read.
-fn tell(streams: Streams, found: Found, page: &[u8], n: usize) -> bool {
-    if n <= page.len() {
-        return input::tell(streams, found, &page[..n]);
+// Writes the first n bytes of the page.
+fn say(streams: Streams, page: &Page, n: usize) -> Result<(), Stop> {
+    if n <= page.len() && input::write(streams, &page[..n]) {
+        Ok(())
+    } else {
+        Err(Stop)
     }
-    false
 }
 
-fn say_error(streams: Streams, number: u64, f: Fault, page: &mut Page) -> bool {
+fn say_error(streams: Streams, number: u64, f: Fault, page: &mut Page) -> Result<(), Stop> {
     let n = replies::put_error(page, number, f);
-    tell(streams, Found::Line, page, n)
+    say(streams, page, n)
 }
 
-fn say_refused(streams: Streams, number: u64, page: &mut Page) -> bool {
+fn say_refused(streams: Streams, number: u64, page: &mut Page) -> Result<(), Stop> {
     let n = replies::put_refused(page, number);
-    tell(streams, Found::Line, page, n)
+    say(streams, page, n)
+}
+
+// Writes the first n bytes of the page, the last that is said.
+fn say_last(streams: Streams, found: Found, page: &Page, n: usize) -> Result<bool, Stop> {
+    if n <= page.len() {
+        input::tell(streams, found, &page[..n]);
+    }
+    Err(Stop)
 }
 
 // `done STEPS ASIDE0 .. ASIDE5 KEPT`.
-fn say_done(streams: Streams, steps: u32, aside: Totals, kept: usize, page: &mut Page) -> bool {
-    let a = replies::put_number(page, 0, b"done ", steps as u64);
-    let b = replies::put_totals(page, a, aside);
-    let c = replies::put_number(page, b, b" ", kept as u64);
+fn say_done(streams: Streams, seen: Seen, page: &mut Page) -> Result<(), Stop> {
+    let a = replies::put_number(page, 0, b"done ", u64::from(seen.steps));
+    let b = replies::put_totals(page, a, seen.aside);
+    let c = replies::put_number(page, b, b" ", seen.kept as u64);
     let n = replies::put(page, c, b"\n");
-    tell(streams, Found::Line, page, n)
+    say(streams, page, n)
 }
 
 // `step K TAKEN COST FROM KEPT QUEUED ASIDE0 .. ASIDE5`.
-fn put_head(
-    page: &mut Page,
-    k: u32,
-    taken: Ahead,
-    kept: usize,
-    queued: usize,
-    aside: Totals,
-) -> usize {
-    let a = replies::put_number(page, 0, b"step ", k as u64);
+fn put_head(page: &mut Page, k: u32, taken: Ahead, seen: Seen) -> usize {
+    let a = replies::put_number(page, 0, b"step ", u64::from(k));
     let b = replies::put(page, a, b" ");
     let c = replies::put_name(page, b, Form::Digits, taken.id);
     let d = replies::put_number(page, c, b" ", taken.cost);
     let e = replies::put_number(page, d, b" ", taken.from);
-    let f = replies::put_number(page, e, b" ", kept as u64);
-    let g = replies::put_number(page, f, b" ", queued as u64);
-    replies::put_totals(page, g, aside)
+    let f = replies::put_number(page, e, b" ", seen.kept as u64);
+    let g = replies::put_number(page, f, b" ", seen.queued as u64);
+    replies::put_totals(page, g, seen.aside)
 }
 
 // The i-th word of a list of queued cells: an id, its cost, or its start cell's place.
 fn put_word(page: &mut Page, at: usize, i: usize, x: u64) -> usize {
     let n = replies::put(page, at, b" ");
     if i % 3 == 0 {
-        return replies::put_name(page, n, Form::Digits, x);
+        replies::put_name(page, n, Form::Digits, x)
+    } else {
+        replies::put_decimal(page, n, x)
     }
-    replies::put_decimal(page, n, x)
 }
 
 fn put_queued(page: &mut Page, at: usize, queued: &[u64]) -> usize {
     let mut n = at;
-    let mut i = 0;
-    while i < queued.len() {
-        n = put_word(page, n, i, queued[i]);
-        i += 1;
+    for (i, x) in queued.iter().enumerate() {
+        n = put_word(page, n, i, *x);
     }
     n
 }
@@ -118,143 +118,122 @@ fn say_step(
     streams: Streams,
     k: u32,
     taken: Ahead,
-    kept: usize,
-    queued: usize,
-    aside: Totals,
+    seen: Seen,
     out: &[u64],
     page: &mut Page,
-) -> bool
-    requires { kept + 3 * queued ≤ length out.now }
+) -> Result<(), Stop>
+    requires { seen.kept + 3 * seen.queued ≤ length out.now }
 {
-    let end = kept + 3 * queued;
-    let a = put_head(page, k, taken, kept, queued, aside);
-    let b = replies::put_ids(page, a, Form::Digits, &out[..kept]);
-    let c = put_queued(page, b, &out[kept..end]);
+    let end = seen.kept + 3 * seen.queued;
+    let a = put_head(page, k, taken, seen);
+    let b = replies::put_ids(page, a, Form::Digits, &out[..seen.kept]);
+    let c = put_queued(page, b, &out[seen.kept..end]);
     let n = replies::put(page, c, b"\n");
-    tell(streams, Found::Line, page, n)
+    say(streams, page, n)
 }
 
 // ---- a run
 
-// Writes what stands after k steps, and the run's end where nothing is queued.
+// Writes what stands after k steps, and the run's end where nothing is queued; else the next cell goes first.
 fn show(
     streams: Streams,
     k: u32,
     taken: Ahead,
-    kept: usize,
-    queued: usize,
-    steps: u32,
-    aside: Totals,
+    seen: Seen,
     out: &[u64],
     page: &mut Page,
-) -> Shown
-    requires { kept + 3 * queued ≤ length out.now }
+) -> Result<Option<Ahead>, Stop>
+    requires { seen.kept + 3 * seen.queued ≤ length out.now }
 {
-    if say_step(streams, k, taken, kept, queued, aside, out, page) {
-        if 0 < queued {
-            let id = out[kept];
-            let cost = out[kept + 1];
-            let from = out[kept + 2];
-            return Shown::Next(Ahead { id, cost, from });
-        }
-        return Shown::Ended(say_done(streams, steps, aside, kept, page));
+    say_step(streams, k, taken, seen, out, page)?;
+    if seen.queued == 0 {
+        say_done(streams, seen, page)?;
+        return Ok(None);
     }
-    Shown::Ended(false)
+    let id = out[seen.kept];
+    let cost = out[seen.kept + 1];
+    let from = out[seen.kept + 2];
+    Ok(Some(Ahead { id, cost, from }))
 }
 
 // The run after k steps.
 fn watch_step(
     streams: Streams,
-    inner: bool,
-    c: RegionCoverer,
-    g: Region<'_>,
+    run: Followed<'_>,
     k: u32,
     taken: Ahead,
     mem: &mut [u64],
     out: &mut Places,
     page: &mut Page,
-) -> Shown {
-    match covering::watch(Engine::Plain, inner, c, g, k, mem, out) {
-        Err(n) => Shown::Ended(say_refused(streams, n, page)),
-        Ok(seen) => show(streams, k, taken, seen.kept, seen.queued, seen.steps, seen.aside, out, page),
+) -> Result<Option<Ahead>, Stop> {
+    match covering::watch(
+        Engine::Plain,
+        run.inner,
+        run.coverer,
+        run.region,
+        k,
+        mem,
+        out,
+    ) {
+        Ok(seen) => show(streams, k, taken, seen, out, page),
+        Err(n) => {
+            say_refused(streams, n, page)?;
+            Ok(None)
+        }
     }
 }
 
-// The steps that are allowed, from the start cells on; where more would follow, the run is refused with 9. Tells whether all is written.
+// The steps that are allowed, from the start cells on; where more would follow, the run is refused.
 fn follow(
     streams: Streams,
-    inner: bool,
-    c: RegionCoverer,
-    g: Region<'_>,
+    run: Followed<'_>,
     allowance: u32,
     mem: &mut [u64],
     out: &mut Places,
     page: &mut Page,
-) -> bool {
+) -> Result<(), Stop> {
     let mut taken = Ahead {
         id: 0,
         cost: 0,
         from: 0,
     };
-    let mut k: u32 = 0;
-    while k < allowance {
-        let s = watch_step(streams, inner, c, g, k, taken, mem, out, page);
-        match s {
-            Shown::Ended(whole) => {
-                return whole;
-            }
-            Shown::Next(a) => {
-                taken = a;
-                k += 1;
-            }
-        }
+    for k in 0..allowance {
+        let Some(next) = watch_step(streams, run, k, taken, mem, out, page)? else {
+            return Ok(());
+        };
+        taken = next;
     }
-    let last = watch_step(streams, inner, c, g, allowance, taken, mem, out, page);
-    match last {
-        Shown::Ended(whole) => whole,
-        Shown::Next(_) => say_refused(streams, 9, page),
+    match watch_step(streams, run, allowance, taken, mem, out, page)? {
+        None => Ok(()),
+        Some(_) => say_refused(streams, Refusal::Allowance.number(), page),
     }
 }
 
-// A request by its kind; the quick covering takes no steps to follow.
-fn answer_kind(
-    streams: Streams,
-    kind: Kind,
-    c: RegionCoverer,
-    g: Region<'_>,
-    allowance: u32,
-    number: u64,
-    mem: &mut [u64],
-    out: &mut Places,
-    page: &mut Page,
-) -> bool {
-    match kind {
-        Kind::Outer(_) => follow(streams, false, c, g, allowance, mem, out, page),
-        Kind::Inner(_) => follow(streams, true, c, g, allowance, mem, out, page),
-        Kind::Fast => say_error(streams, number, Fault::OutsideDomain, page),
-    }
-}
-
-// A request with as much of the memory as it asks for.
+// A request with as much of the memory as it asks for; the quick covering takes no steps to follow.
 fn answer_asked(
     streams: Streams,
     q: Asked,
-    g: Region<'_>,
+    region: Region<'_>,
     number: u64,
     mem: &mut [u64],
     out: &mut Places,
     page: &mut Page,
-) -> bool {
-    let kind = q.kind;
-    let c = q.coverer;
+) -> Result<(), Stop> {
+    let inner = match q.kind {
+        Kind::Outer(_) => false,
+        Kind::Inner(_) => true,
+        Kind::Fast => return say_error(streams, number, Fault::OutsideDomain, page),
+    };
     let m = (q.mem as usize).min(mem.len());
-    answer_kind(
+    let run = Followed {
+        inner,
+        coverer: q.coverer,
+        region,
+    };
+    follow(
         streams,
-        kind,
-        c,
-        g,
+        run,
         requests::allowance_of(q.allowance),
-        number,
         &mut mem[..m],
         out,
         page,
@@ -263,13 +242,7 @@ fn answer_asked(
 
 // ---- line after line
 
-fn said(whole: bool) -> Told {
-    if whole {
-        return Told::Whole;
-    }
-    Told::Cut
-}
-
+// Answers a line, and tells whether it asks anything.
 fn answer_line(
     streams: Streams,
     line: &[u8],
@@ -278,22 +251,23 @@ fn answer_line(
     mem: &mut [u64],
     out: &mut Places,
     page: &mut Page,
-) -> Told {
+) -> Result<bool, Stop> {
     if text::is_silent(line) {
-        return Told::Nothing;
+        return Ok(false);
     }
     match requests::read_asked(line, words) {
         Ok(q) => {
-            let g = q.shape.region(words);
-            said(answer_asked(streams, q, g, number, mem, out, page))
+            let region = q.shape.region(words);
+            answer_asked(streams, q, region, number, mem, out, page)?;
         }
-        Err(fault) => said(say_error(streams, number, fault, page)),
+        Err(fault) => say_error(streams, number, fault, page)?,
     }
+    Ok(true)
 }
 
 fn answer(
     streams: Streams,
-    f: Feed,
+    found: Found,
     number: u64,
     answered: u64,
     buf: &[u8],
@@ -301,24 +275,22 @@ fn answer(
     mem: &mut [u64],
     out: &mut Places,
     page: &mut Page,
-) -> Told
-    requires { Ready (length buf.now) f }
+) -> Result<bool, Stop>
+    requires { LineWithin (length buf.now) found }
 {
-    let found = f.found;
     match found {
-        Found::Line => {
-            let start = f.start;
-            let end = f.end;
-            answer_line(streams, &buf[start..end], number, words, mem, out, page)
+        Found::Line(line) => answer_line(streams, line.of(buf), number, words, mem, out, page),
+        Found::TooLong => {
+            say_error(streams, number, Fault::LineTooLong, page)?;
+            Ok(true)
         }
-        Found::TooLong => said(say_error(streams, number, Fault::LineTooLong, page)),
         Found::Failed => {
             let n = replies::put_error(page, number, Fault::ReadFailed);
-            said(tell(streams, found, page, n))
+            say_last(streams, found, page, n)
         }
         Found::End => {
             let n = replies::put_end(page, answered);
-            said(tell(streams, found, page, n))
+            say_last(streams, found, page, n)
         }
     }
 }
@@ -332,51 +304,36 @@ fn run(
     out: &mut Places,
     page: &mut Page,
 ) {
-    let mut next = 0;
-    let mut filled = 0;
-    let mut number: u64 = 0;
+    let mut unread = Span::NONE;
     let mut answered: u64 = 0;
-    while number < u64::MAX {
-        let f = input::next_line(streams, buf, next, filled);
-        number += 1;
-        let t = answer(streams, f, number, answered, buf, words, mem, out, page);
-        next = f.next;
-        filled = f.filled;
-        match t {
-            Told::Nothing => {}
-            Told::Whole => {
-                answered += 1;
-            }
-            Told::Cut => {
-                return;
-            }
+    for before in 0..u64::MAX {
+        let feed = input::next_line(streams, buf, unread);
+        match answer(
+            streams,
+            feed.found,
+            before + 1,
+            answered,
+            buf,
+            words,
+            mem,
+            out,
+            page,
+        ) {
+            Ok(true) => answered += 1,
+            Ok(false) => {}
+            Err(Stop) => return,
         }
+        unread = feed.unread;
     }
 }
 
-// Words for a region's list: more than the longest line can fill.
-fn list_words() -> [u64; 16384] {
-    [0; 16384]
-}
-
-fn memory() -> [u64; 5120] {
-    [0; 5120]
-}
-
-fn places() -> Places {
-    [0; 4096]
-}
-
-fn blank_page() -> Page {
-    [0; 65536]
-}
-
 fn main(rt: HostRuntime) {
-    let mut buf = input::buffer();
-    let mut words = list_words();
-    let mut mem = memory();
-    let mut out = places();
-    let mut page = blank_page();
+    let mut buf: [u8; input::ROOM] = blank::filled(0);
+    // Words for a region's list: more than the longest line can fill.
+    let mut words: [u64; 16_384] = blank::filled(0);
+    let mut mem: [u64; 5120] = blank::filled(0);
+    let mut out: Places = blank::filled(0);
+    let mut page: Page = blank::filled(0);
     run(
         input::standard_streams(rt),
         &mut buf,

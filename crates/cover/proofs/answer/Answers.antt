@@ -4,7 +4,7 @@ use Rattle.cover.proofs.answer.Goals as goal
 
 pub returns-in-Line : goal.returns-in-Line
 returns-in-Line c =
-    told_line _ _ _ _ _ _ _ _ _ _ _ _ _ c.in-Line.is c.answer.ensures
+    told_line _ _ _ _ _ _ _ _ _ _ _ _ _ _ c.in-Line.is (rw c.of.ensures at c.answer.ensures)
 
 pub returns-in-TooLong : goal.returns-in-TooLong
 returns-in-TooLong c =

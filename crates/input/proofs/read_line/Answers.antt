@@ -1,26 +1,18 @@
--- `input::read_line`: the output failed, or the next line is looked for, and then nothing waits where something has to be read.
-use mathlib.Core.Bool.{true≢false}
-use native.Mathlib.Omega.{arith}
-use Rattle.input.proofs.Feeding.{left_room, left_none}
+-- `input::read_line`: what waits goes on waiting, or was written.
+use mathlib.Core.Path.{◌≡◌, sym, ◌∙◌}
+use Rattle.input.specs.Feed.{line_end, left_waiting}
+use Rattle.input.proofs.Feeding.{left_room, left_kept, left_over, left_none}
 use Rattle.input.proofs.read_line.Goals as goal
+use Rattle.input.proofs.read_line.Goals.{then-is_some+then-longest-page, else-is_some+else-not-write, else-is_some-via-then-is_some+else-longest-page, else-is_some-via-else-is_some}
 
-pub returns-then-p : goal.returns-then-p
-returns-then-p c =
+pub returns-clause-waiting_value : goal.returns-clause-waiting_value
+returns-clause-waiting_value c =
     let z = c.requires in
-    record {
-      ready = (rw c.failure-feed.ensures (omega arith), λ y. absurd (true≢false y));
-      waiting_value = (rw (← c.line_end-end.ensures.0) c.make_room-p.ensures, left_room _ _ _ _ _ _ c.make_room-p.ensures z.2 z.3);
-    }
-
-pub line_from-feed-requires : goal.line_from-feed-requires
-line_from-feed-requires c =
-    let z = c.requires in
-    (z.0, z.1, c.line_end-end.ensures.0, c.line_end-end.ensures.2, left_none _ _ _ _ _ _ c.make_room-p.ensures)
-
-pub returns : goal.returns
-returns c =
-    let z = c.requires in
-    record {
-      ready = (c.line_from-feed.ensures.0, λ y. c.line_from-feed.ensures.1);
-      waiting_value = (rw (← c.line_end-end.ensures.0) c.make_room-p.ensures, left_room _ _ _ _ _ _ c.make_room-p.ensures z.2 z.3);
-    }
+    let left : c.if-is_some.left ≡ left_waiting _ c.args.waiting c.args.longest (line_end c.args.unread.start c.args.unread.end c.args.buf.now) c.args.unread.end = elim c.if-is_some.branch [
+      | then-is_some+then-longest-page w ↦ w.left-is ∙ left_kept _ _ _ _ _ _ z.0.order _ c.newline-end.ensures (sym c.is_some.ensures ∙ w.if-is_some.true) w.if-longest-page.true
+      | else-is_some+else-not-write w ↦ w.left-is ∙ elim w.else-is_some.branch [
+        | else-is_some-via-then-is_some+else-longest-page w' ↦ left_over _ _ _ _ _ _ z.0.order w'.if-longest-page.false
+        | else-is_some-via-else-is_some w' ↦ left_none _ _ _ _ _ _ z.0.order z.0.inside _ c.newline-end.ensures (sym c.is_some.ensures ∙ w'.if-is_some.false)
+      ]
+    ] in
+    (left, left_room _ _ _ _ _ _ left z.1 z.2)

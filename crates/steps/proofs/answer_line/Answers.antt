@@ -2,5 +2,5 @@
 use Rattle.requests.proofs.Laws.{ids_fit}
 use Rattle.steps.proofs.answer_line.Goals as goal
 
-pub region-g-requires : goal.region-g-requires
-region-g-requires c = ids_fit _ _ _ _ c.in-Ok.ensures
+pub region-region-requires : goal.region-region-requires
+region-region-requires c = ids_fit _ _ _ _ c.in-Ok.ensures
