@@ -44,16 +44,21 @@ pub struct Read<T> {
 
 // ---- numbers
 
-// The value of a digit, 0 to 15; 16 for any other byte. A byte before `0` or `a` wraps to a large number, so one test tells each run of digits.
+// The value of a digit, 0 to 15; 16 for any other byte. A byte before `0` or `a` wraps to a large number, so one test tells each run of digits: reading ids by a match on
+// ranges of bytes, or to an Option, takes longer.
 #[tactic(auto, unfolding(crate::specs::Text::digit_of))]
 fn digit(b: u8) -> u64
     ensures { result ≡ digit_of b }
 {
-    match b {
-        b'0'..=b'9' => (b - b'0') as u64,
-        b'a'..=b'f' => (b - b'a') as u64 + 10,
-        _ => 16,
+    let n = (b as u64).wrapping_sub(48);
+    if n < 10 {
+        return n;
     }
+    let m = n.wrapping_sub(49);
+    if m < 6 {
+        return m + 10;
+    }
+    16
 }
 
 // Whether every byte is a digit of the base.
