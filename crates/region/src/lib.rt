@@ -51,6 +51,7 @@ fn lay_cap_bound(c: Cap, mem: &mut [u64]) -> usize
     lay_ids(&b.ids[..b.count], mem)
 }
 
+// Each method is a match of the three kinds, as the Rust's trait has three implementations, and asks that the region lies in the domain, which no constructor says.
 impl Region<'_> {
     // Whether the region is one that a request may have: what refusal 5 asks.
     pub fn in_domain(self) -> bool

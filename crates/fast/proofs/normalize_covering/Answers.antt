@@ -9,7 +9,7 @@ use Rattle.fast.proofs.Turns.{covering_asks, covering_fast}
 use Rattle.fast.proofs.normalize_covering.Goals as goal
 
 pub merge_covering-k-requires : goal.merge_covering-k-requires
-merge_covering-k-requires c = c.requires
+merge_covering-k-requires c = c.requires.1
 
 pub slice_bounds-denormalize-end : goal.slice_bounds-denormalize-end
 slice_bounds-denormalize-end c = (covering_asks _ _ _ _ _ _ c.requires.1.0 c.requires.1.1 c.requires.0.ordered _ _ c.merge_covering-k.ensures.0 c.merge_covering-k.ensures.1).0

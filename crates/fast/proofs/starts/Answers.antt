@@ -7,7 +7,7 @@ use Rattle.fast.proofs.starts.Goals as goal
 
 pub start_cells-count-requires : goal.start_cells-count-requires
 start_cells-count-requires c =
-    (c.requires.0, bounded_cells c.args.c _ _ _ _ (bounded _ _ _ _ c.requires.1 c.requires.2 c.cell_union_bound-n.ensures) (bound_cells _ c.requires.1))
+    (bounded_cells c.args.c _ _ _ _ (bounded _ _ _ _ c.requires.1 c.requires.2 c.cell_union_bound-n.ensures) (bound_cells _ c.requires.1))
 
 pub copy-requires : goal.copy-requires
 unfolding zeros

@@ -7,7 +7,7 @@ use Rattle.fast.specs.Fast.{adjusted}
 use Rattle.fast.proofs.Levels.{adjusted_le}
 use Rattle.fast.proofs.StartLaws.{raised}
 use Rattle.fast.proofs.StartTurns.{adjusting_start, adjusting_asks, adjusting_turn, adjusting_done}
-use Rattle.fast.proofs.adjust_cell_levels.Goals as goal
+use Rattle.fast.proofs.numbers.Numbers.adjust_cell_levels.Goals as goal
 
 to_small : (low step id level to : ℕ) → level ≡ level_of id → to ≡ adjusted low step level → to ≤ 30
 to_small low step id level to e f = omega (arith, f, adjusted_le low step level, e, level_le id)
@@ -16,10 +16,7 @@ up_is : (low step id level to up : ℕ) → level ≡ level_of id → to ≡ adj
 up_is low step id level to up e f g = g ∙ ap (parent_at id) (f ∙ ap (adjusted low step) e)
 
 pub loop-i-init : goal.loop-i-init
-loop-i-init c = adjusting_start _ _ _ _ c.requires.1.0 c.requires.1.1
-
-pub adjust_level-requires : goal.adjust_level-requires
-adjust_level-requires c = c.requires.0
+loop-i-init c = adjusting_start _ _ _ _ c.requires.0 c.requires.1
 
 pub parent-up-requires : goal.parent-up-requires
 parent-up-requires c = to_small _ _ _ _ _ c.level.ensures c.adjust_level.ensures

@@ -8,7 +8,7 @@ use Rattle.fast.specs.Fast.{adjusted, lifted}
 use Rattle.fast.proofs.Levels.{adjusted_le}
 use Rattle.fast.proofs.Laws.{lifted_all}
 use Rattle.fast.proofs.Turns.{lift_none, lift_turn, lift_done}
-use Rattle.fast.proofs.lift.Goals as goal
+use Rattle.fast.proofs.numbers.Numbers.lift.Goals as goal
 
 up_is : (low top step id level least up r : ℕ) → level ≡ level_of id → least ≡ min level top → up ≡ adjusted low step least → r ≡ parent_at id up → r ≡ lifted low top step id
 unfolding lifted
@@ -16,15 +16,12 @@ up_is low top step id level least up r e f g h = h ∙ ap (parent_at id) (g ∙ 
 
 pub returns-then-takes_all_levels : goal.returns-then-takes_all_levels
 returns-then-takes_all_levels c =
-    let k = c.args.c in
-    lift_none (lifted k.min_level k.max_level k.level_mod) c.args.n c.args.mem.now (lifted_all k.min_level k.max_level k.level_mod _ _ c.requires.0.some c.requires.1.1 c.takes_all_levels.ensures c.if-takes_all_levels.true)
-
-pub adjust_level-up-requires : goal.adjust_level-up-requires
-adjust_level-up-requires c = c.requires.0
+    let k = c.args.self.coverer in
+    lift_none (lifted k.min_level k.max_level k.level_mod) c.args.n c.args.mem.now (lifted_all k.min_level k.max_level k.level_mod _ _ c.args.self.fit.some c.requires.1 c.takes_all_levels.ensures c.if-takes_all_levels.true)
 
 pub parent-requires : goal.parent-requires
 parent-requires c =
-    omega (arith, c.requires.0.deep, c.adjust_level-up.ensures, adjusted_le c.args.c.min_level c.args.c.level_mod c.min.result, c.min.ensures)
+    omega (arith, c.args.self.fit.deep, c.adjust_level-up.ensures, adjusted_le c.args.self.coverer.min_level c.args.self.coverer.level_mod c.min.result, c.min.ensures)
 
 pub loop-id-preserved : goal.loop-id-preserved
 loop-id-preserved c =

@@ -6,21 +6,21 @@ use Rattle.fast.specs.Fast.{best_of}
 use Rattle.fast.proofs.Merging.{merged_short, merged_stop}
 use Rattle.fast.proofs.Scan.{scan_start, pair_cells, scan_pass, scan_better, scan_worse, scan_done}
 use Rattle.fast.proofs.Turns.{going_start, going_size, going_done, scanned, turn_place, turn_level, turn_wide, going_turn}
-use Rattle.fast.proofs.merge.Goals.{After-scan, In-merge, then-a-b+then-best-d, then-a-b+else-best-d, else-a-b}
-use Rattle.fast.proofs.merge.Goals as goal
+use Rattle.fast.proofs.numbers.Numbers.merge.Goals.{After-scan, In-merge, then-a-b+then-best-d, then-a-b+else-best-d, else-a-b}
+use Rattle.fast.proofs.numbers.Numbers.merge.Goals as goal
 
 -- the best pair of the whole list
 best : (h : After-scan) →
     let at = h in
     let a = at.args in
-    h.scan.best ≡ best_of a.c.min_level a.c.level_mod (take at.merge.k at.merge.mem) (length (take at.merge.k at.merge.mem) - 1)
+    h.scan.best ≡ best_of a.self.coverer.min_level a.self.coverer.level_mod (take at.merge.k at.merge.mem) (length (take at.merge.k at.merge.mem) - 1)
 best h = let at = h in scanned _ _ _ _ _ _ _ at.merge.invariant _ (scan_done _ _ _ _ _ _ _ h.scan.invariant (omega (arith, h.scan-test.false)))
 
 room : (h : In-merge) → h.merge.k ≤ length h.merge.mem
 room h = let G = h.merge.invariant in omega (arith, G.within, G.len, G.room)
 
 pub merge-init : goal.merge-init
-merge-init c = going_start _ _ _ _ _ c.requires.1 c.requires.2
+merge-init c = going_start _ _ _ _ _ c.requires.0 c.requires.1
 
 pub scan-init : goal.scan-init
 scan-init c = scan_start _ _ _ _
@@ -43,17 +43,17 @@ bounds-mem-i-in-scan c = omega (arith, room (goal.at.bounds-mem-i-in-scan c).In-
 pub depth-d-requires : goal.depth-d-requires
 depth-d-requires c =
     let N = c.merge.invariant.normal in
-    let C = pair_cells c.args.c.min_level c.args.c.level_mod c.requires.0.some _ _ (room (goal.at.depth-d-requires c).In-merge) N.cells N.apart _ _ _ c.scan.invariant (omega (arith, c.scan-test.true)) in
-    (c.requires.0, C.0, C.1)
+    let C = pair_cells c.args.self.coverer.min_level c.args.self.coverer.level_mod c.args.self.fit.some _ _ (room (goal.at.depth-d-requires c).In-merge) N.cells N.apart _ _ _ c.scan.invariant (omega (arith, c.scan-test.true)) in
+    C
 
 pub scan-preserved : goal.scan-preserved
 scan-preserved c =
     let N = c.merge.invariant.normal in
     let R = room (goal.at.scan-preserved c).In-merge in
     elim c.if-a-b.branch [
-      | then-a-b+then-best-d w ↦ rw (w.best-is, w.least-is) (scan_better _ _ c.requires.0.some _ _ R N.cells N.apart _ _ _ c.scan.invariant (omega (arith, c.scan-test.true)) _ w.depth-d.ensures w.if-best-d.true)
-      | then-a-b+else-best-d w ↦ rw (w.best-is, w.least-is) (scan_worse _ _ c.requires.0.some _ _ R N.cells N.apart _ _ _ c.scan.invariant (omega (arith, c.scan-test.true)) _ w.depth-d.ensures w.if-best-d.false)
-      | else-a-b w ↦ rw (w.best-is, w.least-is) (scan_pass _ _ c.requires.0.some _ _ R N.cells N.apart _ _ _ c.scan.invariant (omega (arith, c.scan-test.true)) w.if-a-b.false)
+      | then-a-b+then-best-d w ↦ rw (w.best-is, w.least-is) (scan_better _ _ c.args.self.fit.some _ _ R N.cells N.apart _ _ _ c.scan.invariant (omega (arith, c.scan-test.true)) _ w.depth-d.ensures w.if-best-d.true)
+      | then-a-b+else-best-d w ↦ rw (w.best-is, w.least-is) (scan_worse _ _ c.args.self.fit.some _ _ R N.cells N.apart _ _ _ c.scan.invariant (omega (arith, c.scan-test.true)) _ w.depth-d.ensures w.if-best-d.false)
+      | else-a-b w ↦ rw (w.best-is, w.least-is) (scan_pass _ _ c.args.self.fit.some _ _ R N.cells N.apart _ _ _ c.scan.invariant (omega (arith, c.scan-test.true)) w.if-a-b.false)
     ]
 
 pub offset_bounds-mem-at : goal.offset_bounds-mem-at

@@ -1,9 +1,0 @@
--- `fast::lift` meets its contract. The loop's invariant: the words passed are lifted. Assumes nothing.
-use mathlib.Core.Path.{◌≡◌}
-use mathlib.Core.List.{◌++◌, map}
-use lib.ListN.{take, drop}
-use Rattle.fast.specs.Fast.{lifted}
-use Rattle.fast.proofs.lift.Given as goal
-
-abbrev pub invariant-loop-id : goal.invariant-loop-id
-invariant-loop-id l = l.id-items ≡ map (lifted l.c.min_level l.c.max_level l.c.level_mod) (take l.id-index l.initial.id-items) ++ drop l.id-index l.initial.id-items
