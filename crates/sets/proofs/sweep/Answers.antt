@@ -6,15 +6,6 @@ use Rattle.cellunion.proofs.Lists.{is_list_lem}
 use Rattle.sets.proofs.Turns.{sweep_start, sweep_on, sweep_turn, sweep_done}
 use Rattle.sets.proofs.sweep.Goals as goal
 
-pub wants-want-requires : goal.wants-want-requires
-wants-want-requires c = tt
-
-pub min-q-requires : goal.min-q-requires
-min-q-requires c = tt
-
-pub open_from-s-requires : goal.open_from-s-requires
-open_from-s-requires c = tt
-
 pub cursor_at-first-requires : goal.cursor_at-first-requires
 cursor_at-first-requires c = ((is_list_lem _).0 c.requires.0).0
 
