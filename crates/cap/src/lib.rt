@@ -124,21 +124,20 @@ fn can_reach(cap: Cap) -> bool
 
 // Whether it has one, where it can: the centre lies in the cell, or an edge is crossed. Two divisions; the scales of the cell's lines, where m doesn't tell
 // them, only for the edges.
+#[tactic(auto, unfolding(crate::specs::Cap::touches))]
 fn touches_by(cap: Cap, c: Cell, m: Option<Rect>, vertices: [Point; 4]) -> bool
     requires { (can_reach cap ≡ true) × (c.face < 6) × (vertices ≡ vertices_of c) × IfSome m (λ m. m ≡ cell_scales c) }
     ensures { result ≡ touches cap c }
 {
-    if is_empty(cap) {
-        false
-    } else if c.contains_point(cap.center) {
-        true
-    } else {
-        let scales = match m {
-            Some(m) => m,
-            None => c.scales(),
-        };
-        edges_say(cap.center, point::sin2(cap.radius), c, scales, vertices)
-    }
+    !is_empty(cap)
+        && (c.contains_point(cap.center)
+            || edges_say(
+                cap.center,
+                point::sin2(cap.radius),
+                c,
+                m.unwrap_or_else(move || c.scales()),
+                vertices,
+            ))
 }
 
 // What a cell is to a cap that has all of its corners, or none: crossing where the other side of the rim reaches into it.
