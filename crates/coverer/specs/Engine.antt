@@ -15,8 +15,7 @@ use Rattle.run.specs.Editions.{weight}
 use Rattle.run.specs.Masks.{found, cons_if, children_in}
 use Rattle.run.specs.Ground.{Fit, Queued}
 use Rattle.run.specs.Sixes.{places_most, aside_from}
-use Rattle.region.specs.Region.{area_of}
-use Rattle.candidate.specs.Candidate.{task_of}
+use Rattle.candidate.specs.Asking.{asked}
 use Rattle.records.specs.declared.Rec.{Rec}
 use Rattle.records.specs.Records.{cost_r, from_r, record_of}
 use Rattle.queue.specs.declared.Engine.{Engine}
@@ -24,7 +23,7 @@ use Rattle.queue.specs.Queue.{InQueue}
 use Rattle.coverer.specs.declared.Counts.{Counts}
 use Rattle.coverer.specs.declared.Tally.{Tally}
 use Rattle.coverer.specs.declared.Brood.{Brood}
-use Rattle.coverer.specs.declared.job.Job.{Job}
+use Rattle.coverer.specs.declared.Job.{Job}
 use Rattle.coverer.specs.declared.Ran.{Ran}
 
 -- what a part of the work on the cells of one start cell comes to, and what a part of the run comes to
@@ -115,7 +114,7 @@ counts_at i t = record { kept = t.kept; queued = t.queued; aside = total_at t.as
 
 -- what a job's run is set to
 abbrev pub task : Job → Task
-task j = task_of j.request (area_of j.region)
+task j = asked j.asking
 
 -- what the engine answers of a run that is over
 abbrev pub ran_of : Tally → Ran

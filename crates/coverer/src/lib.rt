@@ -21,10 +21,7 @@ ghost use Rattle.coverer.specs.Coverer.{cleared, course_of, outcome_of, engine_a
 ghost use Rattle.coverer.specs.Watch.{seen_of, seen_over};
 ghost use Rattle.coverer.specs.Engine.{words_at, past, listed, is_in, child_if, children_from, leaves_in, brood_of, aside_of, grown, rec_of, AsideUpTo, Taken, Does, Holds, Comes, task, ran_of, stage_after, hand_on, start_one, Reached, Live};
 
-mod job;
-
 use candidate::{Asking, Candidate};
-use job::Job;
 use queue::Engine;
 use records::Rec;
 use refusal::Refusal;
@@ -48,6 +45,13 @@ struct Tally {
     queued: usize,
     steps: u32,
     aside: Totals,
+}
+
+// What a run works for: what is asked of it, and the engine that keeps the queue.
+#[derive(Clone, Copy)]
+struct Job<'a> {
+    asking: Asking<'a>,
+    engine: Engine,
 }
 
 // The cells under a taken candidate, which grew from the start cell at the place `from`: place j of the sets is the cell base + (2j + 1) unit.
@@ -196,19 +200,15 @@ impl<'a> Job<'a> {
         if terminal {
             return keep(m, t, id);
         }
-        let asking = Asking {
-            request: self.request,
-            region: self.region,
-        };
-        let f = asking.expand(id);
+        let f = self.asking.expand(id);
         if f.present == 0 {
-            return Ok(set_aside(self.request, t, cellid::lsb(id)));
+            return Ok(set_aside(self.asking.request, t, cellid::lsb(id)));
         }
-        let full = full_of(self.request);
-        if decide::lifts(self.request, full, id, f.terminal) {
+        let full = full_of(self.asking.request);
+        if decide::lifts(self.asking.request, full, id, f.terminal) {
             return keep(m, t, id);
         }
-        let weight = decide::weight_of(self.request, full);
+        let weight = decide::weight_of(self.asking.request, full);
         let r = records::record_of(weight, from, id, f.present, f.terminal);
         enqueue(m, t, self.engine, r)
     }
@@ -228,7 +228,7 @@ impl<'a> Job<'a> {
         ensures aside_up_to { AsideUpTo (t.aside + leaves_in (child_if b j)) result }
     {
         if is_in(b.present, j) {
-            if decide::is_full(self.request, t.kept) {
+            if decide::is_full(self.asking.request, t.kept) {
                 Ok(t)
             } else {
                 let ends = is_in(b.terminal, j);
@@ -271,9 +271,9 @@ impl<'a> Job<'a> {
         requires aside_fits { t.aside + leaves_of r.id < 2 ^ 64 }
         ensures { Does self.entry.engine (task self.entry) (from_r r) (hand_on (task self.entry) (grown (from_r r) r.id)) m.old t m.new result }
     {
-        let b = cells_under(r, decide::levels_under(self.request, r.id));
+        let b = cells_under(r, decide::levels_under(self.asking.request, r.id));
         let failed = (b.places - children) * b.unit;
-        self.add_children(m, set_aside(self.request, t, failed), b)
+        self.add_children(m, set_aside(self.asking.request, t, failed), b)
     }
 
     // What is done with a taken record.
@@ -283,11 +283,11 @@ impl<'a> Job<'a> {
         requires aside_fits { t.aside + leaves_of r.id < 2 ^ 64 }
         ensures { Does self.entry.engine (task self.entry) (from_r r) (step_with (in_edition (task self.entry)) (grown (from_r r) r.id)) m.old t m.new result }
     {
-        if decide::is_full(self.request, t.kept) {
+        if decide::is_full(self.asking.request, t.kept) {
             return Ok(Counts { queued: 0, ..t });
         }
         let children = records::count(r.present);
-        if decide::is_handed_on(self.request, t.kept, t.queued, r.id, children) {
+        if decide::is_handed_on(self.asking.request, t.kept, t.queued, r.id, children) {
             self.hand_on(m, t, r, children)
         } else {
             keep(m, t, r.id)
@@ -326,19 +326,15 @@ impl<'a> Job<'a> {
         id: u64,
     ) -> Result<Counts, Refusal>
         requires from_lt_places_most { from < places_most }
-        requires fit { Fit self.request id }
+        requires fit { Fit self.asking.request id }
         requires aside_fits { t.aside + leaves_of id < 2 ^ 64 }
         ensures { Does self.entry.engine (task self.entry) from (start_one (task self.entry) (grown from id)) m.old t m.new result }
     {
-        let asking = Asking {
-            request: self.request,
-            region: self.region,
-        };
-        let c = asking.new_candidate(id);
+        let c = self.asking.new_candidate(id);
         match c {
             Some(Candidate::Kept) => self.add_candidate(m, t, from, id, true),
             Some(Candidate::Queued) => self.add_candidate(m, t, from, id, false),
-            None => Ok(set_aside(self.request, t, cellid::lsb(id))),
+            None => Ok(set_aside(self.asking.request, t, cellid::lsb(id))),
         }
     }
 
@@ -349,7 +345,7 @@ impl<'a> Job<'a> {
         starts: &[u64],
     ) -> Result<Tally, Refusal>
         requires count_bound { length starts.now ≤ 6 }
-        requires all { All (Fit self.request) starts.now }
+        requires all { All (Fit self.asking.request) starts.now }
         ensures { Comes self.entry.engine (task self.entry) (after (in_edition (task self.entry)) starts.now 0) m.old m.new result }
     {
         let mut t = Tally {
@@ -397,7 +393,7 @@ impl<'a> Job<'a> {
         allowance: u32,
     ) -> Result<Tally, Refusal>
         requires count_bound { length starts.now ≤ 6 }
-        requires all { All (Fit self.request) starts.now }
+        requires all { All (Fit self.asking.request) starts.now }
         ensures { Comes self.entry.engine (task self.entry) (after (in_edition (task self.entry)) starts.now allowance) m.old m.new result }
     {
         let t = self.initial_candidates(m, starts)?;
@@ -447,11 +443,11 @@ pub fn run(
     ensures value { result ≡ engine_answer (outcome_of q (area_of g.entry) (take count ids) allowance) }
     ensures mem_after { mem.new ≡ engine_memory (outcome_of q (area_of g.entry) (take count ids) allowance) mem.old }
 {
-    let job = Job {
+    let asking = Asking {
         request: q,
         region: g,
-        engine,
     };
+    let job = Job { asking, engine };
     let Some(m) = mem.first_chunk_mut::<MEMORY_WORDS>() else {
         unreachable!()
     };
@@ -534,11 +530,11 @@ pub fn watch(
     ensures out_after { out.new ≡ seen_over (task_of q (area_of g.entry)) (after (course_of q (area_of g.entry)) (take count ids) steps) out.old }
     ensures mem_after { mem.new ≡ cleared 0 memory_words mem.old }
 {
-    let job = Job {
+    let asking = Asking {
         request: q,
         region: g,
-        engine,
     };
+    let job = Job { asking, engine };
     let Some(m) = mem.first_chunk_mut::<MEMORY_WORDS>() else {
         unreachable!()
     };

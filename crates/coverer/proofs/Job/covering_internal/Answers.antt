@@ -1,7 +1,7 @@
 -- `Job::covering_internal` meets its contract.
 use Rattle.std.proofs.lemmas.Result.{err_from_is_err_and}
 use Rattle.coverer.proofs.Runs.{runs_live, runs_room, runs_refused, runs_on}
-use Rattle.coverer.proofs.job.Job.covering_internal.Goals as goal
+use Rattle.coverer.proofs.Job.covering_internal.Goals as goal
 
 pub proceed-requires : goal.proceed-requires
 proceed-requires c =

@@ -5,7 +5,7 @@ use Rattle.run.proofs.Totals.{leaves_le}
 use lib.ListN.{get_or}
 use mathlib.Core.Path.{refl}
 use native.Mathlib.Omega.{arith}
-use Rattle.coverer.proofs.job.Job.initial_candidates.Goals as goal
+use Rattle.coverer.proofs.Job.initial_candidates.Goals as goal
 
 pub loop-i-init : goal.loop-i-init
 loop-i-init c = starting _ _ _ _

@@ -17,8 +17,8 @@ use Rattle.region.specs.Region.{Area}
 use mathlib.Core.List.{List}
 use mathlib.Core.Path.{◌≡◌, subst}
 use native.Mathlib.Omega.{arith}
-use Rattle.coverer.proofs.job.Job.add_children.Invariants.{Inv}
-use Rattle.coverer.proofs.job.Job.add_children.Goals as goal
+use Rattle.coverer.proofs.Job.add_children.Invariants.{Inv}
+use Rattle.coverer.proofs.Job.add_children.Goals as goal
 
 turn : (e : Engine) (q : Request) (a : Area) (b : Brood) (m₀ : List ℕ) (t₀ : Counts) (m : List ℕ) (t : Counts) (j : ℕ) (m' : List ℕ) (r : Turn) (u : Counts) → Asks q a → j < b.places → r ≡ Ok u
     → Does e (task_of q a) b.from (add_all (course_of q a) b.from (child_if b j)) m t m' r → AsideUpTo (t.aside + leaves_in (child_if b j)) r → Inv e q a b m₀ t₀ m t j → Inv e q a b m₀ t₀ m' u (j + 1)
@@ -50,12 +50,12 @@ add_child-requires c =
     }
 
 pub returns-in_err-t : goal.returns-in_err-t
-returns-in_err-t c = let p = err_from_is_err_and c.from_residual.result c.from_residual.ensures.1 in rw (p.1, p.2) (stop _ _ _ _ _ _ _ _ _ _ _ _ c.args.self.asks c.loop-j-test.true c.in_err-t.was c.add_child.ensures.does c.loop-j.invariant)
+returns-in_err-t c = let p = err_from_is_err_and c.from_residual.result c.from_residual.ensures.1 in rw (p.1, p.2) (stop _ _ _ _ _ _ _ _ _ _ _ _ c.args.self.asking.asks c.loop-j-test.true c.in_err-t.was c.add_child.ensures.does c.loop-j.invariant)
 
 pub loop-j-preserved : goal.loop-j-preserved
-loop-j-preserved c = turn _ _ _ _ _ _ _ _ _ _ _ _ c.args.self.asks c.loop-j-test.true c.in_ok-t.was c.add_child.ensures.does c.add_child.ensures.aside_up_to c.loop-j.invariant
+loop-j-preserved c = turn _ _ _ _ _ _ _ _ _ _ _ _ c.args.self.asking.asks c.loop-j-test.true c.in_ok-t.was c.add_child.ensures.does c.add_child.ensures.aside_up_to c.loop-j.invariant
 
 pub returns : goal.returns
 returns c =
     let I = c.loop-j.invariant in
-    goes_end _ _ _ _ _ _ _ _ _ (children_over _ (domain _ _ c.args.self.asks) _ _ (omega arith) _) I.goes
+    goes_end _ _ _ _ _ _ _ _ _ (children_over _ (domain _ _ c.args.self.asking.asks) _ _ (omega arith) _) I.goes

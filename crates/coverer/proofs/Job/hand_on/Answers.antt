@@ -14,7 +14,7 @@ use Rattle.run.specs.Run.{depth}
 use lib.Count.{ones}
 use mathlib.Core.Path.{◌≡◌}
 use native.Mathlib.Omega.{arith}
-use Rattle.coverer.proofs.job.Job.hand_on.Goals as goal
+use Rattle.coverer.proofs.Job.hand_on.Goals as goal
 
 made : (q : Request) (a : Area) (A : Asks q a) (r : Rec) (n k : ℕ) (b : Brood) → Taken (task_of q a) r → n ≡ depth q r.id → k ≡ ones r.present → b ≡ brood_of n r
     → Broods (task_of q a) (domain q a A) r n k b
@@ -22,8 +22,8 @@ made q a A r n k b Q en ek eb = record { taken = Q; levels = en; count = ek; is 
 
 pub cells_under-b-requires : goal.cells_under-b-requires
 cells_under-b-requires c =
-    let A = c.args.self.asks in
-    let few : depth (c.args.self.request) c.args.r.id ≤ 3 = depth_le (c.args.self.request) c.args.r.id A.some A.few in
+    let A = c.args.self.asking.asks in
+    let few : depth (c.args.self.asking.request) c.args.r.id ≤ 3 = depth_le (c.args.self.asking.request) c.args.r.id A.some A.few in
     record {
       id_nonzero = cell_pos _ _ _ c.requires.taken.cell.fit.cell;
       n_bound = omega (arith, c.levels_under.ensures);
@@ -31,23 +31,23 @@ cells_under-b-requires c =
 
 pub overflow_sub-failed : goal.overflow_sub-failed
 overflow_sub-failed c =
-    let h : c.args.children ≤ c.cells_under-b.result.places = brood_room _ _ _ _ _ _ (made _ _ c.args.self.asks _ _ _ _ c.requires.taken c.levels_under.ensures c.requires.children_value c.cells_under-b.ensures) in
+    let h : c.args.children ≤ c.cells_under-b.result.places = brood_room _ _ _ _ _ _ (made _ _ c.args.self.asking.asks _ _ _ _ c.requires.taken c.levels_under.ensures c.requires.children_value c.cells_under-b.ensures) in
     omega arith
 
 pub overflow_mul-failed : goal.overflow_mul-failed
 overflow_mul-failed c =
-    let h : (c.cells_under-b.result.places - c.args.children) * c.cells_under-b.result.unit ≤ leaves_of c.args.r.id = brood_failed_le _ _ _ _ _ _ (made _ _ c.args.self.asks _ _ _ _ c.requires.taken c.levels_under.ensures c.requires.children_value c.cells_under-b.ensures) in
+    let h : (c.cells_under-b.result.places - c.args.children) * c.cells_under-b.result.unit ≤ leaves_of c.args.r.id = brood_failed_le _ _ _ _ _ _ (made _ _ c.args.self.asking.asks _ _ _ _ c.requires.taken c.levels_under.ensures c.requires.children_value c.cells_under-b.ensures) in
     omega (arith, c.requires.aside_fits)
 
 pub set_aside-requires : goal.set_aside-requires
 set_aside-requires c =
-    let h : (c.cells_under-b.result.places - c.args.children) * c.cells_under-b.result.unit ≤ leaves_of c.args.r.id = brood_failed_le _ _ _ _ _ _ (made _ _ c.args.self.asks _ _ _ _ c.requires.taken c.levels_under.ensures c.requires.children_value c.cells_under-b.ensures) in
+    let h : (c.cells_under-b.result.places - c.args.children) * c.cells_under-b.result.unit ≤ leaves_of c.args.r.id = brood_failed_le _ _ _ _ _ _ (made _ _ c.args.self.asking.asks _ _ _ _ c.requires.taken c.levels_under.ensures c.requires.children_value c.cells_under-b.ensures) in
     omega (arith, c.requires.aside_fits)
 
 pub add_children-requires : goal.add_children-requires
 add_children-requires c =
-    let A = c.args.self.asks in
-    let B = made _ _ c.args.self.asks _ _ _ _ c.requires.taken c.levels_under.ensures c.requires.children_value c.cells_under-b.ensures in
+    let A = c.args.self.asking.asks in
+    let B = made _ _ c.args.self.asking.asks _ _ _ _ c.requires.taken c.levels_under.ensures c.requires.children_value c.cells_under-b.ensures in
     let h : c.set_aside.result.aside + leaves_in (children_from c.cells_under-b.result 0) ≤ c.args.t.aside + leaves_of c.args.r.id = brood_leaves _ _ _ _ _ _ B _ _ c.set_aside.ensures in
     record {
       places_bound = (brood_places _ _ _ _ _ _ B A.some A.few, omega (arith, brood_from _ _ _ _ _ _ B, c.requires.taken.place));
@@ -57,4 +57,4 @@ add_children-requires c =
 
 pub returns : goal.returns
 returns c =
-    hands _ _ _ _ _ _ (made _ _ c.args.self.asks _ _ _ _ c.requires.taken c.levels_under.ensures c.requires.children_value c.cells_under-b.ensures) _ _ _ _ _ _ c.set_aside.ensures c.add_children.ensures
+    hands _ _ _ _ _ _ (made _ _ c.args.self.asking.asks _ _ _ _ c.requires.taken c.levels_under.ensures c.requires.children_value c.cells_under-b.ensures) _ _ _ _ _ _ c.set_aside.ensures c.add_children.ensures

@@ -2,7 +2,7 @@
 use Prim.Native.Nat.{◌-◌}
 use Rattle.coverer.proofs.Runs.{Going}
 use Rattle.coverer.specs.Engine.{task}
-use Rattle.coverer.proofs.job.Job.proceed.Given as goal
+use Rattle.coverer.proofs.Job.proceed.Given as goal
 
 abbrev pub invariant-loop-t : goal.invariant-loop-t
 invariant-loop-t l = Going l.self.engine (task l.self) l.allowance l.initial.m l.initial.t l.m l.t

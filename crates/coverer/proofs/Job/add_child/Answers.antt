@@ -4,7 +4,7 @@ use Rattle.coverer.proofs.Stands.{up_to}
 use Rattle.coverer.specs.Engine.{AsideUpTo}
 use mathlib.Core.Path.{sym, ◌∙◌}
 use native.Mathlib.Omega.{arith}
-use Rattle.coverer.proofs.job.Job.add_child.Goals as goal
+use Rattle.coverer.proofs.Job.add_child.Goals as goal
 
 pub overflow_mul-j-else-is_full : goal.overflow_mul-j-else-is_full
 overflow_mul-j-else-is_full c =
@@ -30,7 +30,7 @@ unfolding AsideUpTo
 returns-then-is_full c =
     let e = sym c.is_in.ensures ∙ c.if-is_in.true in
     record {
-      does = child_full _ _ (domain _ _ c.args.self.asks) _ _ _ _ _ _ (omega arith) e c.is_full.ensures c.if-is_full.true;
+      does = child_full _ _ (domain _ _ c.args.self.asking.asks) _ _ _ _ _ _ (omega arith) e c.is_full.ensures c.if-is_full.true;
       aside_up_to = omega arith;
     }
 
@@ -38,7 +38,7 @@ pub returns-else-is_full : goal.returns-else-is_full
 returns-else-is_full c =
     let e = sym c.is_in.ensures ∙ c.if-is_in.true in
     record {
-      does = child_added _ _ (domain _ _ c.args.self.asks) _ _ _ _ _ _ _ _ _ (omega arith) e c.is_full.ensures c.if-is_full.false c.is_in-ends.ensures c.add_candidate.ensures.does;
+      does = child_added _ _ (domain _ _ c.args.self.asking.asks) _ _ _ _ _ _ _ _ _ (omega arith) e c.is_full.ensures c.if-is_full.false c.is_in-ends.ensures c.add_candidate.ensures.does;
       aside_up_to = up_to _ _ _ (omega (arith, leaves_there c.args.b c.args.j e)) c.add_candidate.ensures.aside_up_to;
     }
 
@@ -46,6 +46,6 @@ pub returns-else-is_in : goal.returns-else-is_in
 unfolding AsideUpTo
 returns-else-is_in c =
     record {
-      does = child_none _ _ (domain _ _ c.args.self.asks) _ _ _ _ _ (sym c.is_in.ensures ∙ c.if-is_in.false);
+      does = child_none _ _ (domain _ _ c.args.self.asking.asks) _ _ _ _ _ (sym c.is_in.ensures ∙ c.if-is_in.false);
       aside_up_to = omega arith;
     }

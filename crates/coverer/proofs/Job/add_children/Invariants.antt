@@ -13,11 +13,11 @@ use Rattle.coverer.specs.declared.Counts.{Counts}
 use Rattle.queue.specs.declared.Engine.{Engine}
 use Rattle.region.specs.Region.{Area, area_of}
 use mathlib.Core.List.{List}
-use Rattle.coverer.proofs.job.Job.add_children.Given as goal
+use Rattle.coverer.proofs.Job.add_children.Given as goal
 
 pub record Inv (e : Engine) (q : Request) (a : Area) (b : Brood) (m₀ : List ℕ) (t₀ : Counts) (m : List ℕ) (t : Counts) (j : ℕ) : Type 0 where
   pub waits : Waiting (ChildOk (task_of q a)) t (children_from b j)
   pub goes : Goes e (task_of q a) b.from (add_all (course_of q a) b.from (children_from b 0)) (add_all (course_of q a) b.from (children_from b j)) m₀ t₀ m t
 
 abbrev pub invariant-loop-j : goal.invariant-loop-j
-invariant-loop-j l = Inv l.self.engine l.self.request (area_of l.self.region) l.b l.initial.m l.initial.t l.m l.t l.j
+invariant-loop-j l = Inv l.self.engine l.self.asking.request (area_of l.self.asking.region) l.b l.initial.m l.initial.t l.m l.t l.j

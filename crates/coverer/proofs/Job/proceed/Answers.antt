@@ -2,7 +2,7 @@ use Rattle.std.proofs.lemmas.Result.{err_from_is_err_and}
 use Rattle.coverer.proofs.Runs.{going_spent, going_end, going_stop, going_turn}
 use mathlib.Core.Path.{refl}
 use native.Mathlib.Omega.{arith}
-use Rattle.coverer.proofs.job.Job.proceed.Goals as goal
+use Rattle.coverer.proofs.Job.proceed.Goals as goal
 
 pub loop-t-init : goal.loop-t-init
 loop-t-init c = record { live = c.requires.live; left = c.requires.steps_le_allowance; goes = λ l R. R; frame = refl }

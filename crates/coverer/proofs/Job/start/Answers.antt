@@ -6,8 +6,8 @@ use Rattle.candidate.specs.declared.Candidate.{Candidate}
 use Rattle.coverer.proofs.Adds.{low_leaves}
 use Rattle.coverer.proofs.Runs.{start_kept_ok, start_queued_ok, start_kept, start_queued, start_none}
 use native.Mathlib.Omega.{arith}
-use Rattle.coverer.proofs.job.Job.start.Goals.{In-Some-Kept, In-Some-Queued}
-use Rattle.coverer.proofs.job.Job.start.Goals as goal
+use Rattle.coverer.proofs.Job.start.Goals.{In-Some-Kept, In-Some-Queued}
+use Rattle.coverer.proofs.Job.start.Goals as goal
 
 -- what the candidate is, in the two arms
 kept_is : (c : In-Some-Kept) → c.new_candidate-c.result ≡ Some Candidate.Kept
