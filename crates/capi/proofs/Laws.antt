@@ -1,23 +1,33 @@
 -- From a public answer to a call from C, and back; and that a contract allows one result.
-use mathlib.Core.Path.{◌≡◌, sym, ap, ◌∙◌, subst}
+use mathlib.Core.Path.{◌≡◌, refl, sym, ap, ◌∙◌, subst}
 use mathlib.Core.Bool.{Bool, true}
 use mathlib.Core.List.{List}
 use Prim.Native.Nat.{ℕ}
 use mir.Val.{bool_byte}
 use Rattle.covering.specs.declared.Answer.{Answer}
-use Rattle.covering.specs.Covering.{Result, answer_of, Answered}
+use Rattle.covering.specs.Covering.{Result, answer_of, values_told, Answered}
 use Rattle.refusal.specs.declared.Refusal.{Refusal}
+use Rattle.refusal.proofs.Laws.{number_positive}
+use Rattle.std.specs.Prelude.{Ok, Err}
 use Rattle.std.specs.Prelude as Std
 use Rattle.capi.specs.Calls.{Told, Called, CalledBy, CalledOf, NamesCalled}
 
 module _ {R : Result} {number count steps : ℕ} {mem mem' out out' aside : List ℕ} where
   -- an answer that is told is all that a call leaves
-  pub answered_called : {a : Answer} → Answered R a mem mem' out out' → Told a number count steps aside → Called R number mem mem' out out' count steps aside
-  answered_called A t = record { told = subst (λ (x : Answer). Told x number count steps aside) A.answer t; memory = A.memory; output = A.output }
+  pub answered_called : {a : Std.Result Answer Refusal} → Answered R a mem mem' out out' → Told a number count steps aside → Called R number mem mem' out out' count steps aside
+  answered_called A t = record { told = subst (λ (x : Std.Result Answer Refusal). Told x number count steps aside) A.answer t; memory = A.memory; output = A.output }
 
-  -- and what a call leaves is an answer, with the totals that its six words are: whatever is promised of public answers is promised of calls
-  pub called_answered : Called R number mem mem' out out' count steps aside → Answered R (record { number = number; count = count; steps = steps; aside = (answer_of R).aside }) mem mem' out out'
-  called_answered C = record { answer = rw (C.told.is, C.told.counted, C.told.taken); memory = C.memory; output = C.output }
+  -- and what a call leaves is an answer, which is told; with the number 0 a success, with the totals that its six words are: whatever is promised of public answers is
+  -- promised of calls
+  pub called_answered : Called R number mem mem' out out' count steps aside → Answered R (answer_of R) mem mem' out out' × Told (answer_of R) number count steps aside
+  called_answered C = (record { answer = refl; memory = C.memory; output = C.output }, C.told)
+
+  pub called_done : Called R number mem mem' out out' count steps aside → number ≡ 0 → Answered R (Ok (record { count = count; steps = steps; aside = (values_told (answer_of R)).aside })) mem mem' out out'
+  called_done C z = record { answer = sym (of (answer_of R) C.told); memory = C.memory; output = C.output }
+    where
+      of : (a : Std.Result Answer Refusal) → Told a number count steps aside → a ≡ Ok (record { count = count; steps = steps; aside = (values_told a).aside })
+      of (Ok a) t = rw (t.counted, t.taken)
+      of (Err r) t = absurd (number_positive r (sym t.is ∙ z))
 
 -- any two results that a contract allows are one
 pub determined : (R : Result) (n n' : ℕ) (m m₁ m₂ o o₁ o₂ : List ℕ) (k k' s s' : ℕ) (t t' : List ℕ) → Called R n m m₁ o o₁ k s t → Called R n' m m₂ o o₂ k' s' t'
@@ -34,7 +44,7 @@ determined R n n' m m₁ m₂ o o₁ o₂ k k' s s' t t' a b = (
 -- ---- by either engine, or both
 
 -- an answer on which the engines agree, told
-pub tested_called : {R : Result} {a : Answer} {number count steps : ℕ} {mem mem' out out' aside : List ℕ} (agree : Bool) → Answered R a mem mem' out out' × (agree ≡ true) → Told a number count steps aside
+pub tested_called : {R : Result} {a : Std.Result Answer Refusal} {number count steps : ℕ} {mem mem' out out' aside : List ℕ} (agree : Bool) → Answered R a mem mem' out out' × (agree ≡ true) → Told a number count steps aside
     → CalledBy R number mem mem' out out' count steps aside (bool_byte agree)
 tested_called agree t told = record { called = answered_called t.0 told; agreed = ap bool_byte t.1 }
 

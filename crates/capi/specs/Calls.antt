@@ -12,7 +12,7 @@ use Rattle.totals.specs.Totals.{six_of}
 use Rattle.covering.specs.declared.Answer.{Answer}
 use Rattle.orders.specs.declared.Order.{Order}
 use Rattle.orders.specs.Orders.{NightOver, night_answer}
-use Rattle.covering.specs.Covering.{Result, answer_of, memory_after, output_after}
+use Rattle.covering.specs.Covering.{Result, answer_of, values_told, memory_after, output_after}
 
 -- the numbers of a request
 abbrev pub region_coverer : ℕ → ℕ → ℕ → ℕ → ℕ → RegionCoverer
@@ -26,11 +26,11 @@ abbrev pub cap_given : Float → Float → Float → Float → Area
 cap_given x y z radius = cap_area (cap_of x y z radius)
 
 -- an answer's number and values
-pub record Told (a : Answer) (number count steps : ℕ) (aside : List ℕ) : Type 0 where
-  pub is : number ≡ a.number
-  pub counted : count ≡ a.count
-  pub taken : steps ≡ a.steps
-  pub totals : aside ≡ six_of a.aside
+pub record Told (a : Std.Result Answer Refusal) (number count steps : ℕ) (aside : List ℕ) : Type 0 where
+  pub is : number ≡ number_told a
+  pub counted : count ≡ (values_told a).count
+  pub taken : steps ≡ (values_told a).steps
+  pub totals : aside ≡ six_of (values_told a).aside
 
 -- all that a call leaves: what was told, the working memory and the output
 pub record Called (R : Result) (number : ℕ) (mem mem' out out' : List ℕ) (count steps : ℕ) (aside : List ℕ) : Type 0 where

@@ -45,14 +45,15 @@ pub fn cap(x: f64, y: f64, z: f64, radius: f64) -> Cap
 }
 
 // The number of an answer; its values go through the references.
-fn tell(a: Answer, count: &mut u64, steps: &mut u64, aside: &mut [u64; 6]) -> u64
+fn tell(a: Result<Answer, Refusal>, count: &mut u64, steps: &mut u64, aside: &mut [u64; 6]) -> u64
     ensures { Told a result count.new steps.new aside.new }
 {
-    *count = a.count as u64;
-    *steps = a.steps as u64;
-    let six = a.aside.six;
+    let values = Answer::told(a);
+    *count = values.count as u64;
+    *steps = values.steps as u64;
+    let six = values.aside.six;
     *aside = six;
-    a.number
+    refusal::number(a)
 }
 
 // A request of any kind for any region, by the quick engine.
@@ -95,19 +96,12 @@ pub fn call_by(
 }
 
 // The number of a list's answer; how many words were written goes through the reference.
+#[tactic(auto, unfolding(ranges::specs::Ranges::words_of))]
 pub fn tell_words(a: Result<usize, Refusal>, count: &mut u64) -> u64
     ensures { (result ≡ number_told a) × (count.new ≡ words_of a) }
 {
-    match a {
-        Ok(n) => {
-            *count = n as u64;
-            0
-        }
-        Err(refusal) => {
-            *count = 0;
-            refusal.number()
-        }
-    }
+    *count = a.unwrap_or(0) as u64;
+    refusal::number(a)
 }
 
 // The number of an answer about tokens; how many bytes or ids were written, and the number from 1 of the first line or id that is bad, go through the

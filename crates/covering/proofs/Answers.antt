@@ -8,13 +8,9 @@ use native.Mathlib.Omega.{arith}
 use lib.Dec.{leb}
 use lib.ListN.{length, take, drop, length-drop, length-map, drop_of_length-le}
 use lib.Seq.{take_all, take_at, drop_at, drop-drop, drop-append-add, length-take-le}
-use Rattle.std.specs.Prelude.Result.{Ok, Err}
-use Rattle.refusal.specs.declared.Refusal.{Refusal}
-use Rattle.refusal.specs.Refusal.{number_of}
 use Rattle.cellid.specs.CellId.{Cell}
 use Rattle.order.specs.Order.{All}
 use Rattle.region.specs.Region.{Area}
-use Rattle.std.specs.Prelude.{Option, Some, None}
 use Rattle.cellunion.specs.CellUnion.{normalise}
 use Rattle.denorm.specs.Denorm.{denormalise}
 use Rattle.cellunion.specs.Memory.{zeros, laid, normalised, room_for, laid_over}
@@ -32,13 +28,16 @@ use Rattle.coverer.specs.Engine.{words_at, past}
 use Rattle.coverer.proofs.Memory.{words_length, cleared_front, only_words_lem, only_room, only_past}
 use Rattle.covering.specs.declared.Answer.{Answer}
 use Rattle.covering.specs.declared.Ending.{Ending}
+use Rattle.std.specs.Prelude.{Option, Some, None, Ok, Err}
+use Rattle.std.specs.Prelude as Std
+use Rattle.refusal.specs.declared.Refusal.{Refusal}
 use Rattle.bars.specs.Bars.{Bar, bar_of}
-use Rattle.covering.specs.Covering.{Result, refused, done, fitted, checked, list_of, left_by, ended_as, ran_of, refusal, answer_of, output_after, memory_after, Answered, answer_laid}
+use Rattle.covering.specs.Covering.{Result, refused, done, fitted, checked, list_of, left_by, ended_as, ran_of, answer_of, output_after, memory_after, Answered, answer_laid}
 use Rattle.bars.proofs.Early.{Valid, early_none}
 use Rattle.covering.proofs.Starts.{ran_cells}
 
 -- what is answered is answered whatever it is called
-pub answered_as : {R R' : Result} {r r' : Answer} {m n n' o p p' : List ℕ} → R ≡ R' → Answered R' r' m n' o p' → r ≡ r' → n ≡ n' → p ≡ p' → Answered R r m n o p
+pub answered_as : {R R' : Result} {r r' : Std.Result Answer Refusal} {m n n' o p p' : List ℕ} → R ≡ R' → Answered R' r' m n' o p' → r ≡ r' → n ≡ n' → p ≡ p' → Answered R r m n o p
 answered_as {m = m} {o = o} e a x y z = record {
   answer = x ∙ a.answer ∙ ap answer_of (sym e);
   memory = y ∙ a.memory ∙ ap (λ (w : Result). memory_after w m) (sym e);
@@ -46,35 +45,35 @@ answered_as {m = m} {o = o} e a x y z = record {
 }
 
 -- 1 to 6 leave everything as it was
-pub answered_barred : (b : Bar) (R : Result) (n : Refusal) (r : Answer) (m o : List ℕ) → b ≡ Err n → r ≡ refusal (number_of n) → Answered (checked b R) r m m o o
+pub answered_barred : (b : Bar) (R : Result) (n : Refusal) (m o : List ℕ) → b ≡ Err n → Answered (checked b R) (Err n) m m o o
 unfolding checked answer_of memory_after output_after
-answered_barred b R n r m o e d = rw (e, checked) (record { answer = d; memory = refl; output = refl })
+answered_barred b R n m o e = rw (e, checked) (record { answer = refl; memory = refl; output = refl })
 
 -- where nothing bars it, a request is answered as what it comes to
-pub answered_open : (b : Bar) (R : Result) (r : Answer) (m m' o o' : List ℕ) → b ≡ Ok tt → Answered R r m m' o o' → Answered (checked b R) r m m' o o'
+pub answered_open : (b : Bar) (R : Result) (r : Std.Result Answer Refusal) (m m' o o' : List ℕ) → b ≡ Ok tt → Answered R r m m' o o' → Answered (checked b R) r m m' o o'
 unfolding checked
 answered_open b R r m m' o o' e A = rw (e, checked) A
 
 -- 7 to 10 leave the words of a run zero
-answered_late : (n : ℕ) (m o : List ℕ) → Answered (refused n) (refusal n) m (cleared 0 memory_words m) o o
+answered_late : (n : Refusal) (m o : List ℕ) → Answered (refused n) (Err n) m (cleared 0 memory_words m) o o
 unfolding answer_of memory_after output_after
 answered_late n m o = record { answer = refl; memory = refl; output = refl }
 
 -- a finished list, laid over the output or with no room there
 pub answered_laid : (l m o : List ℕ) (steps : ℕ) (aside : Totals) → Answered (fitted (length o) l steps aside) (answer_laid (room_for l o) steps aside) m (cleared 0 memory_words m) o (laid_over l o)
-unfolding fitted answer_laid room_for laid_over answer_of memory_after output_after
+unfolding fitted room_for laid_over answer_of memory_after output_after
 answered_laid l m o steps aside = by (leb (length l) (length o))
   where
-    by : (b : Bool) → Answered (elim b [ true ↦ done l steps aside | false ↦ refused 10 ]) (answer_laid (elim b [ true ↦ Some (length l) | false ↦ None ]) steps aside) m (cleared 0 memory_words m) o (elim b [ true ↦ laid 0 l o | false ↦ o ])
+    by : (b : Bool) → Answered (elim b [ true ↦ done l steps aside | false ↦ refused Refusal.ListTooLong ]) (answer_laid (elim b [ true ↦ Some (length l) | false ↦ None ]) steps aside) m (cleared 0 memory_words m) o (elim b [ true ↦ laid 0 l o | false ↦ o ])
     by true = record { answer = refl; memory = refl; output = laid_start l o }
     by false = record { answer = refl; memory = refl; output = refl }
 
 -- the words of a run make no difference to what is left
-pub fitted_front : (room : ℕ) (l : List ℕ) (steps : ℕ) (aside : Totals) (r : Answer) (m m₁ m₂ o o₂ : List ℕ) → past memory_words m₁ ≡ past memory_words m → Answered (fitted room l steps aside) r m₁ m₂ o o₂ → Answered (fitted room l steps aside) r m m₂ o o₂
+pub fitted_front : (room : ℕ) (l : List ℕ) (steps : ℕ) (aside : Totals) (r : Std.Result Answer Refusal) (m m₁ m₂ o o₂ : List ℕ) → past memory_words m₁ ≡ past memory_words m → Answered (fitted room l steps aside) r m₁ m₂ o o₂ → Answered (fitted room l steps aside) r m m₂ o o₂
 unfolding fitted memory_after
 fitted_front room l steps aside r m m₁ m₂ o o₂ e A = record { answer = A.answer; memory = A.memory ∙ by (leb (length l) room); output = A.output }
   where
-    by : (b : Bool) → memory_after (elim b [ true ↦ done l steps aside | false ↦ refused 10 ]) m₁ ≡ memory_after (elim b [ true ↦ done l steps aside | false ↦ refused 10 ]) m
+    by : (b : Bool) → memory_after (elim b [ true ↦ done l steps aside | false ↦ refused Refusal.ListTooLong ]) m₁ ≡ memory_after (elim b [ true ↦ done l steps aside | false ↦ refused Refusal.ListTooLong ]) m
     by true = cleared_front memory_words m m₁ e
     by false = cleared_front memory_words m m₁ e
 
@@ -172,7 +171,7 @@ module _ (e : Ending) (c : RegionCoverer) (n : ℕ) (m : List ℕ) (P : (memory_
   pub lay_asks : (n ≤ length ids) × All Cell (take n ids) × (c.min_level ≤ 30) × (0 < c.level_mod)
   lay_asks = (omega (arith, P.0, P.1, ap length (part queue_words (length m - queue_words) m refl), length-drop queue_words m), subst (All Cell) (sym words) P.2, P.3, P.4)
 
-  pub finish_gives : m ≡ only_words queue_words memory_words (words_at queue_words n m) m → (steps : ℕ) (aside : Totals) (o : List ℕ) (w : Option ℕ) (r : Answer) (l m₂ o₂ : List ℕ)
+  pub finish_gives : m ≡ only_words queue_words memory_words (words_at queue_words n m) m → (steps : ℕ) (aside : Totals) (o : List ℕ) (w : Option ℕ) (r : Std.Result Answer Refusal) (l m₂ o₂ : List ℕ)
       → (w ≡ room_for (list_of e c (take n ids)) o) × (o₂ ≡ laid_over (list_of e c (take n ids)) o) × (l ≡ left_by e n ids) → r ≡ answer_laid w steps aside
       → m₂ ≡ laid queue_words (zeros ((queue_words + n) - queue_words)) (take queue_words m ++ (l ++ drop (length m - queue_words) (drop queue_words m))) → Answered (fitted (length o) (list_of e c (words_at queue_words n m)) steps aside) r m m₂ o o₂
   finish_gives H steps aside o w r l m₂ o₂ L R M =
@@ -190,14 +189,14 @@ unfolding engine_answer
 ran_refused (Run.refused k) r e = let z : k ≡ r = cc in ap Run.refused z
 ran_refused (Run.going s) r e = let z : ◌≡◌ {A = ℕ} 0 1 = cc in absurd (omega arith)
 
-pub record RanDone (o : Outcome) (count steps : ℕ) (aside : Totals) : Type 0 where
+pub record RanDone (o : Outcome) (v : Ran) : Type 0 where
   pub state : State
   pub is : o ≡ Run.going state
-  pub counted : count ≡ length (raw_ids state)
-  pub taken : steps ≡ state.steps
-  pub totals : aside ≡ aside_six state
+  pub counted : v.count ≡ length (raw_ids state)
+  pub taken : v.steps ≡ state.steps
+  pub totals : v.aside ≡ aside_six state
 
-pub ran_done : (o : Outcome) (v : Ran) → Ok v ≡ engine_answer o → RanDone o v.count v.steps v.aside
+pub ran_done : (o : Outcome) (v : Ran) → Ok v ≡ engine_answer o → RanDone o v
 unfolding engine_answer raw_ids
 ran_done (Run.refused r) v e = let z : ◌≡◌ {A = ℕ} 0 1 = cc in absurd (omega arith)
 ran_done (Run.going s) v e =
@@ -207,20 +206,20 @@ ran_done (Run.going s) v e =
 
 module _ (e : Ending) (inner : Bool) (c : RegionCoverer) (a : Area) (allowance : ℕ) (m o : List ℕ) (none : bar_of c a (length m) ≡ Ok tt) (m₁ : List ℕ) (M : m₁ ≡ engine_memory (ran_of inner c a allowance) m) where
   -- 7, 8 or 9
-  pub respond_late : (n : Refusal) (r : Answer) → Err n ≡ engine_answer (ran_of inner c a allowance) → r ≡ refusal (number_of n) → Answered (ended_as e c (length o) (ran_of inner c a allowance)) r m m₁ o o
+  pub respond_late : (n : Refusal) → Err n ≡ engine_answer (ran_of inner c a allowance) → Answered (ended_as e c (length o) (ran_of inner c a allowance)) (Err n) m m₁ o o
   unfolding ended_as engine_memory
-  respond_late n r x y =
+  respond_late n x =
       let f : ran_of inner c a allowance ≡ Run.refused n = ran_refused _ n x in
-      answered_as (ap (ended_as e c (length o)) f) (answered_late (number_of n) m o) y (M ∙ ap (λ (w : Outcome). engine_memory w m) f) refl
+      answered_as (ap (ended_as e c (length o)) f) (answered_late n m o) refl (M ∙ ap (λ (w : Outcome). engine_memory w m) f) refl
 
-  module _ (count steps : ℕ) (aside : Totals) (D : RanDone (ran_of inner c a allowance) count steps aside) (same : length m₁ ≡ length m) where
+  module _ (v : Ran) (D : RanDone (ran_of inner c a allowance) v) (same : length m₁ ≡ length m) where
     ended : m₁ ≡ only_words queue_words memory_words (raw_ids D.state) m
     unfolding engine_memory
     ended = M ∙ ap (λ (w : Outcome). engine_memory w m) D.is
 
-    kept_words : words_at queue_words count m₁ ≡ raw_ids D.state
+    kept_words : words_at queue_words v.count m₁ ≡ raw_ids D.state
     unfolding words_at
-    kept_words = ap (λ (x : List ℕ). take count (drop queue_words x)) ended ∙ ap (take count) (only_words_lem queue_words memory_words (raw_ids D.state) m) ∙ take_at (raw_ids D.state) _ count (sym D.counted)
+    kept_words = ap (λ (x : List ℕ). take v.count (drop queue_words x)) ended ∙ ap (take v.count) (only_words_lem queue_words memory_words (raw_ids D.state) m) ∙ take_at (raw_ids D.state) _ v.count (sym D.counted)
 
     valid : Valid c a (length m)
     valid = early_none c a (length m) none
@@ -228,7 +227,7 @@ module _ (e : Ending) (inner : Bool) (c : RegionCoverer) (a : Area) (allowance :
     few : queue_words + length (raw_ids D.state) ≤ memory_words
     few = only_room queue_words memory_words (raw_ids D.state) m (omega arith) valid.long (ap length (sym ended) ∙ same)
 
-    pub finish_asks : (memory_words ≤ length m₁) × (count ≤ raw_most) × All Cell (words_at queue_words count m₁) × (c.min_level ≤ 30) × (0 < c.level_mod)
+    pub finish_asks : (memory_words ≤ length m₁) × (v.count ≤ raw_most) × All Cell (words_at queue_words v.count m₁) × (c.min_level ≤ 30) × (0 < c.level_mod)
     finish_asks = (
       omega (arith, same, valid.long),
       omega (arith, D.counted, few),
@@ -237,14 +236,14 @@ module _ (e : Ending) (inner : Bool) (c : RegionCoverer) (a : Area) (allowance :
       valid.«mod».0,
     )
 
-    pub finish_holds : m₁ ≡ only_words queue_words memory_words (words_at queue_words count m₁) m₁
+    pub finish_holds : m₁ ≡ only_words queue_words memory_words (words_at queue_words v.count m₁) m₁
     unfolding only_words
     finish_holds = ended ∙ sym (ap (λ (x : List ℕ). only_words queue_words memory_words x m₁) kept_words ∙ ap (λ (x : List ℕ). zeros queue_words ++ (raw_ids D.state ++ (zeros (memory_words - (queue_words + length (raw_ids D.state))) ++ x))) (ap (drop memory_words) ended ∙ only_past queue_words memory_words (raw_ids D.state) m few))
 
     -- a success, or 10
-    pub respond_done : (r : Answer) (m₂ o₂ : List ℕ) → Answered (fitted (length o) (list_of e c (words_at queue_words count m₁)) steps aside) r m₁ m₂ o o₂ → Answered (ended_as e c (length o) (ran_of inner c a allowance)) r m m₂ o o₂
+    pub respond_done : (r : Std.Result Answer Refusal) (m₂ o₂ : List ℕ) → Answered (fitted (length o) (list_of e c (words_at queue_words v.count m₁)) v.steps v.aside) r m₁ m₂ o o₂ → Answered (ended_as e c (length o) (ran_of inner c a allowance)) r m m₂ o o₂
     unfolding ended_as past
     respond_done r m₂ o₂ A =
-        let x : ended_as e c (length o) (ran_of inner c a allowance) ≡ fitted (length o) (list_of e c (words_at queue_words count m₁)) steps aside =
+        let x : ended_as e c (length o) (ran_of inner c a allowance) ≡ fitted (length o) (list_of e c (words_at queue_words v.count m₁)) v.steps v.aside =
         ap (ended_as e c (length o)) D.is ∙ sym (rw (kept_words, D.taken, D.totals)) in
-        answered_as x (fitted_front (length o) (list_of e c (words_at queue_words count m₁)) steps aside r m m₁ m₂ o o₂ (ap (drop memory_words) ended ∙ only_past queue_words memory_words (raw_ids D.state) m few) A) refl refl refl
+        answered_as x (fitted_front (length o) (list_of e c (words_at queue_words v.count m₁)) v.steps v.aside r m m₁ m₂ o o₂ (ap (drop memory_words) ended ∙ only_past queue_words memory_words (raw_ids D.state) m few) A) refl refl refl

@@ -5,7 +5,7 @@ use mathlib.Core.List.{List, ◌++◌}
 use Prim.Native.Nat.{ℕ, ◌+◌, ◌-◌, ◌≤◌, ◌<◌}
 use native.Mathlib.Omega.{arith}
 use lib.ListN.{length, take, drop, length-append, length-drop}
-use Rattle.std.specs.Prelude.{Result}
+use Rattle.std.specs.Prelude as Std
 use Rattle.refusal.specs.declared.Refusal.{Refusal}
 use Rattle.cellid.specs.CellId.{Cell, level_of}
 use Rattle.order.specs.Order.{All}
@@ -78,7 +78,7 @@ module _ (c : RegionCoverer) (a : Area) (memory : ℕ) (v : Valid c a memory) (i
           subst (All (Fit (asked_of c inner))) (sym front) (starts_fit c a v.«mod».0 v.region inner),
         )
 
-    pub run_gives : (allowance : ℕ) (m m₁ m' : List ℕ) (r : Result Ran Refusal) → length m ≡ memory → length m₁ ≡ length m → m₁ ≡ in_place (length (bound_of a)) (starts_for c (bound_of a)) m
+    pub run_gives : (allowance : ℕ) (m m₁ m' : List ℕ) (r : Std.Result Ran Refusal) → length m ≡ memory → length m₁ ≡ length m → m₁ ≡ in_place (length (bound_of a)) (starts_for c (bound_of a)) m
         → (r ≡ engine_answer (outcome_of (asked_of c inner) a (take k ids) allowance)) × (m' ≡ engine_memory (outcome_of (asked_of c inner) a (take k ids) allowance) m₁)
         → (r ≡ engine_answer (ran_of inner c a allowance)) × (m' ≡ engine_memory (ran_of inner c a allowance) m)
     unfolding ran_of

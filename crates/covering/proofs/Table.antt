@@ -10,8 +10,6 @@ use lib.Dec.{leb}
 use lib.ListN.{length, take, drop, length-append}
 use lib.Seq.{take_at}
 use borrow.Author.Tests.{le-leb, lt-leb, leb-true, leb-false}
-use Rattle.refusal.specs.declared.Refusal.{Refusal}
-use Rattle.refusal.specs.Refusal as Paper
 use Rattle.region.specs.Region.{Area, bound_of}
 use Rattle.totals.specs.declared.Totals.{Totals}
 use Rattle.totals.specs.Totals.{no_totals}
@@ -26,25 +24,30 @@ use Rattle.run.proofs.Steps.{run_refuses}
 use Rattle.coverer.specs.Coverer.{cleared, outcome_of}
 use Rattle.covering.specs.declared.Answer.{Answer}
 use Rattle.std.specs.Prelude.{Ok, Err}
+use Rattle.std.specs.Prelude as Std
+use Rattle.refusal.specs.declared.Refusal.{Refusal}
+use Rattle.refusal.specs.Refusal.{number_told}
+use Rattle.refusal.specs.Refusal as Papers
+use Rattle.refusal.proofs.Laws.{same_refusal}
 use Rattle.covering.specs.declared.Ending.{Ending}
 use Rattle.covering.specs.declared.Kind.{Kind}
 use Rattle.bars.specs.Bars.{Bar, bar_of, numbers_bar, region_bar, memory_bar, first_bar}
-use Rattle.covering.specs.Covering.{Result, barred, refused, done, fitted, checked, list_of, ended_as, ran_of, comes_to, result_of, refusal, answer_of, output_after, memory_after, Answered}
-use Rattle.bars.proofs.Early.{Early, IsBar, bar_same, UpTo, edition_open, early_is, early_given, early_low, Valid, early_none}
+use Rattle.covering.specs.Covering.{Result, barred, refused, done, fitted, checked, list_of, ended_as, ran_of, comes_to, result_of, answer_of, values_told, output_after, memory_after, Answered}
+use Rattle.bars.proofs.Early.{Early, IsBar, UpTo, edition_open, early_is, early_given, early_low, Valid, early_none}
 
 -- the paper's number of a result
 abbrev pub number_of : Result → ℕ
-number_of R = (answer_of R).number
+number_of R = number_told (answer_of R)
 
 -- ---- 1 to 6 and 14 first, else what the request comes to
 
-number_refused : (n : ℕ) → number_of (refused n) ≡ n
+number_refused : (r : Refusal) → number_of (refused r) ≡ Papers.number_of r
 unfolding answer_of
-number_refused n = refl
+number_refused r = refl
 
 module _ (c : RegionCoverer) (a : Area) (memory : ℕ) (R : Result) where
   data First : ℕ → Type 0 where
-    given : {r : Refusal} → Early c a memory (Err r) → First (Paper.number_of r)
+    given : {r : Refusal} → Early c a memory (Err r) → First (Papers.number_of r)
     passed : Early c a memory (Ok tt) → First (number_of R)
 
   first_is : First (number_of (checked (bar_of c a memory) R))
@@ -55,7 +58,7 @@ module _ (c : RegionCoverer) (a : Area) (memory : ℕ) (R : Result) where
       of (Ok u) E = passed E
       of (Err r) E = given E
 
-  first_given : (r : Refusal) → Early c a memory (Err r) → number_of (checked (bar_of c a memory) R) ≡ Paper.number_of r
+  first_given : (r : Refusal) → Early c a memory (Err r) → number_of (checked (bar_of c a memory) R) ≡ Papers.number_of r
   unfolding checked answer_of
   first_given r E = ap (λ (b : Bar). number_of (checked b R)) (early_given c a memory (Err r) E)
 
@@ -80,11 +83,11 @@ module _ (room : ℕ) (l : List ℕ) (steps : ℕ) (aside : Totals) where
 
 -- ---- each number is given exactly when, for every kind of answer
 
--- the run of a request is refused with the number n; the quick covering has no run
-unfoldable pub RunRefused : Kind → RegionCoverer → Area → ℕ → ℕ → Type 0
-RunRefused (Kind.Outer e) c a allowance n = (r : Refusal) × (Paper.number_of r ≡ n) × (ran_of false c a allowance ≡ Run.refused r)
-RunRefused (Kind.Inner e) c a allowance n = (r : Refusal) × (Paper.number_of r ≡ n) × (ran_of true c a allowance ≡ Run.refused r)
-RunRefused Kind.Fast c a allowance n = ⊥
+-- the run of a request is refused so; the quick covering has no run
+unfoldable pub RunRefused : Kind → RegionCoverer → Area → ℕ → Refusal → Type 0
+RunRefused (Kind.Outer e) c a allowance r = ran_of false c a allowance ≡ Run.refused r
+RunRefused (Kind.Inner e) c a allowance r = ran_of true c a allowance ≡ Run.refused r
+RunRefused Kind.Fast c a allowance r = ⊥
 
 -- a run's finished list, with its steps and its set-aside totals
 pub record RunFinished (e : Ending) (inner : Bool) (c : RegionCoverer) (a : Area) (allowance : ℕ) (l : List ℕ) (steps : ℕ) (aside : Totals) : Type 0 where
@@ -100,29 +103,33 @@ Finished (Kind.Outer e) c a allowance l steps aside = RunFinished e false c a al
 Finished (Kind.Inner e) c a allowance l steps aside = RunFinished e true c a allowance l steps aside
 Finished Kind.Fast c a allowance l steps aside = (l ≡ fast_covering_for c (bound_of a)) × (steps ≡ 0) × (aside ≡ no_totals)
 
+-- the numbers that a run is refused with
+abbrev pub IsLate : ℕ → Type 0
+IsLate n = (7 ≤ n) × (n ≤ 9)
+
 module _ (c : RegionCoverer) (a : Area) (allowance room : ℕ) where
   data Way (k : Kind) : Result → Type 0 where
-    stopped : {n : ℕ} → RunRefused k c a allowance n → Way k (refused n)
+    stopped : {r : Refusal} → RunRefused k c a allowance r → Way k (refused r)
     finished : (l : List ℕ) (steps : ℕ) (aside : Totals) → Finished k c a allowance l steps aside → Way k (fitted room l steps aside)
 
   -- a run comes to a refusal or to a finished list
-  module _ (e : Ending) (inner : Bool) (k : Kind) (late : (r : Refusal) → ran_of inner c a allowance ≡ Run.refused r → RunRefused k c a allowance (Paper.number_of r))
+  module _ (e : Ending) (inner : Bool) (k : Kind) (late : (r : Refusal) → ran_of inner c a allowance ≡ Run.refused r → RunRefused k c a allowance r)
       (end : (l : List ℕ) (steps : ℕ) (aside : Totals) → RunFinished e inner c a allowance l steps aside → Finished k c a allowance l steps aside) where
     run_comes : (o : Outcome) → ran_of inner c a allowance ≡ o → Way k (ended_as e c room o)
     unfolding ended_as
-    run_comes (Run.refused r) f = stopped (late r f)
+    run_comes (Run.refused n) f = stopped (late n f)
     run_comes (Run.going s) f = finished _ _ _ (end _ _ _ (record { state = s; ran = f; list = refl; taken = refl; totals = refl }))
 
   comes_is : (k : Kind) → Way k (comes_to k c a allowance room)
   unfolding comes_to RunRefused Finished
-  comes_is (Kind.Outer e) = run_comes e false (Kind.Outer e) (λ r f. (r, refl, f)) (λ l steps aside F. F) _ refl
-  comes_is (Kind.Inner e) = run_comes e true (Kind.Inner e) (λ r f. (r, refl, f)) (λ l steps aside F. F) _ refl
+  comes_is (Kind.Outer e) = run_comes e false (Kind.Outer e) (λ n f. f) (λ l steps aside F. F) _ refl
+  comes_is (Kind.Inner e) = run_comes e true (Kind.Inner e) (λ n f. f) (λ l steps aside F. F) _ refl
   comes_is Kind.Fast = finished _ 0 no_totals (refl, refl, refl)
 
-  stopped_comes : (k : Kind) (n : ℕ) → RunRefused k c a allowance n → comes_to k c a allowance room ≡ refused n
+  stopped_comes : (k : Kind) (r : Refusal) → RunRefused k c a allowance r → comes_to k c a allowance room ≡ refused r
   unfolding comes_to RunRefused ended_as
-  stopped_comes (Kind.Outer e) n f = ap (ended_as e c room) f.2 ∙ ap refused f.1
-  stopped_comes (Kind.Inner e) n f = ap (ended_as e c room) f.2 ∙ ap refused f.1
+  stopped_comes (Kind.Outer e) n f = ap (ended_as e c room) f
+  stopped_comes (Kind.Inner e) n f = ap (ended_as e c room) f
   stopped_comes Kind.Fast n f = absurd f
 
   run_finished : (e : Ending) (inner : Bool) (l : List ℕ) (steps : ℕ) (aside : Totals) → RunFinished e inner c a allowance l steps aside → ended_as e c room (ran_of inner c a allowance) ≡ fitted room l steps aside
@@ -135,14 +142,14 @@ module _ (c : RegionCoverer) (a : Area) (allowance room : ℕ) where
   finished_comes (Kind.Inner e) l steps aside F = run_finished e true l steps aside F
   finished_comes Kind.Fast l steps aside F = sym (rw (F.0, F.1, F.2))
 
-  run_late : (inner : Bool) (r : Refusal) → ran_of inner c a allowance ≡ Run.refused r → (7 ≤ Paper.number_of r) × (Paper.number_of r ≤ 9)
+  run_late : (inner : Bool) (r : Refusal) → ran_of inner c a allowance ≡ Run.refused r → IsLate (Papers.number_of r)
   unfolding ran_of outcome_of
-  run_late inner r f = run_refuses _ _ _ allowance r f
+  run_late inner n f = run_refuses _ _ _ allowance n f
 
-  stopped_late : (k : Kind) (n : ℕ) → RunRefused k c a allowance n → (7 ≤ n) × (n ≤ 9)
+  stopped_late : (k : Kind) (r : Refusal) → RunRefused k c a allowance r → IsLate (Papers.number_of r)
   unfolding RunRefused
-  stopped_late (Kind.Outer e) n f = subst (λ (k : ℕ). (7 ≤ k) × (k ≤ 9)) f.1 (run_late false f.0 f.2)
-  stopped_late (Kind.Inner e) n f = subst (λ (k : ℕ). (7 ≤ k) × (k ≤ 9)) f.1 (run_late true f.0 f.2)
+  stopped_late (Kind.Outer e) n f = run_late false n f
+  stopped_late (Kind.Inner e) n f = run_late true n f
   stopped_late Kind.Fast n f = absurd f
 
 module _ (k : Kind) (c : RegionCoverer) (a : Area) (allowance memory room : ℕ) where
@@ -150,8 +157,8 @@ module _ (k : Kind) (c : RegionCoverer) (a : Area) (allowance memory room : ℕ)
   number = number_of (result_of k c a allowance memory room)
 
   data Given : ℕ → Type 0 where
-    first : {r : Refusal} → Early c a memory (Err r) → Given (Paper.number_of r)
-    late : {n : ℕ} → Early c a memory (Ok tt) → RunRefused k c a allowance n → Given n
+    first : {r : Refusal} → Early c a memory (Err r) → Given (Papers.number_of r)
+    late : (r : Refusal) → Early c a memory (Ok tt) → RunRefused k c a allowance r → Given (Papers.number_of r)
     ended : {n : ℕ} {l : List ℕ} {steps : ℕ} {aside : Totals} → Early c a memory (Ok tt) → Finished k c a allowance l steps aside → Fitted room l steps aside n → Given n
 
   given_is : Given number
@@ -159,7 +166,7 @@ module _ (k : Kind) (c : RegionCoverer) (a : Area) (allowance memory room : ℕ)
   given_is = from (first_is c a memory (comes_to k c a allowance room))
     where
       then : Early c a memory (Ok tt) → {R : Result} → Way c a allowance room k R → Given (number_of R)
-      then E (stopped S) = late E S
+      then E (stopped S) = late _ E S
       then E (finished l steps aside F) = ended E F (fitted_is room l steps aside)
 
       from : {n : ℕ} → First c a memory (comes_to k c a allowance room) n → Given n
@@ -169,35 +176,38 @@ module _ (k : Kind) (c : RegionCoverer) (a : Area) (allowance memory room : ℕ)
   given_number : (n : ℕ) → Given n → number ≡ n
   unfolding result_of
   given_number n (first {r} E) = first_given c a memory (comes_to k c a allowance room) r E
-  given_number n (late E S) = ap number_of (first_passed c a memory (comes_to k c a allowance room) E ∙ stopped_comes c a allowance room k n S) ∙ number_refused n
+  given_number n (late r E S) = ap number_of (first_passed c a memory (comes_to k c a allowance room) E ∙ stopped_comes c a allowance room k r S) ∙ number_refused r
   given_number n (ended {l = l} {steps} {aside} E F h) =
       ap number_of (first_passed c a memory (comes_to k c a allowance room) E ∙ finished_comes c a allowance room k l steps aside F) ∙ fitted_given room l steps aside n h
 
-  early_of : {n : ℕ} → IsBar n → Given n → (r : Refusal) × (Paper.number_of r ≡ n) × Early c a memory (Err r)
+  early_of : {n : ℕ} → IsBar n → Given n → (r : Refusal) × (Papers.number_of r ≡ n) × Early c a memory (Err r)
   early_of h (first E) = (_, refl, E)
-  early_of {n} h (late E S) = absurd (⊎_elim (λ b. omega (arith, (stopped_late c a allowance room k n S).0)) (λ b. omega (arith, (stopped_late c a allowance room k n S).1)) h)
+  early_of h (late r E S) = absurd (⊎_elim (λ b. omega (arith, (stopped_late c a allowance room k r S).0)) (λ b. omega (arith, (stopped_late c a allowance room k r S).1)) h)
   early_of h (ended E F (long q)) = absurd (⊎_elim (λ b. omega arith) (λ b. omega arith) h)
   early_of h (ended E F (fits q)) = absurd (⊎_elim (λ b. omega arith) (λ b. omega arith) h)
 
-  pub is_early : (n : ℕ) → IsBar n → number ≡ n → (r : Refusal) × (Paper.number_of r ≡ n) × Early c a memory (Err r)
+  pub is_early : (n : ℕ) → IsBar n → number ≡ n → (r : Refusal) × (Papers.number_of r ≡ n) × Early c a memory (Err r)
   is_early n h x = early_of h (subst Given x given_is)
 
   -- 1 to 6 and 14: `Early` has the rows, each with the earlier ones not true
-  pub when_early : (r : Refusal) → IsBar (Paper.number_of r) → (number ≡ Paper.number_of r) ↔ Early c a memory (Err r)
+  pub when_early : (r : Refusal) → IsBar (Papers.number_of r) → (number ≡ Papers.number_of r) ↔ Early c a memory (Err r)
   when_early r h = (
-    λ x. let w = is_early (Paper.number_of r) h x in subst (λ (s : Refusal). Early c a memory (Err s)) (bar_same w.0 r (early_low c a memory w.2) w.1) w.2,
-    λ E. given_number (Paper.number_of r) (first E),
+    λ x. let w = is_early (Papers.number_of r) h x in subst (λ (s : Refusal). Early c a memory (Err s)) (same_refusal w.0 r (⊎_elim (λ b. omega (arith, w.1)) (λ b. omega (arith, w.1)) h) w.1) w.2,
+    λ E. given_number (Papers.number_of r) (first E),
   )
 
-  -- 7 to 9: none of these, and the defined run is refused with the number
-  pub when_late : (n : ℕ) → 7 ≤ n → n ≤ 9 → (number ≡ n) ↔ (Early c a memory (Ok tt) × RunRefused k c a allowance n)
-  when_late n h p = (λ x. of n h p (subst Given x given_is), λ w. given_number n (late w.0 w.1))
-    where
-      of : (n : ℕ) → 7 ≤ n → n ≤ 9 → Given n → Early c a memory (Ok tt) × RunRefused k c a allowance n
-      of n h p (first E) = absurd (⊎_elim (λ b. omega arith) (λ b. omega arith) (early_low c a memory E))
-      of n h p (late E S) = (E, S)
-      of n h p (ended E F (long q)) = absurd (omega arith)
-      of n h p (ended E F (fits q)) = absurd (omega arith)
+  late_of : {n : ℕ} → IsLate n → Given n → (r : Refusal) × (Papers.number_of r ≡ n) × Early c a memory (Ok tt) × RunRefused k c a allowance r
+  late_of h (first E) = absurd (⊎_elim (λ b. omega (arith, h.0)) (λ b. omega (arith, h.1)) (early_low c a memory E))
+  late_of h (late r E S) = (r, refl, E, S)
+  late_of h (ended E F (long q)) = absurd (omega (arith, h.1))
+  late_of h (ended E F (fits q)) = absurd (omega (arith, h.0))
+
+  -- 7 to 9: none of these, and the defined run is refused so
+  pub when_late : (r : Refusal) → IsLate (Papers.number_of r) → (number ≡ Papers.number_of r) ↔ (Early c a memory (Ok tt) × RunRefused k c a allowance r)
+  when_late r h = (
+    λ x. let w = late_of h (subst Given x given_is) in (w.2, subst (RunRefused k c a allowance) (same_refusal w.0 r (omega (arith, h.1, w.1)) w.1) w.3),
+    λ w. given_number (Papers.number_of r) (late r w.0 w.1),
+  )
 
   -- a finished list, its steps and its set-aside totals, of which Q is true
   abbrev pub FinishedWith : (List ℕ → Type 0) → Type 0
@@ -209,7 +219,7 @@ module _ (k : Kind) (c : RegionCoverer) (a : Area) (allowance memory room : ℕ)
     where
       of : (n : ℕ) → n ≡ 10 → Given n → FinishedWith (λ l. room < length l)
       of n z (first E) = absurd (⊎_elim (λ b. omega arith) (λ b. omega arith) (early_low c a memory E))
-      of n z (late E S) = absurd (omega (arith, (stopped_late c a allowance room k n S).1))
+      of n z (late r E S) = absurd (omega (arith, (stopped_late c a allowance room k r S).1))
       of n z (ended E F (long q)) = (E, (_, _, _, F, q))
       of n z (ended E F (fits q)) = absurd (omega arith)
 
@@ -219,7 +229,7 @@ module _ (k : Kind) (c : RegionCoverer) (a : Area) (allowance memory room : ℕ)
     where
       of : (n : ℕ) → n ≡ 0 → Given n → FinishedWith (λ l. length l ≤ room)
       of n z (first E) = absurd (⊎_elim (λ b. omega arith) (λ b. omega arith) (early_low c a memory E))
-      of n z (late E S) = absurd (omega (arith, (stopped_late c a allowance room k n S).0))
+      of n z (late r E S) = absurd (omega (arith, (stopped_late c a allowance room k r S).0))
       of n z (ended E F (long q)) = absurd (omega arith)
       of n z (ended E F (fits q)) = (E, (_, _, _, F, q))
 
@@ -229,14 +239,14 @@ module _ (k : Kind) (c : RegionCoverer) (a : Area) (allowance memory room : ℕ)
     where
       of : {n : ℕ} → Given n → (n ≤ 10) ⊎ (n ≡ 14)
       of {n} (first E) = ⊎_elim (λ b. inl (omega arith)) inr (early_low c a memory E)
-      of {n} (late E S) = inl (omega (arith, (stopped_late c a allowance room k n S).1))
+      of (late r E S) = inl (omega (arith, (stopped_late c a allowance room k r S).1))
       of (ended E F (long q)) = inl (omega arith)
       of (ended E F (fits q)) = inl (omega arith)
 
 -- "`fast_covering` gives only 1 to 6 and 10", and 14 as any request
-pub fast_numbers : (c : RegionCoverer) (a : Area) (allowance memory room n : ℕ) → 7 ≤ n → n ≤ 9 → number_of (result_of Kind.Fast c a allowance memory room) ≡ n → ⊥
+pub fast_numbers : (c : RegionCoverer) (a : Area) (allowance memory room n : ℕ) → IsLate n → number_of (result_of Kind.Fast c a allowance memory room) ≡ n → ⊥
 unfolding RunRefused
-fast_numbers c a allowance memory room n h p x = ((when_late Kind.Fast c a allowance memory room n h p).0 x).1
+fast_numbers c a allowance memory room n h x = (late_of Kind.Fast c a allowance memory room h (subst (Given Kind.Fast c a allowance memory room) x (given_is Kind.Fast c a allowance memory room))).3
 
 -- "fast ignores it": whichever of the two editions a request names
 pub fast_ignores : (c : RegionCoverer) (a : Area) (allowance memory room n : ℕ) → UpTo 2 c.edition → UpTo 2 n
@@ -248,8 +258,8 @@ fast_ignores c a allowance memory room n h k =
 -- ---- what any result is: a refusal's number is not 0, and a list is no longer than the output has places
 
 unfoldable pub Sound : ℕ → Result → Type 0
-Sound room (barred n) = 0 < n
-Sound room (refused n) = 0 < n
+Sound room (barred r) = 0 < Papers.number_of r
+Sound room (refused r) = 0 < Papers.number_of r
 Sound room (done l steps aside) = length l ≤ room
 
 fitted_sound : (room : ℕ) (l : List ℕ) (steps : ℕ) (aside : Totals) → Sound room (fitted room l steps aside)
@@ -259,7 +269,7 @@ fitted_sound room l steps aside = if_ok (Sound room) (leb (length l) room) _ _ (
 module _ (k : Kind) (c : RegionCoverer) (a : Area) (allowance memory room : ℕ) where
   comes_sound : {R : Result} → Way c a allowance room k R → Sound room R
   unfolding Sound
-  comes_sound (stopped {n} S) = omega (arith, (stopped_late c a allowance room k n S).0)
+  comes_sound (stopped {r} S) = omega (arith, (stopped_late c a allowance room k r S).0)
   comes_sound (finished l steps aside F) = fitted_sound room l steps aside
 
   pub result_sound : Sound room (result_of k c a allowance memory room)
@@ -273,7 +283,7 @@ module _ (k : Kind) (c : RegionCoverer) (a : Area) (allowance memory room : ℕ)
 -- ---- what a refusal leaves
 
 -- "Each refusal returns its number, count 0, steps 0, set-aside 0, and the output unchanged."
-pub refusal_values : (R : Result) (out : List ℕ) → 0 < number_of R → (answer_of R ≡ refusal (number_of R)) × (output_after R out ≡ out)
+pub refusal_values : (R : Result) (out : List ℕ) → 0 < number_of R → (values_told (answer_of R) ≡ record { count = 0; steps = 0; aside = no_totals }) × (output_after R out ≡ out)
 unfolding answer_of output_after
 refusal_values (barred n) out h = (refl, refl)
 refusal_values (refused n) out h = (refl, refl)
@@ -303,12 +313,12 @@ module _ (k : Kind) (c : RegionCoverer) (a : Area) (allowance memory room : ℕ)
 
 -- ---- any two results that a contract allows are one: the answer, the whole memory and the whole output
 
-pub determined : (R : Result) (r r' : Answer) (m m₁ m₂ o o₁ o₂ : List ℕ) → Answered R r m m₁ o o₁ → Answered R r' m m₂ o o₂ → (r ≡ r') × (m₁ ≡ m₂) × (o₁ ≡ o₂)
+pub determined : (R : Result) (r r' : Std.Result Answer Refusal) (m m₁ m₂ o o₁ o₂ : List ℕ) → Answered R r m m₁ o o₁ → Answered R r' m m₂ o o₂ → (r ≡ r') × (m₁ ≡ m₂) × (o₁ ≡ o₂)
 determined R r r' m m₁ m₂ o o₁ o₂ a b = (a.answer ∙ sym b.answer, a.memory ∙ sym b.memory, a.output ∙ sym b.output)
 
 -- ---- the output has as many places as the answer has ids
 
-pub count_fits : (R : Result) (out : List ℕ) → (answer_of R).count ≤ length (output_after R out)
+pub count_fits : (R : Result) (out : List ℕ) → (values_told (answer_of R)).count ≤ length (output_after R out)
 unfolding answer_of output_after
 count_fits (barred n) out = omega arith
 count_fits (refused n) out = omega arith
@@ -322,7 +332,7 @@ pub record Done (k : Kind) (c : RegionCoverer) (a : Area) (allowance memory : �
   pub finished : Finished k c a allowance (take r.count out) r.steps r.aside
 
 fitted_done : (room : ℕ) (l : List ℕ) (steps : ℕ) (aside : Totals) (out : List ℕ) → length l ≤ room
-    → (answer_of (fitted room l steps aside) ≡ record { number = 0; count = length l; steps = steps; aside = aside }) × (take (length l) (output_after (fitted room l steps aside) out) ≡ l)
+    → (answer_of (fitted room l steps aside) ≡ Ok (record { count = length l; steps = steps; aside = aside })) × (take (length l) (output_after (fitted room l steps aside) out) ≡ l)
 unfolding fitted answer_of output_after
 fitted_done room l steps aside out h = rw (le-leb (length l) room h, fitted) (refl, take_at l (drop (length l) out) (length l) refl)
 
@@ -331,15 +341,15 @@ finished_as : (k : Kind) (c : RegionCoverer) (a : Area) (allowance : ℕ) (l l' 
 finished_as k c a allowance l l' steps steps' aside aside' e d f F = rw (← e, ← d, ← f) F
 
 pub answered_done : (k : Kind) (c : RegionCoverer) (a : Area) (allowance : ℕ) (r : Answer) (mem mem' out out' : List ℕ)
-    → Answered (result_of k c a allowance (length mem) (length out)) r mem mem' out out' → r.number ≡ 0 → Done k c a allowance (length mem) r out'
+    → Answered (result_of k c a allowance (length mem) (length out)) (Ok r) mem mem' out out' → Done k c a allowance (length mem) r out'
 unfolding result_of
-answered_done k c a allowance r mem mem' out out' A z =
+answered_done k c a allowance r mem mem' out out' A =
     let R = result_of k c a allowance (length mem) (length out) in
-    let w = (when_done k c a allowance (length mem) (length out)).0 (sym (ap (λ (a : Answer). a.number) A.answer) ∙ z) in
+    let w = (when_done k c a allowance (length mem) (length out)).0 (sym (ap number_told A.answer)) in
     let l = w.1.0 in
     let e : R ≡ fitted (length out) l w.1.1 w.1.2 = first_passed c a (length mem) (comes_to k c a allowance (length out)) w.0 ∙ finished_comes c a allowance (length out) k l w.1.1 w.1.2 w.1.3 in
     let f = fitted_done (length out) l w.1.1 w.1.2 out w.1.4 in
-    let d : r ≡ record { number = 0; count = length l; steps = w.1.1; aside = w.1.2 } = A.answer ∙ ap answer_of e ∙ f.0 in
+    let d : r ≡ record { count = length l; steps = w.1.1; aside = w.1.2 } = ap values_told (A.answer ∙ ap answer_of e ∙ f.0) in
     let t : l ≡ take r.count out' = sym (ap (λ (a : Answer). take a.count out') d ∙ ap (take (length l)) (A.output ∙ ap (λ (W : Result). output_after W out) e) ∙ f.1) in
     record {
       valid = early_none c a (length mem) (early_given c a (length mem) (Ok tt) w.0);

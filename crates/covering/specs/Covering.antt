@@ -1,7 +1,8 @@
 -- The public answers (paper 01, "Request numbers"): what each request comes to, and what stands in the working memory and in the output afterwards.
 -- Quoted lines are the paper's words.
-use Rattle.std.specs.Prelude.{◌≡◌, Bool, true, false, Option, Some, None, List, ◌++◌, ℕ, leb, length, drop, Ok, Err}
-use Rattle.refusal.specs.Refusal.{number_of}
+use Rattle.std.specs.Prelude.{◌≡◌, Bool, true, false, List, ◌++◌, ℕ, leb, length, drop, Option, Some, None, Ok, Err}
+use Rattle.std.specs.Prelude as Std
+use Rattle.refusal.specs.declared.Refusal.{Refusal}
 use Rattle.region.specs.Region.{Area, bound_of}
 use Rattle.cellunion.specs.CellUnion.{normalise}
 use Rattle.denorm.specs.Denorm.{denormalise}
@@ -22,21 +23,20 @@ use Rattle.covering.specs.declared.Kind.{Kind}
 
 -- ---- what a request comes to
 
--- barred with a number, before anything is touched; refused with a number, when the working memory has been used; or a list with the number of steps and the
--- set-aside totals
+-- barred, before anything is touched; refused, when the working memory has been used; or a list with the number of steps and the set-aside totals
 pub data Result : Type 0 where
-  barred : ℕ → Result
-  refused : ℕ → Result
+  barred : Refusal → Result
+  refused : Refusal → Result
   done : List ℕ → ℕ → Totals → Result
 
 -- 10: "the finished list is longer than the output"
 unfoldable pub fitted : ℕ → List ℕ → ℕ → Totals → Result
-fitted room l steps aside = elim (leb (length l) room) [ true ↦ done l steps aside | false ↦ refused 10 ]
+fitted room l steps aside = elim (leb (length l) room) [ true ↦ done l steps aside | false ↦ refused Refusal.ListTooLong ]
 
 -- 1 to 6 and 14 come before anything else
 unfoldable pub checked : Bar → Result → Result
 checked (Ok u) R = R
-checked (Err r) R = barred (number_of r)
+checked (Err r) R = barred r
 
 -- the list that is asked for: the raw result list in the order kept, the normalised one, or the final one ("`covering` and `interior_covering` do both")
 unfoldable pub list_of : Ending → RegionCoverer → List ℕ → List ℕ
@@ -46,7 +46,7 @@ list_of Ending.Covering c raw = denormalise c.min_level c.level_mod (normalise r
 
 -- 7, 8 and 9 "come as the run meets them"
 unfoldable pub ended_as : Ending → RegionCoverer → ℕ → Outcome → Result
-ended_as e c room (Run.refused r) = refused (number_of r)
+ended_as e c room (Run.refused r) = refused r
 ended_as e c room (Run.going s) = fitted room (list_of e c (raw_ids s)) s.steps (aside_six s)
 
 -- what is asked of the run
@@ -69,30 +69,32 @@ result_of k c a allowance memory room = checked (bar_of c a memory) (comes_to k 
 
 -- ---- what the caller sees
 
--- "Each refusal returns its number, count 0, steps 0, set-aside 0": "six zeros"
-abbrev pub refusal : ℕ → Answer
-refusal n = record { number = n; count = 0; steps = 0; aside = no_totals }
+-- a refusal; or "Success returns count, steps and set-aside"
+unfoldable pub answer_of : Result → Std.Result Answer Refusal
+answer_of (barred r) = Err r
+answer_of (refused r) = Err r
+answer_of (done l steps aside) = Ok (record { count = length l; steps = steps; aside = aside })
 
--- "Success returns count, steps and set-aside"; its number is 0
-unfoldable pub answer_of : Result → Answer
-answer_of (barred n) = refusal n
-answer_of (refused n) = refusal n
-answer_of (done l steps aside) = record { number = 0; count = length l; steps = steps; aside = aside }
+-- the values for those who see the number beside them, 0 for a success (refusal's `number_told`): "Each refusal returns its number, count 0, steps 0, set-aside 0",
+-- "six zeros"
+abbrev pub values_told : Std.Result Answer Refusal → Answer
+values_told (Ok a) = a
+values_told (Err r) = record { count = 0; steps = 0; aside = no_totals }
 
 -- "the output unchanged"; "the list in the output's first places, the rest of the output unchanged"
 unfoldable pub output_after : Result → List ℕ → List ℕ
-output_after (barred n) out = out
-output_after (refused n) out = out
+output_after (barred r) out = out
+output_after (refused r) out = out
 output_after (done l steps aside) out = l ++ drop (length l) out
 
 -- 1 to 6 and 14: "unchanged"; 7 to 10 and success: the words of a run, 5,120, are zero; working memory past them "never changes"
 unfoldable pub memory_after : Result → List ℕ → List ℕ
-memory_after (barred n) mem = mem
-memory_after (refused n) mem = cleared 0 memory_words mem
+memory_after (barred r) mem = mem
+memory_after (refused r) mem = cleared 0 memory_words mem
 memory_after (done l steps aside) mem = cleared 0 memory_words mem
 
 -- what every public function ensures of its answer, the working memory and the output
-pub record Answered (R : Result) (r : Answer) (mem mem' out out' : List ℕ) : Type 0 where
+pub record Answered (R : Result) (r : Std.Result Answer Refusal) (mem mem' out out' : List ℕ) : Type 0 where
   pub answer : r ≡ answer_of R
   pub memory : mem' ≡ memory_after R mem
   pub output : out' ≡ output_after R out
@@ -106,6 +108,6 @@ left_by Ending.CellUnion count ids = normalised count ids
 left_by Ending.Covering count ids = normalised count ids
 
 -- the answer to a list that was laid over the output, or had no room there
-unfoldable pub answer_laid : Option ℕ → ℕ → Totals → Answer
-answer_laid (Some count) steps aside = record { number = 0; count = count; steps = steps; aside = aside }
-answer_laid None steps aside = refusal 10
+abbrev pub answer_laid : Option ℕ → ℕ → Totals → Std.Result Answer Refusal
+answer_laid (Some count) steps aside = Ok (record { count = count; steps = steps; aside = aside })
+answer_laid None steps aside = Err Refusal.ListTooLong

@@ -1,5 +1,5 @@
-// The public answers of the region coverer. Every function takes any numbers, any region with any lent list, any lent memory and output, and asks nothing of
-// the caller: levels, region, memory and allowance are checked here. A refusal is one of paper 01's numbers; it leaves the output unchanged.
+// The public answers of the region coverer. Every function takes any numbers, any region, any lent memory and output, and asks nothing of the caller: levels,
+// region, memory and allowance are checked here. A refusal is one of paper 01's; it leaves the output unchanged.
 #![tactic(auto)]
 
 ghost use Rattle.std.specs.Prelude.{◌≤◌, ◌<◌, ◌≡◌, length, take, Ok};
@@ -7,9 +7,7 @@ ghost use Rattle.cellid.specs.CellId.{Cell};
 ghost use Rattle.order.specs.Order.{All};
 ghost use Rattle.cellunion.specs.Memory.{room_for, laid_over};
 ghost use Rattle.bars.specs.Bars.{bar_of};
-ghost use Rattle.covering.specs.declared.Kind.{Kind};
-ghost use Rattle.covering.specs.declared.Ending.{Ending};
-ghost use Rattle.covering.specs.Covering.{refusal, fitted, list_of, ran_of, ended_as, left_by, answer_laid, comes_to, result_of, Answered};
+ghost use Rattle.covering.specs.Covering.{values_told, fitted, list_of, ran_of, ended_as, left_by, answer_laid, comes_to, result_of, Answered};
 ghost use Rattle.covering.specs.Watch.{Watched};
 ghost use Rattle.fast.specs.Memory.{fast_covering_for};
 ghost use Rattle.region.specs.Region.{area_of, bound_of};
@@ -25,14 +23,25 @@ use region::Region;
 use run::{MEMORY_WORDS, QUEUE_WORDS, RegionCoverer, Request};
 use totals::Totals;
 
-// The answer's number and values: 0 for a success, else paper 01's number of the refusal; how many ids stand in the output's first places, how many steps the
-// run took, how many leaves it set aside under each start cell. A refusal has zeros there.
+// An answer's values: how many ids stand in the output's first places, how many steps the run took, how many leaves it set aside under each start cell.
 #[derive(Clone, Copy, PartialEq)]
 pub struct Answer {
-    pub number: u64,
     pub count: usize,
     pub steps: u32,
     pub aside: Totals,
+}
+
+impl Answer {
+    // The values that are told of an answer: of a refusal zeros.
+    pub fn told(answer: Result<Answer, Refusal>) -> Answer
+        ensures { result ≡ values_told answer }
+    {
+        answer.unwrap_or(Answer {
+            count: 0,
+            steps: 0,
+            aside: Totals::NONE,
+        })
+    }
 }
 
 // Which list of a run a request asks for: the raw one, in the order kept, the normalised one, or the final one.
@@ -49,18 +58,6 @@ pub enum Kind {
     Outer(Ending),
     Inner(Ending),
     Fast,
-}
-
-// A refusal's values.
-fn refuse(number: u64) -> Answer
-    ensures { result ≡ refusal number }
-{
-    Answer {
-        number,
-        count: 0,
-        steps: 0,
-        aside: Totals::NONE,
-    }
 }
 
 // Lays the list that is asked for over the output's first places, made of the first `count` ids, in place.
@@ -96,17 +93,16 @@ fn clear_front(mem: &mut [u64])
 }
 
 // The answer to a list that was laid, or had no room.
-fn laid_answer(laid: Option<usize>, steps: u32, aside: Totals) -> Answer
+fn laid_answer(laid: Option<usize>, steps: u32, aside: Totals) -> Result<Answer, Refusal>
     ensures { result ≡ answer_laid laid steps aside }
 {
     match laid {
-        Some(count) => Answer {
-            number: 0,
+        Some(count) => Ok(Answer {
             count,
             steps,
             aside,
-        },
-        None => refuse(10),
+        }),
+        None => Err(Refusal::ListTooLong),
     }
 }
 
@@ -133,19 +129,17 @@ fn run_from_starts(
 fn finish(
     e: Ending,
     c: RegionCoverer,
-    count: usize,
-    steps: u32,
-    aside: Totals,
+    ran: Ran,
     mem: &mut [u64],
     out: &mut [u64],
-) -> Answer
-    requires memory_words_in_bounds { (memory_words ≤ length mem.old) × (count ≤ raw_most) × All Cell (words_at queue_words count mem.old) × (c.min_level ≤ 30) × (0 < c.level_mod) }
-    requires mem_value { mem.old ≡ only_words queue_words memory_words (words_at queue_words count mem.old) mem.old }
-    ensures { Answered (fitted (length out.old) (list_of e c (words_at queue_words count mem.old)) steps aside) result mem.old mem.new out.old out.new }
+) -> Result<Answer, Refusal>
+    requires memory_words_in_bounds { (memory_words ≤ length mem.old) × (ran.count ≤ raw_most) × All Cell (words_at queue_words ran.count mem.old) × (c.min_level ≤ 30) × (0 < c.level_mod) }
+    requires mem_value { mem.old ≡ only_words queue_words memory_words (words_at queue_words ran.count mem.old) mem.old }
+    ensures { Answered (fitted (length out.old) (list_of e c (words_at queue_words ran.count mem.old)) ran.steps ran.aside) result mem.old mem.new out.old out.new }
 {
-    let laid = lay_list(e, c, &mut mem[QUEUE_WORDS..], count, out);
-    cellunion::clear(mem, QUEUE_WORDS, QUEUE_WORDS + count);
-    laid_answer(laid, steps, aside)
+    let laid = lay_list(e, c, &mut mem[QUEUE_WORDS..], ran.count, out);
+    cellunion::clear(mem, QUEUE_WORDS, QUEUE_WORDS + ran.count);
+    laid_answer(laid, ran.steps, ran.aside)
 }
 
 // The run of a request that is not barred, and the list that it asks for.
@@ -158,18 +152,21 @@ fn run_and_finish(
     allowance: u32,
     mem: &mut [u64],
     out: &mut [u64],
-) -> Answer
+) -> Result<Answer, Refusal>
     requires { bar_of c (area_of g) (length mem.old) ≡ Ok tt }
     ensures { Answered (ended_as e c (length out.old) (ran_of inner c (area_of g.entry) allowance)) result mem.old mem.new out.old out.new }
 {
-    match run_from_starts(engine, inner, c, g, allowance, mem) {
-        Err(late) => refuse(late.number()),
-        Ok(ran) => finish(e, c, ran.count, ran.steps, ran.aside, mem, out),
-    }
+    let ran = run_from_starts(engine, inner, c, g, allowance, mem)?;
+    finish(e, c, ran, mem, out)
 }
 
 // The quick covering of a request that is not barred.
-fn lay_fast(c: RegionCoverer, g: Region<'_>, mem: &mut [u64], out: &mut [u64]) -> Answer
+fn lay_fast(
+    c: RegionCoverer,
+    g: Region<'_>,
+    mem: &mut [u64],
+    out: &mut [u64],
+) -> Result<Answer, Refusal>
     requires { bar_of c (area_of g) (length mem.old) ≡ Ok tt }
     ensures { Answered (fitted (length out.old) (fast_covering_for c (bound_of (area_of g.entry))) 0 no_totals) result mem.old mem.new out.old out.new }
 {
@@ -187,7 +184,7 @@ fn come_to(
     allowance: u32,
     mem: &mut [u64],
     out: &mut [u64],
-) -> Answer
+) -> Result<Answer, Refusal>
     requires { bar_of c (area_of g) (length mem.old) ≡ Ok tt }
     ensures { Answered (comes_to kind c (area_of g.entry) allowance (length out.old)) result mem.old mem.new out.old out.new }
 {
@@ -198,8 +195,9 @@ fn come_to(
     }
 }
 
-// A request of any kind, its run by either engine: the functions below are its cases under the Rust's names, by the quick engine. The quick covering takes no steps,
-// and neither the allowance nor the engine matters to it.
+// A request of any kind, its run by either engine. `Outer(Covering)` gives cells of levels min_level to max_level, in whole steps of level_mod, that cover the
+// region as the outer run does, `Inner(Covering)` such cells inside it; of the lists that are only normalised, and of the raw ones, nothing is promised of levels.
+// The quick covering comes from the region's bound alone and takes no steps: neither the allowance nor the engine matters to it.
 pub fn respond(
     engine: Engine,
     kind: Kind,
@@ -208,147 +206,11 @@ pub fn respond(
     allowance: u32,
     mem: &mut [u64],
     out: &mut [u64],
-) -> Answer
+) -> Result<Answer, Refusal>
     ensures { Answered (result_of kind c (area_of g.entry) allowance (length mem.old) (length out.old)) result mem.old mem.new out.old out.new }
 {
-    let first = bars::first_refusal(c, g, mem.len());
-    match first {
-        Ok(()) => come_to(engine, kind, c, g, allowance, mem, out),
-        Err(refusal) => refuse(refusal.number()),
-    }
-}
-
-// A covering: cells of levels min_level to max_level, in whole steps of level_mod, that cover the region as the outer run does.
-pub fn covering(
-    c: RegionCoverer,
-    g: Region<'_>,
-    allowance: u32,
-    mem: &mut [u64],
-    out: &mut [u64],
-) -> Answer
-    ensures { Answered (result_of (Kind.Outer Ending.Covering) c (area_of g.entry) allowance (length mem.old) (length out.old)) result mem.old mem.new out.old out.new }
-{
-    respond(
-        Engine::Quick,
-        Kind::Outer(Ending::Covering),
-        c,
-        g,
-        allowance,
-        mem,
-        out,
-    )
-}
-
-// The outer run's raw list, normalised; nothing is promised of levels.
-pub fn cellunion(
-    c: RegionCoverer,
-    g: Region<'_>,
-    allowance: u32,
-    mem: &mut [u64],
-    out: &mut [u64],
-) -> Answer
-    ensures { Answered (result_of (Kind.Outer Ending.CellUnion) c (area_of g.entry) allowance (length mem.old) (length out.old)) result mem.old mem.new out.old out.new }
-{
-    respond(
-        Engine::Quick,
-        Kind::Outer(Ending::CellUnion),
-        c,
-        g,
-        allowance,
-        mem,
-        out,
-    )
-}
-
-// The outer run's raw list, in the order kept.
-pub fn raw(
-    c: RegionCoverer,
-    g: Region<'_>,
-    allowance: u32,
-    mem: &mut [u64],
-    out: &mut [u64],
-) -> Answer
-    ensures { Answered (result_of (Kind.Outer Ending.Raw) c (area_of g.entry) allowance (length mem.old) (length out.old)) result mem.old mem.new out.old out.new }
-{
-    respond(
-        Engine::Quick,
-        Kind::Outer(Ending::Raw),
-        c,
-        g,
-        allowance,
-        mem,
-        out,
-    )
-}
-
-// Cells inside the region, of levels min_level to max_level in whole steps of level_mod.
-pub fn interior_covering(
-    c: RegionCoverer,
-    g: Region<'_>,
-    allowance: u32,
-    mem: &mut [u64],
-    out: &mut [u64],
-) -> Answer
-    ensures { Answered (result_of (Kind.Inner Ending.Covering) c (area_of g.entry) allowance (length mem.old) (length out.old)) result mem.old mem.new out.old out.new }
-{
-    respond(
-        Engine::Quick,
-        Kind::Inner(Ending::Covering),
-        c,
-        g,
-        allowance,
-        mem,
-        out,
-    )
-}
-
-// The inner run's raw list, normalised; nothing is promised of levels.
-pub fn interior_cellunion(
-    c: RegionCoverer,
-    g: Region<'_>,
-    allowance: u32,
-    mem: &mut [u64],
-    out: &mut [u64],
-) -> Answer
-    ensures { Answered (result_of (Kind.Inner Ending.CellUnion) c (area_of g.entry) allowance (length mem.old) (length out.old)) result mem.old mem.new out.old out.new }
-{
-    respond(
-        Engine::Quick,
-        Kind::Inner(Ending::CellUnion),
-        c,
-        g,
-        allowance,
-        mem,
-        out,
-    )
-}
-
-// The inner run's raw list, in the order kept.
-pub fn interior_raw(
-    c: RegionCoverer,
-    g: Region<'_>,
-    allowance: u32,
-    mem: &mut [u64],
-    out: &mut [u64],
-) -> Answer
-    ensures { Answered (result_of (Kind.Inner Ending.Raw) c (area_of g.entry) allowance (length mem.old) (length out.old)) result mem.old mem.new out.old out.new }
-{
-    respond(
-        Engine::Quick,
-        Kind::Inner(Ending::Raw),
-        c,
-        g,
-        allowance,
-        mem,
-        out,
-    )
-}
-
-// The quick, coarse covering from the region's bound alone, with no run and 0 steps.
-pub fn fast_covering(c: RegionCoverer, g: Region<'_>, mem: &mut [u64], out: &mut [u64]) -> Answer
-    ensures { Answered (result_of Kind.Fast c (area_of g.entry) 0 (length mem.old) (length out.old)) result mem.old mem.new out.old out.new }
-{
-    respond(Engine::Quick, Kind::Fast, c, g, 0, mem, out)
+    bars::first_refusal(c, g, mem.len())?;
+    come_to(engine, kind, c, g, allowance, mem, out)
 }
 
 // The run of a request that is not barred, from its start cells, as it stands after so many steps.
@@ -360,17 +222,14 @@ fn watch_from_starts(
     steps: u32,
     mem: &mut [u64],
     out: &mut [u64],
-) -> Result<Seen, u64>
+) -> Result<Seen, Refusal>
     requires { bar_of c (area_of g) (length mem.old) ≡ Ok tt }
     ensures { Watched inner c (area_of g.entry) steps result mem.old mem.new out.old out.new }
 {
     let starts = fast::starts(c, g, mem);
     let q = Request { coverer: c, inner };
     let ids = starts.ids;
-    match coverer::watch(engine, mem, q, g, ids, starts.count, steps, out) {
-        Ok(seen) => Ok(seen),
-        Err(late) => Err(late.number()),
-    }
+    coverer::watch(engine, mem, q, g, ids, starts.count, steps, out)
 }
 
 // A request's run as it stands after so many steps, or where its queue is empty before, by either engine: in the output's first places the kept ids, in the
@@ -384,12 +243,9 @@ pub fn watch(
     steps: u32,
     mem: &mut [u64],
     out: &mut [u64],
-) -> Result<Seen, u64>
+) -> Result<Seen, Refusal>
     ensures { Watched inner c (area_of g.entry) steps result mem.old mem.new out.old out.new }
 {
-    let first = bars::first_refusal(c, g, mem.len());
-    match first {
-        Ok(()) => watch_from_starts(engine, inner, c, g, steps, mem, out),
-        Err(refusal) => Err(refusal.number()),
-    }
+    bars::first_refusal(c, g, mem.len())?;
+    watch_from_starts(engine, inner, c, g, steps, mem, out)
 }

@@ -11,6 +11,7 @@ use lib.ListN.{length, take, drop, get_or, length-append, length-drop, take-appe
 use lib.Seq.{take_at, drop_at, drop-drop, length-take-le, take-add, append_snoc}
 use borrow.Author.Tests.{ltb-true}
 use Rattle.refusal.specs.declared.Refusal.{Refusal}
+use Rattle.refusal.specs.Refusal.{number_told}
 use Rattle.cellunion.specs.Memory.{zeros, laid}
 use Rattle.cellunion.proofs.Memory.{laid_nil, length_laid, laid_append, laid_start, length_zeros}
 use Rattle.std.specs.Prelude.{Ok, Err}
@@ -21,7 +22,7 @@ use Rattle.run.specs.declared.RegionCoverer.{RegionCoverer}
 use Rattle.run.specs.Run.{memory_words}
 use Rattle.run.proofs.Lists.{if_ok}
 use Rattle.covering.specs.declared.Answer.{Answer}
-use Rattle.covering.specs.Covering.{Result, barred, refused, done, checked, result_of, answer_of, memory_after, output_after}
+use Rattle.covering.specs.Covering.{Result, barred, refused, done, checked, result_of, answer_of, values_told, memory_after, output_after}
 use Rattle.covering.proofs.Table.{refusal_values}
 use Rattle.orders.specs.declared.Order.{Order}
 use Rattle.orders.specs.Orders.{area_for, result_for, result_at, with_answer, list_in, laid_from, After, before, serve_all, night_answer, night_of, NightOver}
@@ -35,7 +36,7 @@ abbrev Appended : (xs zs : List Order) (mem out : List ℕ) (used : ℕ) → Typ
 Appended xs zs mem out used = let a = serve_all xs mem out used in serve_all (xs ++ zs) mem out used ≡ before a.orders (serve_all zs a.memory a.output (used + places_of a.orders))
 
 append_more : (o : Order) (xs zs : List Order) (mem out : List ℕ) (used : ℕ) → let R = result_at o mem out used in
-    Appended xs zs (memory_after R mem) (laid_from used R out) (used + (answer_of R).count) → Appended (o ∷ xs) zs mem out used
+    Appended xs zs (memory_after R mem) (laid_from used R out) (used + (values_told (answer_of R)).count) → Appended (o ∷ xs) zs mem out used
 unfolding places_of
 append_more o xs zs mem out used h =
     rw (serve_one o (xs ++ zs) mem out used, serve_one o xs mem out used) (ap (before (with_answer o (answer_of (result_at o mem out used)) ∷ [])) h ∙ rw add_assoc)
@@ -110,11 +111,11 @@ laid_all (o ∷ os) mem out used h =
     let mem' = memory_after R mem in
     let out' = laid_from used R out in
     let m : length mem' ≡ length mem = memory_long o mem (length out - used) in
-    let f : used + (answer_of R).count ≤ length out = omega (arith, takes_room o (length mem) (length out - used)) in
-    let r : length out' - (used + (answer_of R).count) ≡ (length out - used) - length (list_in R) = omega (arith, laid_long o mem out used h, count_is R) in
+    let f : used + (values_told (answer_of R)).count ≤ length out = omega (arith, takes_room o (length mem) (length out - used)) in
+    let r : length out' - (used + (values_told (answer_of R)).count) ≡ (length out - used) - length (list_in R) = omega (arith, laid_long o mem out used h, count_is R) in
     rw (serve_one o os mem out used)
     (laid_more (with_answer o (answer_of R)) _ mem mem' out out' (list_in R) _ used m (laid_is R used out) (count_is R) (omega (arith, count_is R))
-    (rw (ap₂ (lists_of os) m r) at (laid_all os mem' out' (used + (answer_of R).count) (omega (arith, laid_long o mem out used h)))))
+    (rw (ap₂ (lists_of os) m r) at (laid_all os mem' out' (used + (values_told (answer_of R)).count) (omega (arith, laid_long o mem out used h)))))
 
 -- "one behind another in one output": the lists lie end to end from the output's first place on, and what is behind them is as it was
 pub end_to_end : (os : List Order) (mem out : List ℕ) → let l = lists_of os (length mem) (length out) in ((serve_all os mem out 0).output ≡ l ++ drop (length l) out) × (places_of (serve_all os mem out 0).orders ≡ length l)
@@ -146,7 +147,7 @@ module _ (xs : List Order) (o : Order) (mem out : List ℕ) where
   its = result_for o (length mem) (length out - begins xs mem out)
 
   among : (ys : List Order) → serve_all (xs ++ (o ∷ ys)) mem out 0 ≡ before (ahead xs mem out).orders
-      (before (with_answer o (answer_of its) ∷ []) (serve_all ys (memory_after its (ahead xs mem out).memory) (laid_from (begins xs mem out) its (ahead xs mem out).output) (begins xs mem out + (answer_of its).count)))
+      (before (with_answer o (answer_of its) ∷ []) (serve_all ys (memory_after its (ahead xs mem out).memory) (laid_from (begins xs mem out) its (ahead xs mem out).output) (begins xs mem out + (values_told (answer_of its)).count)))
   among ys = serve_append xs (o ∷ ys) mem out 0 ∙ rw (zero-add, serve_one, words xs mem out, long xs mem out)
 
   once : ahead (xs ++ (o ∷ [])) mem out
@@ -154,7 +155,7 @@ module _ (xs : List Order) (o : Order) (mem out : List ℕ) where
   unfolding serve_all
   once = among []
 
-  its_next : begins (xs ++ (o ∷ [])) mem out ≡ begins xs mem out + (answer_of its).count
+  its_next : begins (xs ++ (o ∷ [])) mem out ≡ begins xs mem out + (values_told (answer_of its)).count
   unfolding places_of
   its_next = rw once (places_append (ahead xs mem out).orders (with_answer o (answer_of its) ∷ []) ∙ rw add-zero)
 
@@ -185,12 +186,12 @@ alone xs o ys mem out = record {
 }
 
 -- what a refusal has by its own public function, it has here
-pub refused_takes_none : {xs : List Order} {o : Order} {ys : List Order} {mem out : List ℕ} (A : Alone xs o ys mem out) → 0 < A.answer.number → NoneTaken xs o mem out A.answer
+pub refused_takes_none : {xs : List Order} {o : Order} {ys : List Order} {mem out : List ℕ} (A : Alone xs o ys mem out) → 0 < number_told A.answer → NoneTaken xs o mem out A.answer
 refused_takes_none {xs} {o} {ys} {mem} {out} A h =
     let at = begins xs mem out in
     let v = refusal_values (its xs o mem out) (drop at (ahead xs mem out).output) (rw A.called.answer at h) in
-    let e = A.called.answer ∙ v.0 in
-    let c : A.answer.count ≡ 0 = ap (λ (a : Answer). a.count) e in
+    let e = ap values_told A.called.answer ∙ v.0 in
+    let c : (values_told A.answer).count ≡ 0 = ap (λ (a : Answer). a.count) e in
     record {
       count = c;
       steps = ap (λ (a : Answer). a.steps) e;
@@ -203,7 +204,7 @@ refused_takes_none {xs} {o} {ys} {mem} {out} A h =
 part : (at c : ℕ) (l : List ℕ) → at ≤ length l → drop at (take (at + c) l) ≡ take c (drop at l)
 part at c l h = rw take-add (drop_at (take at l) (take c (drop at l)) at (length-take-le at l h))
 
-stands_in : (R : Result) (at : ℕ) (d d' e : List ℕ) → at ≤ length d' → at ≤ length e → drop at d' ≡ output_after R (drop at d) → take (at + (answer_of R).count) e ≡ take (at + (answer_of R).count) d'
+stands_in : (R : Result) (at : ℕ) (d d' e : List ℕ) → at ≤ length d' → at ≤ length e → drop at d' ≡ output_after R (drop at d) → take (at + (values_told (answer_of R)).count) e ≡ take (at + (values_told (answer_of R)).count) d'
     → drop at e ≡ output_after R (drop at e)
 unfolding answer_of output_after
 stands_in (barred n) at d d' e h g f t = refl
@@ -225,12 +226,11 @@ stands {xs} {o} {ys} {mem} {out} A = record {
 
 -- ---- the records
 
-answered_kept : (o : Order) (a : Answer) → Kept o (with_answer o a)
+answered_kept : (o : Order) (a : Std.Result Answer Refusal) → Kept o (with_answer o a)
 answered_kept o a = record { fast = refl; inner = refl; cell = refl; id = refl; cap = refl; coverer = refl; allowance = refl }
 
--- a record is what it is with its own answer written into it
 same_kept : (o : Order) → Kept o o
-same_kept o = answered_kept o (record { number = o.number; count = o.count; steps = o.steps; aside = o.aside })
+same_kept o = record { fast = refl; inner = refl; cell = refl; id = refl; cap = refl; coverer = refl; allowance = refl }
 
 pub served_long : (os : List Order) (mem out : List ℕ) (used : ℕ) → length (serve_all os mem out used).orders ≡ length os
 unfolding serve_all

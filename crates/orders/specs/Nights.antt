@@ -4,7 +4,7 @@ use Rattle.std.specs.Prelude as Std
 use Rattle.refusal.specs.declared.Refusal.{Refusal}
 use Rattle.totals.specs.Totals.{no_totals}
 use Rattle.covering.specs.declared.Answer.{Answer}
-use Rattle.covering.specs.Covering.{Answered}
+use Rattle.covering.specs.Covering.{values_told, Answered}
 use Rattle.orders.specs.declared.Order.{Order}
 use Rattle.orders.specs.Orders.{result_for, with_answer, list_in, After, serve_all}
 
@@ -32,20 +32,20 @@ through xs o mem out = ahead (xs ++ (o ∷ [])) mem out
 -- "Each order must answer as if called alone with the room then left in the output": its public function, called with the memory as it then is and with what the lists
 -- before leave of the output, answers `answer`, and leaves that memory and that part of the output as they are once it is served
 pub record Alone (xs : List Order) (o : Order) (ys : List Order) (mem out : List ℕ) : Type 0 where
-  pub answer : Answer
+  pub answer : Std.Result Answer Refusal
   pub called : Answered (result_for o (length mem) (length out - begins xs mem out)) answer (ahead xs mem out).memory (through xs o mem out).memory (drop (begins xs mem out) (ahead xs mem out).output) (drop (begins xs mem out) (through xs o mem out).output)
   pub long : length (ahead xs mem out).memory ≡ length mem  -- the lengths that it is answered for are those of what it is lent
   pub room : length (drop (begins xs mem out) (ahead xs mem out).output) ≡ length out - begins xs mem out
-  pub written : (serve_all (xs ++ (o ∷ ys)) mem out 0).orders ≡ (ahead xs mem out).orders ++ (with_answer o answer ∷ (serve_all ys (through xs o mem out).memory (through xs o mem out).output (begins xs mem out + answer.count)).orders)
-  pub next : places_of (through xs o mem out).orders ≡ begins xs mem out + answer.count  -- "one behind another": the next list begins where this one ends
+  pub written : (serve_all (xs ++ (o ∷ ys)) mem out 0).orders ≡ (ahead xs mem out).orders ++ (with_answer o answer ∷ (serve_all ys (through xs o mem out).memory (through xs o mem out).output (begins xs mem out + (values_told answer).count)).orders)
+  pub next : places_of (through xs o mem out).orders ≡ begins xs mem out + (values_told answer).count  -- "one behind another": the next list begins where this one ends
   pub kept : take (begins xs mem out) (through xs o mem out).output ≡ take (begins xs mem out) (ahead xs mem out).output  -- the lists before it stay
-  pub last : take (begins xs mem out + answer.count) (serve_all (xs ++ (o ∷ ys)) mem out 0).output ≡ take (begins xs mem out + answer.count) (through xs o mem out).output  -- and so does its own, whatever is behind it
+  pub last : take (begins xs mem out + (values_told answer).count) (serve_all (xs ++ (o ∷ ys)) mem out 0).output ≡ take (begins xs mem out + (values_told answer).count) (through xs o mem out).output  -- and so does its own, whatever is behind it
 
 -- "A refused order takes no room and the next one runs": the next is answered (`Alone`) for the room that this one was answered for
-pub record NoneTaken (xs : List Order) (o : Order) (mem out : List ℕ) (answer : Answer) : Type 0 where
-  pub count : answer.count ≡ 0
-  pub steps : answer.steps ≡ 0
-  pub aside : answer.aside ≡ no_totals
+pub record NoneTaken (xs : List Order) (o : Order) (mem out : List ℕ) (answer : Std.Result Answer Refusal) : Type 0 where
+  pub count : (values_told answer).count ≡ 0
+  pub steps : (values_told answer).steps ≡ 0
+  pub aside : (values_told answer).aside ≡ no_totals
   pub next : places_of (through xs o mem out).orders ≡ begins xs mem out
   pub output : (through xs o mem out).output ≡ (ahead xs mem out).output
 
@@ -54,7 +54,7 @@ abbrev pub part_of : List Order → Order → List Order → List ℕ → List �
 part_of xs o ys mem out = drop (begins xs mem out) (serve_all (xs ++ (o ∷ ys)) mem out 0).output
 
 -- its public function, called on that part, would answer the same and leave it as it is
-pub record Stands (xs : List Order) (o : Order) (ys : List Order) (mem out : List ℕ) (answer : Answer) : Type 0 where
+pub record Stands (xs : List Order) (o : Order) (ys : List Order) (mem out : List ℕ) (answer : Std.Result Answer Refusal) : Type 0 where
   pub called : Answered (result_for o (length mem) (length out - begins xs mem out)) answer (ahead xs mem out).memory (through xs o mem out).memory (part_of xs o ys mem out) (part_of xs o ys mem out)
   pub room : length (part_of xs o ys mem out) ≡ length out - begins xs mem out
 

@@ -2,12 +2,13 @@
 use Rattle.std.specs.Prelude.{◌≡◌, Bool, true, false, List, [], ◌∷◌, ◌++◌, ℕ, ◌+◌, ◌-◌, ltb, length, take, drop, Ok, Err}
 use Rattle.std.specs.Prelude as Std
 use Rattle.refusal.specs.declared.Refusal.{Refusal}
+use Rattle.refusal.specs.Refusal.{number_told}
 use Rattle.cell.specs.declared.Cap.{Cap}
 use Rattle.region.specs.Region.{Area, cap_area, cell_area}
 use Rattle.covering.specs.declared.Answer.{Answer}
 use Rattle.covering.specs.declared.Ending.{Ending}
 use Rattle.covering.specs.declared.Kind.{Kind}
-use Rattle.covering.specs.Covering.{Result, barred, refused, done, result_of, answer_of, memory_after, output_after}
+use Rattle.covering.specs.Covering.{Result, barred, refused, done, result_of, answer_of, values_told, memory_after, output_after}
 use Rattle.orders.specs.declared.Order.{Order}
 
 -- ---- one order
@@ -32,12 +33,12 @@ abbrev pub result_at : Order → List ℕ → List ℕ → ℕ → Result
 result_at o mem out used = result_for o (length mem) (length out - used)
 
 -- "with count, steps, set-aside and answer number written into each record and nothing else in it changed"
-abbrev pub with_answer : Order → Answer → Order
+abbrev pub with_answer : Order → Std.Result Answer Refusal → Order
 with_answer o a = record {
-  number = a.number;
-  count = a.count;
-  steps = a.steps;
-  aside = a.aside;
+  number = number_told a;
+  count = (values_told a).count;
+  steps = (values_told a).steps;
+  aside = (values_told a).aside;
   fast = o.fast;
   inner = o.inner;
   cell = o.cell;
@@ -91,7 +92,7 @@ pub record NightOver (os os' : List Order) (mem mem' out out' : List ℕ) (r : S
   pub output : out' ≡ (night_of os mem out).output
 
 -- what is ensured of one order, for the function that serves it
-pub record Served (o : Order) (used : ℕ) (r : Answer) (mem mem' out out' : List ℕ) : Type 0 where
+pub record Served (o : Order) (used : ℕ) (r : Std.Result Answer Refusal) (mem mem' out out' : List ℕ) : Type 0 where
   pub answer : r ≡ answer_of (result_at o mem out used)
   pub memory : mem' ≡ memory_after (result_at o mem out used) mem
   pub output : out' ≡ laid_from used (result_at o mem out used) out

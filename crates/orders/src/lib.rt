@@ -61,7 +61,7 @@ impl Order {
     }
 
     // Serves the order: its list goes behind the places of the output that are taken.
-    fn serve(self, used: usize, mem: &mut [u64], out: &mut [u64]) -> Answer
+    fn serve(self, used: usize, mem: &mut [u64], out: &mut [u64]) -> Result<Answer, Refusal>
         requires { used ≤ length out.old }
         ensures { Served self used result mem.old mem.new out.old out.new }
     {
@@ -80,14 +80,15 @@ impl Order {
     }
 
     // With its answer written into it.
-    fn answered(self, a: Answer) -> Order
+    fn answered(self, a: Result<Answer, Refusal>) -> Order
         ensures { result ≡ with_answer self a }
     {
+        let values = Answer::told(a);
         Order {
-            number: a.number,
-            count: a.count,
-            steps: a.steps,
-            aside: a.aside,
+            number: refusal::number(a),
+            count: values.count,
+            steps: values.steps,
+            aside: values.aside,
             ..self
         }
     }
@@ -104,7 +105,7 @@ pub fn night(orders: &mut [Order], mem: &mut [u64], out: &mut [u64]) -> Result<(
     for order in orders.iter_mut() {
         let a = order.serve(used, mem, out);
         *order = order.answered(a);
-        used += a.count;
+        used += order.count;
     }
     Ok(())
 }

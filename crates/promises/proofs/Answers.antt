@@ -1,4 +1,5 @@
 -- The promises for the public functions, from their contracts.
+use Rattle.std.specs.Prelude.{Ok}
 use mathlib.Core.Path.{◌≡◌, refl, sym, ap, ◌∙◌, subst}
 use mathlib.Core.Bool.{Bool, true, false}
 use mathlib.Core.List.{List, [], ◌∷◌}
@@ -172,7 +173,7 @@ module _ (c : RegionCoverer) (a : Area) (allowance memory : ℕ) (v : Valid c a 
 -- ---- the theorem for the public functions: each ensures `Answered` of its kind
 
 pub keeps : (k : Kind) (c : RegionCoverer) (a : Area) (allowance : ℕ) (r : Answer) (mem mem' out out' : List ℕ)
-    → Answered (result_of k c a allowance (length mem) (length out)) r mem mem' out out' → r.number ≡ 0 → Promised k c a allowance r out'
-keeps k c a allowance r mem mem' out out' A z =
-    let d = answered_done k c a allowance r mem mem' out out' A z in
+    → Answered (result_of k c a allowance (length mem) (length out)) (Ok r) mem mem' out out' → Promised k c a allowance r out'
+keeps k c a allowance r mem mem' out out' A =
+    let d = answered_done k c a allowance r mem mem' out out' A in
     done c a allowance (length mem) d.valid r out' d.counted k d.finished

@@ -1,4 +1,4 @@
--- The promises for the public functions: from "the function answered with the number 0" to demand 3 about the first `count` words of the output. What a function
+-- The promises for the public functions: from "the function answered, and didn't refuse" to demand 3 about the first `count` words of the output. What a function
 -- answered, and what stands in the output, is said by its contract (`Answered` of the crate covering).
 use Rattle.std.specs.Prelude.{◌≡◌, true, false, List, ℕ, ◌+◌, ◌*◌, ◌^◌, ◌≤◌, ◌<◌, length, take, get_or}
 use Rattle.cellid.specs.CellId.{level_of}
@@ -23,7 +23,7 @@ use Rattle.promises.specs.Promises.{OnLevels, Outer, Inner}
 abbrev pub CoversAll : List ℕ → List ℕ → Type 0
 CoversAll l m = (n : ℕ) → covers l n ≡ true → covers m n ≡ true
 
--- an outer function answered r with success, with `out` as the output afterwards
+-- an outer function answered r, with `out` as the output afterwards
 pub record OuterDone (e : Ending) (c : RegionCoverer) (a : Area) (allowance : ℕ) (r : Answer) (out : List ℕ) : Type 0 where
   pub state : State
   pub ran : ran_of false c a allowance ≡ going state  -- demand 2's run

@@ -1,6 +1,7 @@
 -- The two engines, the quick one and the plain one: a request as one of them answered it. Paper 02: "It must give the same answer as the quick one on every request";
 -- "Same limits, same refusals, same working memory after it."
-use Rattle.std.specs.Prelude.{List, ℕ, length}
+use Rattle.std.specs.Prelude.{List, ℕ, length, Result}
+use Rattle.refusal.specs.declared.Refusal.{Refusal}
 use Rattle.region.specs.Region.{Area}
 use Rattle.run.specs.declared.RegionCoverer.{RegionCoverer}
 use Rattle.queue.specs.declared.Engine.{Engine}
@@ -19,7 +20,7 @@ pub record Posed : Type 0 where
 
 -- what a request left: the answer, the working memory and the output
 pub record Left : Type 0 where
-  pub answer : Answer
+  pub answer : Result Answer Refusal
   pub mem : List ℕ
   pub out : List ℕ
 

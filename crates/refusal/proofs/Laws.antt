@@ -3,6 +3,7 @@ use mathlib.Core.Path.{◌≡◌, refl, sym, ap, ◌∙◌}
 use mathlib.Core.Logic.{◌≢◌}
 use mathlib.Core.List.{[], ◌∷◌}
 use Prim.Native.Nat.{ℕ}
+use native.Mathlib.Omega.{arith}
 use lib.ListN.{get_or}
 use Rattle.refusal.specs.declared.Refusal.{Refusal}
 use Rattle.refusal.specs.Refusal.{number_of}
@@ -42,3 +43,25 @@ numbered_back Refusal.RangesTooLong h = refl
 
 pub same_refusal : (r s : Refusal) → number_of r ≢ 11 → number_of r ≡ number_of s → r ≡ s
 same_refusal r s h e = sym (numbered_back r h) ∙ ap numbered e ∙ numbered_back s (λ z. h (e ∙ z))
+
+-- and none has the number 0, a success's
+pub number_positive : (r : Refusal) → number_of r ≢ 0
+number_positive Refusal.MaxLevel z = absurd (omega arith)
+number_positive Refusal.MinLevel z = absurd (omega arith)
+number_positive Refusal.LevelMod z = absurd (omega arith)
+number_positive Refusal.MaxCells z = absurd (omega arith)
+number_positive Refusal.Region z = absurd (omega arith)
+number_positive Refusal.Memory z = absurd (omega arith)
+number_positive Refusal.QueueFull z = absurd (omega arith)
+number_positive Refusal.RawFull z = absurd (omega arith)
+number_positive Refusal.Allowance z = absurd (omega arith)
+number_positive Refusal.ListTooLong z = absurd (omega arith)
+number_positive Refusal.NamesTooLong z = absurd (omega arith)
+number_positive Refusal.TooManyOrders z = absurd (omega arith)
+number_positive Refusal.Edition z = absurd (omega arith)
+number_positive Refusal.FirstList z = absurd (omega arith)
+number_positive Refusal.SecondList z = absurd (omega arith)
+number_positive Refusal.SetTooLong z = absurd (omega arith)
+number_positive Refusal.NotRanges z = absurd (omega arith)
+number_positive Refusal.RangesTooLong z = absurd (omega arith)
+number_positive (Refusal.Malformed k) z = absurd (omega arith)

@@ -9,18 +9,19 @@ use native.Mathlib.Omega.{arith}
 use native.Mathlib.Nat.{zero-min, min-zero, suc-min-suc}
 use lib.ListN.{length, take, drop, length-append, length-take}
 use lib.Seq.{take-append_seam}
-use borrow.Author.Tests.{eq-eqb, ne_eqb}
+use Rattle.refusal.specs.declared.Refusal.{Refusal}
+use Rattle.refusal.specs.Refusal.{number_of}
 use Rattle.covering.specs.declared.Answer.{Answer}
 use Rattle.covering.specs.Covering as Covering
 use Rattle.covering.proofs.Table.{count_fits, Sound, result_sound}
-use Rattle.covering.specs.Covering.{barred, refused, done, result_of, answer_of, memory_after, output_after, Answered}
+use Rattle.covering.specs.Covering.{barred, refused, done, result_of, answer_of, values_told, memory_after, output_after, Answered}
 use Rattle.selftest.specs.declared.Tested.{Tested}
 use Rattle.text.specs.declared.Fault.{Fault}
 use Rattle.text.specs.declared.Read.{Read}
 use Rattle.text.specs.Text.{and_then, is_silent, list_after, start_of, end_after, words_with}
 use Rattle.text.proofs.Laws.{words_fit, words_list}
 use Rattle.tokens.specs.declared.Form.{Form}
-use Rattle.replies.specs.Write.{Wrote, ok_text, refused_text, disagree_text, error_text}
+use Rattle.replies.specs.Write.{Wrote, ok_text, disagree_text, error_text}
 use Rattle.replies.proofs.Lengths.{wrote_whole, error_length, refused_length, ok_length}
 use Rattle.region.specs.Region.{Area, cap_area, cell_area, list_area}
 use Rattle.requests.specs.declared.line.Asked.{Asked}
@@ -47,12 +48,12 @@ length_min n l = ap length (take_min n l) ∙ length-take n l
 -- ---- what a request comes to, within its parts
 
 -- what the coverer answers, with the allowance as a u32, is what the line comes to
-pub answered_for : (w : Wish) (r : Answer) (mem mem' out out' : List ℕ) (allowance : ℕ) → allowance ≡ allowance_of w.allowance
+pub answered_for : (w : Wish) (r : Result Answer Refusal) (mem mem' out out' : List ℕ) (allowance : ℕ) → allowance ≡ allowance_of w.allowance
     → Answered (result_of w.kind w.coverer w.area allowance (length mem) (length out)) r mem mem' out out' → Answered (result_for w (length mem) (length out)) r mem mem' out out'
 unfolding result_for
 answered_for w r mem mem' out out' allowance e = rw e (λ A. A)
 
-module _ (w : Wish) (r : Answer) (mem part out places : List ℕ) (m o : ℕ) (em : m ≡ min w.mem (length mem)) (eo : o ≡ min w.out (length out)) where
+module _ (w : Wish) (r : Result Answer Refusal) (mem part out places : List ℕ) (m o : ℕ) (em : m ≡ min w.mem (length mem)) (eo : o ≡ min w.out (length out)) where
   pub answered_in : Answered (result_for w (length (take m mem)) (length (take o out))) r (take m mem) part (take o out) places
       → AnsweredIn w r mem (part ++ drop m mem) out (places ++ drop o out)
   unfolding result_in
@@ -68,25 +69,8 @@ in_sound w mem out = result_sound w.kind w.coverer w.area (allowance_of w.allowa
 
 -- ---- the answer to a result, with the output that it leaves
 
-pub asked_fits : (w : Wish) (a : Answer) (mem mem' out out' : List ℕ) → AnsweredIn w a mem mem' out out' → a.count ≤ length out'
+pub asked_fits : (w : Wish) (a : Result Answer Refusal) (mem mem' out out' : List ℕ) → AnsweredIn w a mem mem' out out' → (values_told a).count ≤ length out'
 asked_fits w a mem mem' out out' A = rw (A.answer, A.output) (simp length-append (omega (arith, count_fits (result_in w mem out) (take w.out out))))
-
-module _ (form : Form) (a : Answer) (out : List ℕ) where
-  done_text_lem : a.number ≡ 0 → answer_text form a out ≡ ok_text form a.steps a.aside (take a.count out)
-  unfolding answer_text
-  done_text_lem h = rw (answer_text, eq-eqb a.number 0 h)
-
-  refused_text_lem : (a.number ≡ 0 → ⊥) → answer_text form a out ≡ refused_text a.number
-  unfolding answer_text
-  refused_text_lem h = rw (answer_text, ne_eqb a.number 0 h)
-
-  -- a text of a success or of a refusal is the answer's
-  module _ (page : List ℕ) (r : ℕ) (page' : List ℕ) where
-    pub wrote_done : a.number ≡ 0 → Wrote 0 (ok_text form a.steps a.aside (take a.count out)) page r page' → Wrote 0 (answer_text form a out) page r page'
-    wrote_done h w = rw (done_text_lem h) w
-
-    pub wrote_refused : (a.number ≡ 0 → ⊥) → Wrote 0 (refused_text a.number) page r page' → Wrote 0 (answer_text form a out) page r page'
-    wrote_refused h w = rw (refused_text_lem h) w
 
 -- what is written of engines that agree, and of engines that don't
 module _ (form : Form) (t : Tested) (out : List ℕ) where
@@ -104,16 +88,16 @@ module _ (form : Form) (t : Tested) (out : List ℕ) where
 
 answer_text_lem : (form : Form) (room : ℕ) (R : Covering.Result) (out rest : List ℕ) → Sound room R → answer_text form (answer_of R) (output_after R out ++ rest) ≡ result_text form R
 unfolding answer_of output_after result_text Sound
-answer_text_lem form room (barred n) out rest h = refused_text_lem form _ _ (λ z. omega arith)
-answer_text_lem form room (refused n) out rest h = refused_text_lem form _ _ (λ z. omega arith)
-answer_text_lem form room (done l steps aside) out rest h = done_text_lem form _ _ refl ∙ ap (ok_text form steps aside) (ap (take (length l)) (append_assoc l _ rest) ∙ take-append_seam l _)
+answer_text_lem form room (barred r) out rest h = refl
+answer_text_lem form room (refused r) out rest h = refl
+answer_text_lem form room (done l steps aside) out rest h = ap (ok_text form steps aside) (ap (take (length l)) (append_assoc l _ rest) ∙ take-append_seam l _)
 
 -- ---- the length of an answer
 
 sound_short : (form : Form) (room : ℕ) (R : Covering.Result) → Sound room R → length (result_text form R) ≤ 17 * room + 256
 unfolding result_text Sound
-sound_short form room (barred n) h = omega (arith, refused_length n)
-sound_short form room (refused n) h = omega (arith, refused_length n)
+sound_short form room (barred r) h = omega (arith, refused_length (number_of r))
+sound_short form room (refused r) h = omega (arith, refused_length (number_of r))
 sound_short form room (done l steps aside) h = omega (arith, ok_length form steps aside l, h)
 
 in_short : (w : Wish) (mem out : List ℕ) → length (result_text w.form (result_in w mem out)) ≤ 17 * length out + 256

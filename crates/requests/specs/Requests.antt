@@ -1,6 +1,8 @@
 -- What a line of `cover` comes to: the public answer of its kind, for the line's numbers and region, and the text of that answer. Which engines it
 -- names changes nothing.
-use Rattle.std.specs.Prelude.{◌≡◌, true, false, List, [], ◌++◌, ℕ, min, eqb, length, take, drop, Result, Ok, Err, if◌then◌else◌}
+use Rattle.std.specs.Prelude.{◌≡◌, true, false, List, [], ◌++◌, ℕ, min, length, take, drop, Result, Ok, Err, if◌then◌else◌}
+use Rattle.refusal.specs.declared.Refusal.{Refusal}
+use Rattle.refusal.specs.Refusal.{number_of}
 use Rattle.covering.specs.declared.Answer.{Answer}
 use Rattle.covering.specs.Covering.{result_of, answer_of, memory_after, output_after}
 use Rattle.covering.specs.Covering as Covering
@@ -25,8 +27,8 @@ result_in w mem out = result_for w (min w.mem (length mem)) (min w.out (length o
 
 -- `ok STEPS ASIDE0 .. ASIDE5 COUNT ID...` or `refused NUMBER`
 unfoldable pub result_text : Form → Covering.Result → List ℕ
-result_text form (Covering.barred n) = refused_text n
-result_text form (Covering.refused n) = refused_text n
+result_text form (Covering.barred r) = refused_text (number_of r)
+result_text form (Covering.refused r) = refused_text (number_of r)
 result_text form (Covering.done l steps aside) = ok_text form steps aside l
 
 -- a change of the first n words
@@ -69,18 +71,16 @@ pub record Replied (number : ℕ) (line words words' mem mem' out out' page : Li
 
 -- ---- for the functions that make up an answer
 
--- the text of an answer, a success where its number is 0, its ids taken from the output's first places
-unfoldable pub answer_text : Form → Answer → List ℕ → List ℕ
-answer_text form a out = elim (eqb a.number 0) [
-  | true ↦ ok_text form a.steps a.aside (take a.count out)
-  | false ↦ refused_text a.number
-]
+-- the text of an answer, its ids taken from the output's first places
+abbrev pub answer_text : Form → Result Answer Refusal → List ℕ → List ℕ
+answer_text form (Ok a) out = ok_text form a.steps a.aside (take a.count out)
+answer_text form (Err r) out = refused_text (number_of r)
 
 -- the text of what engines gave: their answer where they agree
 unfoldable pub tested_text : Form → Tested → List ℕ → List ℕ
 tested_text form t out = elim t.agree [ true ↦ answer_text form t.answer out | false ↦ disagree_text ]
 
-pub record AnsweredIn (w : Wish) (r : Answer) (mem mem' out out' : List ℕ) : Type 0 where
+pub record AnsweredIn (w : Wish) (r : Result Answer Refusal) (mem mem' out out' : List ℕ) : Type 0 where
   pub answer : r ≡ answer_of (result_in w mem out)
   pub memory : mem' ≡ on_first w.mem (memory_after (result_in w mem out)) mem
   pub output : out' ≡ on_first w.out (output_after (result_in w mem out)) out

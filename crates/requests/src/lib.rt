@@ -4,7 +4,7 @@
 mod line;
 
 ghost use Rattle.std.specs.Prelude.{true, ◌≡◌, length, ◌+◌, ◌*◌, ◌≤◌};
-ghost use Rattle.covering.specs.Covering.{Answered};
+ghost use Rattle.covering.specs.Covering.{values_told, Answered};
 ghost use Rattle.region.specs.Region.{area_of};
 ghost use Rattle.replies.specs.Write.{Wrote};
 ghost use Rattle.requests.specs.Line.{asked_with};
@@ -15,6 +15,7 @@ pub use line::{
     Asked, Options, Shape, cap_of, form_of, read_asked, read_cap, read_cell, read_coverer,
     read_options, read_region,
 };
+use refusal::Refusal;
 use region::Region;
 use selftest::Tested;
 use tokens::Form;
@@ -52,21 +53,23 @@ fn answer_in(q: Asked, g: Region<'_>, mem: &mut [u64], out: &mut [u64]) -> Teste
 }
 
 // Writes an answer, with the ids that stand in the output's first places.
-fn put_answer(form: Form, a: Answer, out: &[u64], page: &mut [u8]) -> usize
-    requires { a.count ≤ length out.now }
+fn put_answer(form: Form, a: Result<Answer, Refusal>, out: &[u64], page: &mut [u8]) -> usize
+    requires { (values_told a).count ≤ length out.now }
     ensures { Wrote 0 (answer_text form a out.now) page.old result page.new }
 {
-    if a.number == 0 {
-        let aside = a.aside;
-        return replies::put_ok(page, form, a.steps as u64, aside, &out[..a.count]);
+    match a {
+        Ok(values) => {
+            let aside = values.aside;
+            replies::put_ok(page, form, values.steps as u64, aside, &out[..values.count])
+        }
+        Err(refusal) => replies::put_refused(page, refusal.number()),
     }
-    replies::put_refused(page, a.number)
 }
 
 // Writes the answer of the engines that were asked, or `disagree` where they gave different ones. The engines are proved to agree, so no line is answered like that
 // but by a fault of the machine.
 fn put_tested(form: Form, t: Tested, out: &[u64], page: &mut [u8]) -> usize
-    requires { t.answer.count ≤ length out.now }
+    requires { (values_told t.answer).count ≤ length out.now }
     ensures { Wrote 0 (tested_text form t out.now) page.old result page.new }
 {
     if t.agree {

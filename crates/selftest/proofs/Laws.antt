@@ -5,6 +5,8 @@ use Prim.Native.Nat.{ℕ, ◌≤◌}
 use native.Mathlib.Omega.{arith}
 use lib.ListN.{length, take, drop, length-take}
 use lib.Seq.{take-append_seam, drop-append_seam, length-take-le}
+use Rattle.std.specs.Prelude as Std
+use Rattle.refusal.specs.declared.Refusal.{Refusal}
 use Rattle.cellunion.specs.Memory.{zeros, laid, laid_over}
 use Rattle.cellunion.proofs.Memory.{drop_more, laid_nil, laid_start, length_zeros, room_yes}
 use Rattle.region.specs.Region.{Area}
@@ -13,7 +15,7 @@ use Rattle.run.specs.Run.{memory_words}
 use Rattle.coverer.proofs.Memory.{cleared_twice}
 use Rattle.covering.specs.declared.Answer.{Answer}
 use Rattle.covering.specs.declared.Kind.{Kind}
-use Rattle.covering.specs.Covering.{Result, barred, refused, done, result_of, answer_of, memory_after, output_after, Answered}
+use Rattle.covering.specs.Covering.{Result, barred, refused, done, result_of, answer_of, values_told, memory_after, output_after, Answered}
 use Rattle.covering.proofs.Table.{count_fits}
 
 -- ---- the first list, moved away
@@ -30,8 +32,8 @@ held_words n o h h' g e =
 -- ---- a request answered twice
 
 -- an answer's list stands within its output
-pub count_within : {R : Result} {a : Answer} {m m₁ o o₁ : List ℕ} → Answered R a m m₁ o o₁ → a.count ≤ length o₁
-count_within {R} {a} {m} {m₁} {o} A = rw A.output (omega (arith, ap (λ (x : Answer). x.count) A.answer, count_fits R o))
+pub count_within : {R : Result} {a : Std.Result Answer Refusal} {m m₁ o o₁ : List ℕ} → Answered R a m m₁ o o₁ → (values_told a).count ≤ length o₁
+count_within {R} {a} {m} {m₁} {o} A = rw A.output (omega (arith, ap (λ (x : Std.Result Answer Refusal). (values_told x).count) A.answer, count_fits R o))
 
 memory_twice : (R : Result) (m : List ℕ) → memory_after R (memory_after R m) ≡ memory_after R m
 unfolding memory_after
@@ -51,13 +53,13 @@ unfolding zeros
 nothing_cleared n o h = let z : n ≡ 0 = omega arith in ap (λ (k : ℕ). laid 0 (zeros k) o) z ∙ laid_nil 0 o
 
 -- the first words of a list that is written again are cleared in between
-output_twice : (R : Result) (n : ℕ) (o : List ℕ) → n ≤ (answer_of R).count → output_after R (laid 0 (zeros n) (output_after R o)) ≡ output_after R o
+output_twice : (R : Result) (n : ℕ) (o : List ℕ) → n ≤ (values_told (answer_of R)).count → output_after R (laid 0 (zeros n) (output_after R o)) ≡ output_after R o
 unfolding answer_of output_after
 output_twice (barred k) n o h = nothing_cleared n o h
 output_twice (refused k) n o h = nothing_cleared n o h
 output_twice (done l steps aside) n o h = ap (λ (x : List ℕ). l ++ x) (cleared_rest n (length l) (l ++ drop (length l) o) h ∙ drop-append_seam l (drop (length l) o))
 
-module _ (k : Kind) (q : RegionCoverer) (g : Area) (allowance : ℕ) (a b : Answer) (m m₁ m₂ o o₁ o₂ o₃ : List ℕ) (n : ℕ) (em : length m₁ ≡ length m) (eo : length o₂ ≡ length o) (h : n ≤ a.count)
+module _ (k : Kind) (q : RegionCoverer) (g : Area) (allowance : ℕ) (a b : Std.Result Answer Refusal) (m m₁ m₂ o o₁ o₂ o₃ : List ℕ) (n : ℕ) (em : length m₁ ≡ length m) (eo : length o₂ ≡ length o) (h : n ≤ (values_told a).count)
     (A : Answered (result_of k q g allowance (length m) (length o)) a m m₁ o o₁) (c : o₂ ≡ laid 0 (zeros n) o₁) (B : Answered (result_of k q g allowance (length m₁) (length o₂)) b m₁ m₂ o₂ o₃) where
   abbrev R : Result
   R = result_of k q g allowance (length m) (length o)
@@ -70,7 +72,7 @@ module _ (k : Kind) (q : RegionCoverer) (g : Area) (allowance : ℕ) (a b : Answ
 
   output : o₃ ≡ output_after R o
   output =
-      let few : n ≤ (answer_of R).count = omega (arith, ap (λ (x : Answer). x.count) A.answer) in
+      let few : n ≤ (values_told (answer_of R)).count = omega (arith, ap (λ (x : Std.Result Answer Refusal). (values_told x).count) A.answer) in
       B.output ∙ ap₂ output_after e (c ∙ ap (laid 0 (zeros n)) A.output) ∙ output_twice R n o few
 
   pub answered_twice : Answered R b m m₂ o o₃

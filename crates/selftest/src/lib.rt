@@ -10,6 +10,7 @@ ghost use Rattle.selftest.specs.Selftest.{engines_of};
 
 use covering::{Answer, Kind};
 use queue::Engine;
+use refusal::Refusal;
 use region::Region;
 use run::RegionCoverer;
 
@@ -39,12 +40,17 @@ impl From<u64> for Engines {
 // An answer, and whether all engines that were asked gave it.
 #[derive(Clone, Copy)]
 pub struct Tested {
-    pub answer: Answer,
+    pub answer: Result<Answer, Refusal>,
     pub agree: bool,
 }
 
 // Whether two answers are one, and the words of their lists.
-fn same(a: Answer, b: Answer, words: &[u64], others: &[u64]) -> bool
+fn same(
+    a: Result<Answer, Refusal>,
+    b: Result<Answer, Refusal>,
+    words: &[u64],
+    others: &[u64],
+) -> bool
     ensures { IsTrue result ↔ ((a ≡ b) × (words.now ≡ others.now)) }
 {
     a == b && words == others
@@ -75,7 +81,8 @@ fn respond_twice(
     ensures { Answered (result_of kind c (area_of g.entry) allowance (length mem.old) (length out.old)) result.answer mem.old mem.new out.old out.new × (result.agree ≡ true) }
 {
     let first = covering::respond(Engine::Plain, kind, c, g, allowance, mem, out);
-    let n = hold(out, first.count, held);
+    let values = Answer::told(first);
+    let n = hold(out, values.count, held);
     let answer = covering::respond(Engine::Quick, kind, c, g, allowance, mem, out);
     let agree = same(first, answer, &held[..n], &out[..n]);
     Tested { answer, agree }

@@ -176,8 +176,8 @@ fn watch_step(
         out,
     ) {
         Ok(seen) => show(streams, k, taken, seen, out, page),
-        Err(n) => {
-            say_refused(streams, n, page)?;
+        Err(refusal) => {
+            say_refused(streams, refusal.number(), page)?;
             Ok(None)
         }
     }

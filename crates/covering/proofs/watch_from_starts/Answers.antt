@@ -1,7 +1,4 @@
 -- `covering::watch_from_starts` meets its contract: the start cells are as the run asks. Assumes nothing.
-use Rattle.std.specs.Prelude.Result.{Err}
-use mathlib.Core.Path.{ap, sym, ◌∙◌}
-use Rattle.covering.specs.Watch.{numbered}
 use Rattle.bars.proofs.Early.{early_none}
 use Rattle.covering.proofs.Starts.{valid_domain, run_asks}
 use Rattle.covering.proofs.Watching.{watched_open}
@@ -22,13 +19,7 @@ watch-requires c =
       all = a.3;
     }
 
-pub returns-in-Ok : goal.returns-in-Ok
-returns-in-Ok c =
+pub returns : goal.returns
+returns c =
     let r = c.watch.ensures in
-    watched_open _ _ _ _ _ _ _ _ _ _ _ _ _ c.requires c.starts-starts.ensures.count_value.0 c.starts-starts.ensures.count_value.1 c.starts-starts.auto.mem c.starts-starts.ensures.mem_after (ap numbered (sym c.in-Ok.is ∙ r.value), r.out_after, r.mem_after)
-
-pub returns-in-Err : goal.returns-in-Err
-returns-in-Err c =
-    let r = c.watch.ensures in
-    watched_open _ _ _ _ _ _ _ _ _ _ _ _ _ c.requires c.starts-starts.ensures.count_value.0 c.starts-starts.ensures.count_value.1 c.starts-starts.auto.mem c.starts-starts.ensures.mem_after
-    (ap Err c.number.ensures ∙ ap numbered (sym c.in-Err.is ∙ r.value), r.out_after, r.mem_after)
+    watched_open _ _ _ _ _ _ _ _ _ _ _ _ _ c.requires c.starts-starts.ensures.count_value.0 c.starts-starts.ensures.count_value.1 c.starts-starts.auto.mem c.starts-starts.ensures.mem_after (r.value, r.out_after, r.mem_after)
