@@ -44,7 +44,7 @@ pub fn cap(x: f64, y: f64, z: f64, radius: f64) -> Cap
     Cap { center, radius }
 }
 
-// The number of an answer; its values go through the references.
+// The number of an answer; its values go through the references, which C lends one by one.
 fn tell(a: Result<Answer, Refusal>, count: &mut u64, steps: &mut u64, aside: &mut [u64; 6]) -> u64
     ensures { Told a result count.new steps.new aside.new }
 {

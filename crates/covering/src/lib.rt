@@ -52,7 +52,7 @@ pub enum Ending {
     Covering,
 }
 
-// Every kind of answer: a list of the outer run, one of the inner run, or the quick covering.
+// Every kind of answer: a list of the outer run, one of the inner run, or the quick covering. Three kinds, of which the third has no list to choose.
 #[derive(Clone, Copy)]
 pub enum Kind {
     Outer(Ending),
@@ -105,6 +105,9 @@ fn laid_answer(laid: Option<usize>, steps: u32, aside: Totals) -> Result<Answer,
         None => Err(Refusal::ListTooLong),
     }
 }
+
+// What is asked goes part by part from here on, as `fast`, `coverer` and `denorm` take it; and that nothing bars it no ghost field can say, since it speaks of the
+// length of the lent memory.
 
 // The run of a request that lies in the domain, from its start cells; the raw list stays in the memory, behind the queue's words.
 fn run_from_starts(

@@ -17,7 +17,8 @@ use totals::Totals;
 pub const NIGHT_MOST: usize = 256;
 
 // First the answer, once the order was served: its number, 0 for success, and its values. Then what is asked: the quick covering, or else the inner or the outer one; of the
-// cell `id` or else of the cap; with these levels, mod and cell limit; and how many steps the run may take. C sees the fields in this order.
+// cell `id` or else of the cap; with these levels, mod and cell limit; and how many steps the run may take. C sees the fields in this order,
+// and sees no enum: hence a number and flags.
 #[repr(C)]
 #[derive(Clone, Copy)]
 pub struct Order {

@@ -37,14 +37,14 @@ impl From<u64> for Engines {
     }
 }
 
-// An answer, and whether all engines that were asked gave it.
+// An answer, and whether all engines that were asked gave it: there is one either way.
 #[derive(Clone, Copy)]
 pub struct Tested {
     pub answer: Result<Answer, Refusal>,
     pub agree: bool,
 }
 
-// Whether two answers are one, and the words of their lists.
+// Whether two answers are one, and the words of their lists. A function, for its contract: no other says what is compared.
 fn same(
     a: Result<Answer, Refusal>,
     b: Result<Answer, Refusal>,
