@@ -15,7 +15,7 @@ use totals::Totals;
 
 // ---- an order
 
-// The kind of an order, as its record has it: the quick covering, or else the inner or the outer one.
+// The kind of an order, in the two flags of its record, which C reads: the quick covering, or else the inner or the outer one.
 #[derive(Clone, Copy)]
 struct Flags {
     fast: bool,
@@ -58,7 +58,7 @@ struct Terms {
     edition: u64,
 }
 
-// The order's kind.
+// The order's kind. The parts of a line are read each from a place on, as text has them.
 #[tactic(auto, unfolding(crate::specs::Batch::flags_after, text::specs::Ascii::ascii))]
 fn read_flags(line: &[u8], at: usize) -> Result<Read<Flags>, Fault>
     ensures { result ≡ flags_after line.now at }
@@ -243,7 +243,7 @@ fn put_done(
     replies::put_counted(page, d, form, ids)
 }
 
-// The line of an order that was served, whole, from the first byte of the page on, and how long it is: its ids stand in the output from `begin` on. The page has
+// The line of an order that was served (its record, which C reads, has 0 for success), whole, from the first byte of the page on, and how long it is: its ids stand in the output from `begin` on. The page has
 // room for as many ids as the output has places.
 pub fn put_served(page: &mut [u8], form: Form, o: Order, begin: usize, out: &[u64]) -> usize
     requires { (begin + o.count ≤ length out.now) × (17 * length out.now + 256 ≤ length page.old) }

@@ -80,6 +80,8 @@ pub struct Asked {
     pub engines: Engines,
 }
 
+// ---- the parts of a line, each from a place on, as text has them
+
 // The kind of answer that is asked for.
 #[tactic(auto, unfolding(crate::specs::Line::kind_after, text::specs::Ascii::ascii))]
 fn read_kind(line: &[u8], at: usize) -> Result<Read<Kind>, Fault>

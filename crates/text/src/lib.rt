@@ -35,7 +35,8 @@ pub enum Base {
     Sixteen,
 }
 
-// What was read, and the place after it.
+// What was read, and the place after it. A line and a place in it go into each reader one by one: a reader with the place in it would have to promise where it
+// stands after a fault, too.
 #[derive(Clone, Copy)]
 pub struct Read<T> {
     pub value: T,
@@ -93,7 +94,8 @@ fn value(s: &[u8], base: u64, limit: u64) -> Result<u64, Fault>
     Ok(number)
 }
 
-// The number that s spells in the base: `fewest` to `most` digits, at most `limit`. One pass for the digits, one for the value.
+// The number that s spells in the base: `fewest` to `most` digits, at most `limit`. One pass for the digits, one for the value. What a base asks for stands in
+// `read_bytes` and `read_number` alone.
 fn number(s: &[u8], base: u64, fewest: usize, most: usize, limit: u64) -> Result<u64, Fault>
     requires { 0 < base }
     ensures value { result ≡ number_as base fewest most limit s.now }
@@ -130,7 +132,7 @@ fn is_blank(b: u8) -> bool
     b == b' ' || b == b'\t' || b == b'\r'
 }
 
-// The place of the first byte from `at` on that is a blank, or that is none.
+// The place of the first byte from `at` on that is a blank, or that is none. By an index, since the place may lie behind the line.
 fn past(line: &[u8], at: usize, blank: bool) -> usize
     ensures { (result ≡ at + leading blank (drop at line.now)) × (at ≤ result) × (result ≤ max at (length line.now)) }
 {
@@ -247,7 +249,7 @@ pub fn read_number(line: &[u8], at: usize, base: Base, limit: u64) -> Result<Rea
     }
 }
 
-// Fills `values` with the numbers of the next fields, and answers the place after them. From a fault on the values are 0.
+// Fills `values` with the numbers of the next fields, and answers the place after them. From a fault on the values are 0: the index tells which are left.
 pub fn read_numbers(line: &[u8], at: usize, base: Base, values: &mut [u64]) -> Result<usize, Fault>
     ensures { (result ≡ (numbers_after base (length values.old) line.now at).after) × (values.new ≡ (numbers_after base (length values.old) line.now at).values) }
 {
