@@ -24,15 +24,95 @@ type Page = [u8; 1114368];
 // Written as -1: two cells have no common ancestor.
 const NOTHING: u64 = 0xffff_ffff_ffff_ffff;
 
-// The questions by their numbers: 0 to 3 are about numbers and have a hexadecimal answer, 4 to 6 a decimal one; 7 to 11 are about a cell and have a
-// decimal answer, 12 to 14 a hexadecimal one; the answer to 15 to 20 is a list of cells; 21 to 23 are about a region and a cell and have decimal answers.
-fn read_question(line: &[u8], at: usize) -> Result<Read<u64>, Fault> {
+// What is asked, in the order of the words.
+#[derive(Clone, Copy, PartialEq, Eq)]
+enum Question {
+    Sqrt,
+    StToUv,
+    UvToSt,
+    CellidFromPoint,
+    Valid,
+    LevelFor,
+    IsUnit,
+    CommonAncestorLevel,
+    CellContainsPoint,
+    CapContainsCell,
+    CapIntersectsCell,
+    FaceIjOrientation,
+    CellCapBound,
+    Vertices,
+    Edges,
+    VertexNeighbors,
+    Bound,
+    Starts,
+    Normalize,
+    Denormalize,
+    NormalizeCovering,
+    RegionContainsCell,
+    RegionIntersectsCell,
+    RegionLook,
+}
+
+impl Question {
+    // Whether its numbers are answered in hexadecimal digits.
+    fn is_hex(self) -> bool {
+        matches!(
+            self,
+            Question::Sqrt
+                | Question::StToUv
+                | Question::UvToSt
+                | Question::CellidFromPoint
+                | Question::CellCapBound
+                | Question::Vertices
+                | Question::Edges
+        )
+    }
+
+    // Whether the last of its numbers is any number, and no cell's id.
+    fn is_of_numbers(self) -> bool {
+        matches!(
+            self,
+            Question::Sqrt
+                | Question::StToUv
+                | Question::UvToSt
+                | Question::CellidFromPoint
+                | Question::Valid
+                | Question::LevelFor
+                | Question::IsUnit
+        )
+    }
+}
+
+fn read_question(line: &[u8], at: usize) -> Result<Read<Question>, Fault> {
     text::read_choice(
         line,
         at,
         b"sqrt st_to_uv uv_to_st cellid_from_point valid level is_unit common_ancestor_level cell_contains_point cap_contains_cell cap_intersects_cell face_ij_orientation cell_cap_bound vertices edges vertex_neighbors bound starts normalize denormalize normalize_covering region_contains_cell region_intersects_cell region_look",
         &[
-            0, 1, 2, 3, 4, 5, 6, 7, 8, 9, 10, 11, 12, 13, 14, 15, 16, 17, 18, 19, 20, 21, 22, 23,
+            Question::Sqrt,
+            Question::StToUv,
+            Question::UvToSt,
+            Question::CellidFromPoint,
+            Question::Valid,
+            Question::LevelFor,
+            Question::IsUnit,
+            Question::CommonAncestorLevel,
+            Question::CellContainsPoint,
+            Question::CapContainsCell,
+            Question::CapIntersectsCell,
+            Question::FaceIjOrientation,
+            Question::CellCapBound,
+            Question::Vertices,
+            Question::Edges,
+            Question::VertexNeighbors,
+            Question::Bound,
+            Question::Starts,
+            Question::Normalize,
+            Question::Denormalize,
+            Question::NormalizeCovering,
+            Question::RegionContainsCell,
+            Question::RegionIntersectsCell,
+            Question::RegionLook,
         ],
         Fault::UnknownKind,
     )
@@ -52,29 +132,34 @@ fn cell_id(id: u64) -> u64
 
 // Whether the numbers but the last lie in the question's domain. A radius is tested as that of a cap about the x axis; where a point is not finite, 0 times
 // it is no number.
-fn in_domain(k: u64, a: u64, g: Cap) -> bool {
-    match k {
-        1 => g.center.x.is_finite(),
-        2 => g.center.x.is_finite(),
-        3 => g.center.is_unit(),
-        5 => region::cap_in_domain(requests::cap_of(0x3ff0_0000_0000_0000, 0, 0, a)),
-        6 => g.center.mul(0.0).norm2().is_finite(),
-        7 => cellid::is_valid(a),
-        8 => g.center.is_unit(),
-        9 => region::cap_in_domain(g),
-        10 => region::cap_in_domain(g),
+fn in_domain(q: Question, a: u64, g: Cap) -> bool {
+    match q {
+        Question::StToUv => g.center.x.is_finite(),
+        Question::UvToSt => g.center.x.is_finite(),
+        Question::CellidFromPoint => g.center.is_unit(),
+        Question::LevelFor => region::cap_in_domain(requests::cap_of(
+            0x3ff0_0000_0000_0000,
+            0,
+            0,
+            a,
+        )),
+        Question::IsUnit => g.center.mul(0.0).norm2().is_finite(),
+        Question::CommonAncestorLevel => cellid::is_valid(a),
+        Question::CellContainsPoint => g.center.is_unit(),
+        Question::CapContainsCell => region::cap_in_domain(g),
+        Question::CapIntersectsCell => region::cap_in_domain(g),
         _ => true,
     }
 }
 
-fn of_numbers(k: u64, a: u64, g: Cap) -> u64 {
-    match k {
-        0 => root::root_bits(a),
-        1 => point::bits_of_float(stuv::st_to_uv(g.center.x)),
-        2 => point::bits_of_float(stuv::uv_to_st(g.center.x)),
-        3 => neighbors::cellid_from_point(g.center),
-        4 => cellid::is_valid(a) as u64,
-        5 => cap::level_for(g.center.x),
+fn of_numbers(q: Question, a: u64, g: Cap) -> u64 {
+    match q {
+        Question::Sqrt => root::root_bits(a),
+        Question::StToUv => point::bits_of_float(stuv::st_to_uv(g.center.x)),
+        Question::UvToSt => point::bits_of_float(stuv::uv_to_st(g.center.x)),
+        Question::CellidFromPoint => neighbors::cellid_from_point(g.center),
+        Question::Valid => cellid::is_valid(a) as u64,
+        Question::LevelFor => cap::level_for(g.center.x),
         _ => g.center.is_unit() as u64,
     }
 }
@@ -110,32 +195,32 @@ fn cap_number(c: Cap, i: u64) -> u64 {
 }
 
 // How many numbers an answer has.
-fn count_of(k: u64) -> u64
+fn count_of(q: Question) -> u64
     ensures { result ≤ 12 }
 {
-    match k {
-        11 => 4,
-        12 => 4,
-        13 => 12,
-        14 => 12,
+    match q {
+        Question::FaceIjOrientation => 4,
+        Question::CellCapBound => 4,
+        Question::Vertices => 12,
+        Question::Edges => 12,
         _ => 1,
     }
 }
 
 // The i-th of them.
-fn number_of(k: u64, a: u64, g: Cap, id: u64, c: Cell, i: u64) -> u64
+fn number_of(q: Question, a: u64, g: Cap, id: u64, c: Cell, i: u64) -> u64
     requires { CellId.Cell id × (c.face < 6) × (i < 12) }
 {
-    match k {
-        7 => common_level(a, id),
-        8 => c.contains_point(g.center) as u64,
-        9 => cap::look_at(g, id, true).is_inside() as u64,
-        10 => cap::look_at(g, id, false).passes() as u64,
-        11 => grid_number(hilbert::face_ij_orientation(id), i),
-        12 => cap_number(c.cap_bound(), i),
-        13 => axis(c.vertex(i / 3), i % 3),
-        14 => axis(c.edge(c.scales(), i / 3), i % 3),
-        _ => of_numbers(k, a, g),
+    match q {
+        Question::CommonAncestorLevel => common_level(a, id),
+        Question::CellContainsPoint => c.contains_point(g.center) as u64,
+        Question::CapContainsCell => cap::look_at(g, id, true).is_inside() as u64,
+        Question::CapIntersectsCell => cap::look_at(g, id, false).passes() as u64,
+        Question::FaceIjOrientation => grid_number(hilbert::face_ij_orientation(id), i),
+        Question::CellCapBound => cap_number(c.cap_bound(), i),
+        Question::Vertices => axis(c.vertex(i / 3), i % 3),
+        Question::Edges => axis(c.edge(c.scales(), i / 3), i % 3),
+        _ => of_numbers(q, a, g),
     }
 }
 
@@ -149,17 +234,17 @@ fn put_digits(page: &mut Page, at: usize, hex: bool, x: u64) -> usize {
     replies::put_decimal(page, at, x)
 }
 
-fn put_numbers(k: u64, a: u64, g: Cap, id: u64, page: &mut Page) -> usize
+fn put_numbers(q: Question, a: u64, g: Cap, id: u64, page: &mut Page) -> usize
     requires { CellId.Cell id }
 {
     let c = cell::from_id(id);
-    let hex = k < 4 || 11 < k;
-    let count = count_of(k);
-    let mut n = put_digits(page, 0, hex, number_of(k, a, g, id, c, 0));
+    let hex = q.is_hex();
+    let count = count_of(q);
+    let mut n = put_digits(page, 0, hex, number_of(q, a, g, id, c, 0));
     let mut i = 1;
     while i < count {
         n = replies::put(page, n, b" ");
-        n = put_digits(page, n, hex, number_of(k, a, g, id, c, i));
+        n = put_digits(page, n, hex, number_of(q, a, g, id, c, i));
         i += 1;
     }
     n
@@ -186,34 +271,34 @@ fn put_neighbors(id: u64, level: u64, page: &mut Page) -> usize
 }
 
 // How many hexadecimal fields a question of numbers has.
-fn fields_of(k: u64) -> usize
+fn fields_of(q: Question) -> usize
     ensures { (0 < result) × (result ≤ 5) }
 {
-    match k {
-        3 => 3,
-        6 => 3,
-        7 => 2,
-        8 => 4,
-        9 => 5,
-        10 => 5,
+    match q {
+        Question::CellidFromPoint => 3,
+        Question::IsUnit => 3,
+        Question::CommonAncestorLevel => 2,
+        Question::CellContainsPoint => 4,
+        Question::CapContainsCell => 5,
+        Question::CapIntersectsCell => 5,
         _ => 1,
     }
 }
 
 // Writes the answer, and tells how long it is: 0 outside the domain.
-fn answer_numbers(k: u64, a: u64, g: Cap, last: u64, level: u64, page: &mut Page) -> usize {
+fn answer_numbers(q: Question, a: u64, g: Cap, last: u64, level: u64, page: &mut Page) -> usize {
     let id = cell_id(last);
-    if in_domain(k, a, g) && (k < 7 || id == last) {
-        if k == 15 {
+    if in_domain(q, a, g) && (q.is_of_numbers() || id == last) {
+        if q == Question::VertexNeighbors {
             return put_neighbors(id, level, page);
         }
-        return put_numbers(k, a, g, id, page);
+        return put_numbers(q, a, g, id, page);
     }
     0
 }
 
-fn read_level(k: u64, line: &[u8], at: usize) -> Result<Read<u64>, Fault> {
-    if k == 15 {
+fn read_level(q: Question, line: &[u8], at: usize) -> Result<Read<u64>, Fault> {
+    if q == Question::VertexNeighbors {
         return text::read_number(line, at, Base::Ten, u64::MAX);
     }
     Ok(Read {
@@ -222,14 +307,14 @@ fn read_level(k: u64, line: &[u8], at: usize) -> Result<Read<u64>, Fault> {
     })
 }
 
-fn ask_numbers(k: u64, line: &[u8], at: usize, page: &mut Page) -> Result<usize, Fault> {
+fn ask_numbers(q: Question, line: &[u8], at: usize, page: &mut Page) -> Result<usize, Fault> {
     let mut v = [0u64; 5];
-    let count = fields_of(k);
+    let count = fields_of(q);
     let after = text::read_numbers(line, at, Base::Sixteen, &mut v[..count])?;
-    let level = read_level(k, line, after)?;
+    let level = read_level(q, line, after)?;
     text::read_end(line, level.after)?;
     let g = requests::cap_of(v[0], v[1], v[2], v[3]);
-    Ok(answer_numbers(k, v[0], g, v[count - 1], level.value, page))
+    Ok(answer_numbers(q, v[0], g, v[count - 1], level.value, page))
 }
 
 // ---- the numbers of a request
@@ -252,11 +337,11 @@ fn read_levels(line: &[u8], at: usize) -> Result<Read<RegionCoverer>, Fault> {
 }
 
 // The numbers of a request, as many of them as the question has.
-fn read_coverer(k: u64, line: &[u8], at: usize) -> Result<Read<RegionCoverer>, Fault> {
-    match k {
-        17 => requests::read_coverer(line, at),
-        19 => read_levels(line, at),
-        20 => requests::read_coverer(line, at),
+fn read_coverer(q: Question, line: &[u8], at: usize) -> Result<Read<RegionCoverer>, Fault> {
+    match q {
+        Question::Starts => requests::read_coverer(line, at),
+        Question::Denormalize => read_levels(line, at),
+        Question::NormalizeCovering => requests::read_coverer(line, at),
         _ => Ok(Read {
             value: RegionCoverer {
                 min_level: 0,
@@ -273,8 +358,8 @@ fn read_coverer(k: u64, line: &[u8], at: usize) -> Result<Read<RegionCoverer>, F
 // ---- questions about a region
 
 // The id of a cell, that of a face where the question has none.
-fn read_cell(k: u64, line: &[u8], at: usize) -> Result<Read<u64>, Fault> {
-    if k < 18 {
+fn read_cell(q: Question, line: &[u8], at: usize) -> Result<Read<u64>, Fault> {
+    if q == Question::Bound || q == Question::Starts {
         return Ok(Read {
             value: 0x1000_0000_0000_0000,
             after: at,
@@ -341,26 +426,32 @@ fn put_truth(page: &mut Page, b: bool) -> usize {
     replies::put_decimal(page, 0, b as u64)
 }
 
-fn put_region(k: u64, c: RegionCoverer, g: Region<'_>, id: u64, page: &mut Page) -> usize
+fn put_region(q: Question, c: RegionCoverer, g: Region<'_>, id: u64, page: &mut Page) -> usize
     requires { NumbersFit c × (in_domain (area_of g) ≡ true) × CellId.Cell id }
 {
-    match k {
-        16 => put_bound(g, page),
-        17 => put_starts(c, g, page),
-        21 => put_truth(page, g.look_at(id, true).is_inside()),
-        22 => put_truth(page, g.look_at(id, false).passes()),
+    match q {
+        Question::Bound => put_bound(g, page),
+        Question::Starts => put_starts(c, g, page),
+        Question::RegionContainsCell => put_truth(page, g.look_at(id, true).is_inside()),
+        Question::RegionIntersectsCell => put_truth(page, g.look_at(id, false).passes()),
         _ => put_look(g, id, page),
     }
 }
 
 // Writes the answer, and tells how long it is: 0 outside the domain.
-fn answer_region(k: u64, c: RegionCoverer, g: Region<'_>, last: u64, page: &mut Page) -> usize {
+fn answer_region(
+    q: Question,
+    c: RegionCoverer,
+    g: Region<'_>,
+    last: u64,
+    page: &mut Page,
+) -> usize {
     let id = cell_id(last);
     let first = bars::first_refusal(c, g, MEMORY_WORDS);
     match first {
         Ok(()) => {
             if id == last {
-                return put_region(k, c, g, id, page);
+                return put_region(q, c, g, id, page);
             }
             0
         }
@@ -368,15 +459,15 @@ fn answer_region(k: u64, c: RegionCoverer, g: Region<'_>, last: u64, page: &mut 
     }
 }
 
-fn ask_region(k: u64, line: &[u8], at: usize, page: &mut Page) -> Result<usize, Fault> {
-    let c = read_coverer(k, line, at)?;
+fn ask_region(q: Question, line: &[u8], at: usize, page: &mut Page) -> Result<usize, Fault> {
+    let c = read_coverer(q, line, at)?;
     // More words than the longest line can fill.
     let mut list: [u64; 16_384] = blank::filled(0);
     let g = requests::read_region(line, c.after, &mut list)?;
-    let id = read_cell(k, line, g.after)?;
+    let id = read_cell(q, line, g.after)?;
     text::read_end(line, id.after)?;
     let region = g.value.region(&list);
-    Ok(answer_region(k, c.value, region, id.value, page))
+    Ok(answer_region(q, c.value, region, id.value, page))
 }
 
 // ---- questions about a list
@@ -408,7 +499,7 @@ fn put_normal(ids: &mut [u64; 4096], n: usize, page: &mut Page) -> usize
 
 // Lays the list over the output.
 fn lay(
-    k: u64,
+    q: Question,
     c: RegionCoverer,
     ids: &mut [u64; 4096],
     n: usize,
@@ -416,8 +507,8 @@ fn lay(
 ) -> Option<usize>
     requires { NumbersFit c × Cells n ids.old }
 {
-    match k {
-        19 => denorm::denormalize(&ids[..n], c.min_level, c.level_mod, out),
+    match q {
+        Question::Denormalize => denorm::denormalize(&ids[..n], c.min_level, c.level_mod, out),
         _ => fast::normalize_covering(c, ids, n, out),
     }
 }
@@ -430,26 +521,38 @@ fn put_laid(page: &mut Page, laid: Option<usize>, out: &[u64; 65536]) -> usize {
     }
 }
 
-fn put_covering(k: u64, c: RegionCoverer, ids: &mut [u64; 4096], n: usize, page: &mut Page) -> usize
+fn put_covering(
+    q: Question,
+    c: RegionCoverer,
+    ids: &mut [u64; 4096],
+    n: usize,
+    page: &mut Page,
+) -> usize
     requires { NumbersFit c × Cells n ids.old }
 {
     let mut out: [u64; 65_536] = blank::filled(0);
-    let laid = lay(k, c, ids, n, &mut out);
+    let laid = lay(q, c, ids, n, &mut out);
     put_laid(page, laid, &out)
 }
 
-fn put_answer(k: u64, c: RegionCoverer, ids: &mut [u64; 4096], n: usize, page: &mut Page) -> usize
+fn put_answer(
+    q: Question,
+    c: RegionCoverer,
+    ids: &mut [u64; 4096],
+    n: usize,
+    page: &mut Page,
+) -> usize
     requires { NumbersFit c × Cells n ids.old }
 {
-    match k {
-        18 => put_normal(ids, n, page),
-        _ => put_covering(k, c, ids, n, page),
+    match q {
+        Question::Normalize => put_normal(ids, n, page),
+        _ => put_covering(q, c, ids, n, page),
     }
 }
 
 // Writes the answer, and tells how long it is: 0 outside the domain, and where the list is too long. A face as the region has the numbers alone tested.
 fn answer_list(
-    k: u64,
+    q: Question,
     c: RegionCoverer,
     ids: &mut [u64; 4096],
     n: usize,
@@ -460,7 +563,7 @@ fn answer_list(
     match first {
         Ok(()) => {
             if m == n {
-                return put_answer(k, c, ids, m, page);
+                return put_answer(q, c, ids, m, page);
             }
             0
         }
@@ -468,12 +571,12 @@ fn answer_list(
     }
 }
 
-fn ask_list(k: u64, line: &[u8], at: usize, page: &mut Page) -> Result<usize, Fault> {
-    let c = read_coverer(k, line, at)?;
+fn ask_list(q: Question, line: &[u8], at: usize, page: &mut Page) -> Result<usize, Fault> {
+    let c = read_coverer(q, line, at)?;
     let mut ids: [u64; 4096] = blank::filled(0);
     let list = text::read_list(line, c.after, &mut ids)?;
     text::read_end(line, list.after)?;
-    Ok(answer_list(k, c.value, &mut ids, list.value as usize, page))
+    Ok(answer_list(q, c.value, &mut ids, list.value as usize, page))
 }
 
 // ---- line after line
@@ -482,15 +585,19 @@ fn ask_list(k: u64, line: &[u8], at: usize, page: &mut Page) -> Result<usize, Fa
 fn ask(line: &[u8], page: &mut Page) -> Result<usize, Fault> {
     let start = text::read_start(line)?;
     let question = read_question(line, start)?;
-    let k = question.value;
+    let q = question.value;
     let at = question.after;
-    if k < 16 {
-        return ask_numbers(k, line, at, page);
+    match q {
+        Question::Normalize => ask_list(q, line, at, page),
+        Question::Denormalize => ask_list(q, line, at, page),
+        Question::NormalizeCovering => ask_list(q, line, at, page),
+        Question::Bound => ask_region(q, line, at, page),
+        Question::Starts => ask_region(q, line, at, page),
+        Question::RegionContainsCell => ask_region(q, line, at, page),
+        Question::RegionIntersectsCell => ask_region(q, line, at, page),
+        Question::RegionLook => ask_region(q, line, at, page),
+        _ => ask_numbers(q, line, at, page),
     }
-    if k < 18 || 20 < k {
-        return ask_region(k, line, at, page);
-    }
-    ask_list(k, line, at, page)
 }
 
 fn answer_line(line: &[u8], number: u64, page: &mut Page) -> usize {
