@@ -10,6 +10,7 @@ ghost use Rattle.cover.specs.Cover.{Told, ToldAt};
 use input::{Found, Span, Streams};
 use text::Fault;
 
+// Here and below the words, the memory and the output go by themselves, as `lines::answer` is lent them.
 // The answer to what was found, whole, from the first byte of the page on, and how long it is.
 fn answer(
     found: Found,
@@ -60,7 +61,7 @@ fn answer_at(
 }
 
 // Line after line, numbered from 1 on, until the input ends or fails, or the output can't be written. Answers wait in the page as long as nothing has to be
-// read for the next line, and one more has room.
+// read for the next line, and one more has room. The loop is its own: here answers wait, in `probe` each is written, in `steps` a line has several, `night` collects.
 fn run(
     streams: Streams,
     buf: &mut [u8],

@@ -94,6 +94,7 @@ fn fill(streams: Streams, buf: &mut [u8], filled: usize) -> io::Result<usize>
     Ok(filled + got)
 }
 
+// Here and in `read_on` the loop is a `while`: each read tells how far it came.
 // Reads a file to its end, and tells how many bytes of the buffer it fills. Of a buffer that is full nobody knows whether it holds all, so a byte has to stay
 // free.
 pub fn read_all(streams: Streams, buf: &mut [u8]) -> io::Result<Option<usize>>

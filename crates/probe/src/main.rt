@@ -21,7 +21,7 @@ use tokens::Form;
 // Room for the longest answer: 65,536 ids of 17 bytes each, and what stands before and after them.
 type Page = [u8; 1114368];
 
-// Written as -1: two cells have no common ancestor.
+// A number that no answer is, so that all numbers of an answer are written one way. Written as -1: two cells have no common ancestor.
 const NOTHING: u64 = 0xffff_ffff_ffff_ffff;
 
 // What is asked, in the order of the words.
