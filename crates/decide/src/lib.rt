@@ -35,11 +35,7 @@ pub fn weight_of(q: Request, all: u64) -> u64
     requires { (all ≡ full q) × (all ≤ 64) }
     ensures { (result ≡ weight q) × (result ≤ 65) }
 {
-    if q.coverer.edition == 2 {
-        all + 1
-    } else {
-        all
-    }
+    if q.coverer.edition == 2 { all + 1 } else { all }
 }
 
 // Whether a taken candidate is handed on: inner, or below min, or one child, or few enough in all.

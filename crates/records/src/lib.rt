@@ -70,8 +70,13 @@ impl Rec {
     pub fn goes_first(self, y: Rec) -> bool
         ensures { result ≡ before self y }
     {
-        (self.cost(), self.id, self.from(), self.present, self.terminal)
-            < (y.cost(), y.id, y.from(), y.present, y.terminal)
+        (
+            self.cost(),
+            self.id,
+            self.from(),
+            self.present,
+            self.terminal,
+        ) < (y.cost(), y.id, y.from(), y.present, y.terminal)
     }
 }
 
