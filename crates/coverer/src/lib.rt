@@ -73,7 +73,8 @@ pub struct Ran {
     pub aside: Totals,
 }
 
-// What was seen of a run: how many cells are kept and queued, the steps taken and the leaves set aside under each start cell.
+// What was seen of a run: how many cells are kept and queued, the steps taken and the leaves set aside under each start cell. Of the shape of a `Tally`, which is in
+// motion.
 #[derive(Clone, Copy)]
 pub struct Seen {
     pub kept: usize,
@@ -426,7 +427,7 @@ fn finish(m: &mut [u64; MEMORY_WORDS], t: Tally) -> Ran
 
 // The whole run, region.rs's covering_internal, by either engine. Refused with 7, 8 or 9 as the run meets them; else the count, the steps and the set-aside totals
 // by start cell, and the kept ids in the memory behind the queue's words, in the order kept. A step costs what its children's expansions cost, and a queue move
-// for each.
+// for each. The start cells come as `fast` gives them, six words and how many of them count: there is no heap.
 pub fn run(
     engine: Engine,
     mem: &mut [u64],

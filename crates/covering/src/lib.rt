@@ -23,7 +23,8 @@ use region::Region;
 use run::{MEMORY_WORDS, QUEUE_WORDS, RegionCoverer, Request};
 use totals::Totals;
 
-// An answer's values: how many ids stand in the output's first places, how many steps the run took, how many leaves it set aside under each start cell.
+// An answer's values: how many ids stand in the output's first places, how many steps the run took, how many leaves it set aside under each start cell. Of the shape
+// of `Ran`, whose count is of ids in the memory.
 #[derive(Clone, Copy, PartialEq)]
 pub struct Answer {
     pub count: usize,
@@ -60,7 +61,8 @@ pub enum Kind {
     Fast,
 }
 
-// Lays the list that is asked for over the output's first places, made of the first `count` ids, in place.
+// Lays the list that is asked for over the output's first places, made of the first `count` ids, in place: the words past them stay, so
+// the lent memory goes with the count.
 fn lay_list(
     e: Ending,
     c: RegionCoverer,

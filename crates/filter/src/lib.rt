@@ -1,5 +1,6 @@
 // A text with an id a line, in one form, turned into the other: what the programs `read_tokens` and `write_tokens` do with all of their input. What is
 // refused is told on standard error, and nothing is written to standard output then.
+// What a program lends, the text's buffer, the ids and the page, goes side by side: a contract speaks of each.
 #![tactic(auto)]
 
 ghost use Rattle.std.specs.Prelude.{◌≡◌, ◌≤◌, ◌<◌, length};

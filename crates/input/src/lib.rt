@@ -1,5 +1,6 @@
 // Lines of an input of any size, one after another, out of one buffer. A line that the buffer can't hold is passed over to its end, and a part of a line
 // that neither a newline nor the true end of the input closes is never answered. Or all of an input at once, as far as a buffer holds it.
+// The buffer is lent by the program, as all memory is, and the part of it that is filled or unread goes beside it: what holds both would keep the program from the line.
 #![tactic(auto)]
 
 ghost use Rattle.std.specs.Prelude.{◌≡◌, None, false, IfOk, IfSome, ◌&&◌, ◌+◌, ◌-◌, ◌≤◌, ◌<◌, length, take};

@@ -1,5 +1,7 @@
 // Reads a question a line from standard input and writes an answer a line. Each question is about one function of a layer, whose contract says what is
 // right: here nothing is promised of what is written, and a slip shows as a difference against the oracle.
+// The page, the words and how many of them are filled go side by side: all memory is lent by `main`, and parts of it are written while others are read. That an id is a
+// cell's is asked of each function, as of those that it calls.
 #![tactic(auto)]
 
 ghost use Rattle.std.specs.Prelude.{◌≡◌, true, ◌<◌, ◌≤◌, length};
@@ -194,7 +196,7 @@ fn cap_number(c: Cap, i: u64) -> u64 {
     }
 }
 
-// How many numbers an answer has.
+// How many numbers an answer has: a `match` is a table.
 fn count_of(q: Question) -> u64
     ensures { result ≤ 12 }
 {
@@ -270,7 +272,7 @@ fn put_neighbors(id: u64, level: u64, page: &mut Page) -> usize
     0
 }
 
-// How many hexadecimal fields a question of numbers has.
+// How many hexadecimal fields a question of numbers has: a `match` is a table.
 fn fields_of(q: Question) -> usize
     ensures { (0 < result) × (result ≤ 5) }
 {
@@ -390,7 +392,7 @@ fn put_number(page: &mut Page, at: usize, x: u64) -> usize {
     replies::put_decimal(page, n, x)
 }
 
-// 0 outside, 1 crossing, 2 inside.
+// 0 outside, 1 crossing, 2 inside: what the line says, by a `match` as a table.
 fn sight_number(s: Sight) -> u64 {
     match s {
         Sight::Outside => 0,

@@ -1,4 +1,5 @@
 // Answers as bytes of a buffer: each function writes from a place on, as long as there is room, and answers the place after.
+// The buffer and the place go side by side: a struct of the two would be made and taken apart at each call, and what is promised is of the whole buffer (`Wrote`).
 #![tactic(auto)]
 
 ghost use Rattle.std.specs.Prelude.{◌≡◌, ◌++◌};

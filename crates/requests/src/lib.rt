@@ -1,4 +1,5 @@
 // A line of `cover`, answered: what it asks is asked of the coverer, whatever its kind, by the engines that it names, and the answer is written.
+// What is lent to answer with, the words, the memory, the output and the page, goes side by side: the contract speaks of each.
 #![tactic(auto)]
 
 mod line;

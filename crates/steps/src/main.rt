@@ -3,6 +3,8 @@
 // their costs and their start cells' places, the next one first. It is for people who follow a run: what each step leaves is what `covering::watch` ensures, and
 // of the lines nothing is promised. Every step is run anew from the start cells, so a run of n steps costs what n * n / 2 steps cost. out= and tokens= make no
 // difference: ids are always written as 16 digits.
+// What `main` lends, the streams, the memory, the output and the page, goes side by side, and the page with how much of it is filled: all memory is lent, and parts of it
+// are written while others are read.
 #![tactic(auto)]
 
 ghost use Rattle.std.specs.Prelude.{◌+◌, ◌*◌, ◌≤◌, length};
@@ -38,7 +40,7 @@ struct Ahead {
 #[derive(Clone, Copy)]
 struct Stop;
 
-// A run that is followed: of a covering from outside or from inside.
+// A run that is followed: of a covering from outside or from inside, as `covering::watch` takes it.
 #[derive(Clone, Copy)]
 struct Followed<'a> {
     inner: bool,

@@ -1,5 +1,6 @@
 // An id's name, its sixteen hexadecimal digits or its token, and lists of ids as texts with a name a line: written, and read back. Each way takes one pass that
 // looks and one that writes: what is refused leaves the output as it was, so nothing is written before all is seen. No memory is asked for.
+// The lent buffer, the place and the form go side by side: a struct of them would be made and taken apart at each call, and what is promised is of the whole buffer.
 #![tactic(auto)]
 
 ghost use Rattle.std.specs.Prelude.{◌≡◌, ◌+◌, ◌^◌, ◌≤◌, ◌<◌, None, length};
