@@ -243,11 +243,9 @@ fn put_numbers(q: Question, a: u64, g: Cap, id: u64, page: &mut Page) -> usize
     let hex = q.is_hex();
     let count = count_of(q);
     let mut n = put_digits(page, 0, hex, number_of(q, a, g, id, c, 0));
-    let mut i = 1;
-    while i < count {
+    for i in 1..count {
         n = replies::put(page, n, b" ");
         n = put_digits(page, n, hex, number_of(q, a, g, id, c, i));
-        i += 1;
     }
     n
 }
@@ -428,6 +426,7 @@ fn put_truth(page: &mut Page, b: bool) -> usize {
     replies::put_decimal(page, 0, b as u64)
 }
 
+// By the question: each arm is one call, since each asks for another answer.
 fn put_region(q: Question, c: RegionCoverer, g: Region<'_>, id: u64, page: &mut Page) -> usize
     requires { NumbersFit c × (in_domain (area_of g) ≡ true) × CellId.Cell id }
 {
@@ -478,18 +477,13 @@ fn ask_region(q: Question, line: &[u8], at: usize, page: &mut Page) -> Result<us
 fn cells_in_front(ids: &[u64], n: usize) -> usize
     ensures { Cells result ids.now }
 {
-    let mut i = 0;
-    while i < n {
-        if ids.len() <= i {
-            return i;
-        }
-        if cellid::is_valid(ids[i]) {
-            i += 1;
-        } else {
+    let most = n.min(ids.len());
+    for i in 0..most {
+        if !cellid::is_valid(ids[i]) {
             return i;
         }
     }
-    i
+    most
 }
 
 fn put_normal(ids: &mut [u64; 4096], n: usize, page: &mut Page) -> usize
@@ -499,7 +493,7 @@ fn put_normal(ids: &mut [u64; 4096], n: usize, page: &mut Page) -> usize
     put_list(page, ids, m)
 }
 
-// Lays the list over the output.
+// Lays the list over the output: which way, the question says.
 fn lay(
     q: Question,
     c: RegionCoverer,
@@ -590,14 +584,14 @@ fn ask(line: &[u8], page: &mut Page) -> Result<usize, Fault> {
     let q = question.value;
     let at = question.after;
     match q {
-        Question::Normalize => ask_list(q, line, at, page),
-        Question::Denormalize => ask_list(q, line, at, page),
-        Question::NormalizeCovering => ask_list(q, line, at, page),
-        Question::Bound => ask_region(q, line, at, page),
-        Question::Starts => ask_region(q, line, at, page),
-        Question::RegionContainsCell => ask_region(q, line, at, page),
-        Question::RegionIntersectsCell => ask_region(q, line, at, page),
-        Question::RegionLook => ask_region(q, line, at, page),
+        Question::Normalize | Question::Denormalize | Question::NormalizeCovering => {
+            ask_list(q, line, at, page)
+        }
+        Question::Bound
+        | Question::Starts
+        | Question::RegionContainsCell
+        | Question::RegionIntersectsCell
+        | Question::RegionLook => ask_region(q, line, at, page),
         _ => ask_numbers(q, line, at, page),
     }
 }

@@ -1,5 +1,5 @@
-use native.Mathlib.Omega.{arith}
 use lib.Dec.{lit<}
+use native.Mathlib.Omega.{arith}
 use Rattle.cell.proofs.Laws.{cell_face}
 use Rattle.probe.proofs.put_numbers.Goals as goal
 
@@ -8,4 +8,4 @@ number_of-requires c = (c.requires, rw c.from_id-c.ensures (cell_face _ c.requir
 
 pub number_of-requires-in-loop-i : goal.number_of-requires-in-loop-i
 number_of-requires-in-loop-i c =
-    (c.requires, rw c.from_id-c.ensures (cell_face _ c.requires), omega (arith, c.loop-i-test.true, c.count_of-count.ensures))
+    (c.requires, rw c.from_id-c.ensures (cell_face _ c.requires), grind arith)
