@@ -57,8 +57,8 @@ pub record CalledOf (R : Std.Result (List ℕ) Refusal) (number : ℕ) (out out'
 
 -- an answer's number, how many bytes or ids were written, and the number of the first that is bad
 pub record NamesTold (a : Std.Result ℕ Refusal) (number count first : ℕ) : Type 0 where
-  pub is : number ≡ Names.number_of a
-  pub counted : count ≡ Names.written_of a
+  pub is : number ≡ number_told a
+  pub counted : count ≡ Ranges.words_of a
   pub named : first ≡ Names.first_of a
 
 -- all that such a call leaves

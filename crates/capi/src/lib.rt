@@ -109,10 +109,9 @@ pub fn tell_words(a: Result<usize, Refusal>, count: &mut u64) -> u64
 pub fn tell_names(a: Result<usize, Refusal>, count: &mut u64, first: &mut u64) -> u64
     ensures { NamesTold a result count.new first.new }
 {
-    *count = a.unwrap_or(0) as u64;
     *first = match a {
         Err(Refusal::Malformed(k)) => k,
         _ => 0,
     };
-    refusal::number(a)
+    tell_words(a, count)
 }
