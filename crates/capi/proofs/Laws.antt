@@ -7,10 +7,15 @@ use mir.Val.{bool_byte}
 use Rattle.covering.specs.declared.Answer.{Answer}
 use Rattle.covering.specs.Covering.{Result, answer_of, values_told, Answered}
 use Rattle.refusal.specs.declared.Refusal.{Refusal}
-use Rattle.refusal.proofs.Laws.{number_positive}
+use Rattle.refusal.specs.Refusal.{number_told}
+use Rattle.refusal.proofs.Laws.{number_positive, same_refusal}
+use Rattle.orders.specs.declared.Order.{Order}
+use Rattle.orders.specs.Orders.{night_answer}
+use Rattle.orders.proofs.Nights.{thirteen}
+use native.Mathlib.Omega.{arith}
 use Rattle.std.specs.Prelude.{Ok, Err}
 use Rattle.std.specs.Prelude as Std
-use Rattle.capi.specs.Calls.{Told, Called, CalledBy, CalledOf, NamesCalled}
+use Rattle.capi.specs.Calls.{Told, Called, CalledBy, CalledOf, NamesCalled, NightCalled, NightThirteen}
 
 module _ {R : Result} {number count steps : ℕ} {mem mem' out out' aside : List ℕ} where
   -- an answer that is told is all that a call leaves
@@ -62,3 +67,17 @@ words_determined R n n' o o₁ o₂ k k' a b = (a.is ∙ sym b.is, a.output ∙ 
 pub names_determined : (R : Std.Result (List ℕ) Refusal) (n n' : ℕ) (o o₁ o₂ : List ℕ) (k k' f f' : ℕ) → NamesCalled R n o o₁ k f → NamesCalled R n' o o₂ k' f' → (n ≡ n') × (o₁ ≡ o₂) × (k ≡ k') × (f ≡ f')
 names_determined R n n' o o₁ o₂ k k' f f' a b =
     (a.told.is ∙ sym b.told.is, a.output ∙ sym b.output, a.told.counted ∙ sym b.told.counted, a.told.named ∙ sym b.told.named)
+
+-- ---- a night
+
+thirteen_alone : (a : Std.Result Unit Refusal) → number_told a ≡ 13 → a ≡ Err Refusal.TooManyOrders
+thirteen_alone (Ok u) e = absurd (omega (arith, e))
+thirteen_alone (Err r) e = ap Err (same_refusal r Refusal.TooManyOrders (λ z. omega (arith, z, e)) e)
+
+-- what is said of the night's refusal is said of the number that C reads
+pub night_thirteen : {os os' : List Order} {number : ℕ} {mem mem' out out' : List ℕ} → NightCalled os os' number mem mem' out out' → NightThirteen os os' number mem mem' out out'
+night_thirteen {os} {number = number} C = let T = thirteen C.over in record {
+  exactly = (λ e. T.exactly.0 (thirteen_alone (night_answer os) (sym C.is ∙ e)), λ h. C.is ∙ ap number_told (T.exactly.1 h));
+  unchanged = λ e. T.unchanged (thirteen_alone (night_answer os) (sym C.is ∙ e));
+  served = λ h. let s = T.served h in (C.is ∙ ap number_told s.0, s.1, s.2, s.3);
+}

@@ -1,5 +1,5 @@
 -- What a call from C comes to: the request and the region made of its numbers, and the papers' number and values in the places that the caller lent.
-use Rattle.std.specs.Prelude.{◌≡◌, List, ℕ, Float}
+use Rattle.std.specs.Prelude.{◌≡◌, ◌<◌, ◌≤◌, ◌↔◌, length, List, ℕ, Float}
 use Rattle.std.specs.Prelude as Std
 use Rattle.refusal.specs.Refusal.{number_told}
 use Rattle.ranges.specs.Ranges as Ranges
@@ -11,7 +11,7 @@ use Rattle.run.specs.declared.RegionCoverer.{RegionCoverer}
 use Rattle.totals.specs.Totals.{six_of}
 use Rattle.covering.specs.declared.Answer.{Answer}
 use Rattle.orders.specs.declared.Order.{Order}
-use Rattle.orders.specs.Orders.{NightOver, night_answer}
+use Rattle.orders.specs.Orders.{NightOver, night_answer, serve_all}
 use Rattle.covering.specs.Covering.{Result, answer_of, values_told, memory_after, output_after}
 
 -- the numbers of a request
@@ -72,3 +72,9 @@ pub record NamesCalled (R : Std.Result (List ℕ) Refusal) (number : ℕ) (out o
 pub record NightCalled (os os' : List Order) (number : ℕ) (mem mem' out out' : List ℕ) : Type 0 where
   pub is : number ≡ number_told (night_answer os)
   pub over : NightOver os os' mem mem' out out' (night_answer os)
+
+-- "13 for more than 256 records, nothing changed": the number then and only then; else 0, and all are served
+pub record NightThirteen (os os' : List Order) (number : ℕ) (mem mem' out out' : List ℕ) : Type 0 where
+  pub exactly : (number ≡ 13) ↔ (256 < length os)
+  pub unchanged : number ≡ 13 → (os' ≡ os) × (mem' ≡ mem) × (out' ≡ out)
+  pub served : length os ≤ 256 → (number ≡ 0) × (os' ≡ (serve_all os mem out 0).orders) × (mem' ≡ (serve_all os mem out 0).memory) × (out' ≡ (serve_all os mem out 0).output)

@@ -6,7 +6,7 @@ use native.Mathlib.Nat.{add-zero}
 use native.Mathlib.Omega.{arith}
 use native.Mathlib.Numerals.{add-one}
 use lib.ListN.{length, get_or, take, drop, set, replicate, length-set, length-drop, take-append-drop, drop_of_length-le}
-use lib.Seq.{take-nil, take-suc-set, drop-set-lt, drop-cons, drop-drop, get_or-drop, get_or-take, length-take-le}
+use lib.Seq.{take-nil, take-length, take-suc-set, drop-set-lt, drop-cons, drop-drop, get_or-drop, get_or-take, length-take-le}
 use Rattle.std.specs.List.{copy_within}
 use Rattle.std.proofs.lemmas.List.{drop-take}
 use Rattle.std.proofs.lemmas.List.Edits.{paste_all}
@@ -104,11 +104,24 @@ room_no l d h = let e = lt-leb (length l) (length d) h in (rw (room_for, e), rw 
 
 -- ---- a copy
 
-pub copied : (m : List ℕ) (n : ℕ) (out part : List ℕ) → n ≤ length m → part ≡ take n m → part ++ drop n out ≡ laid 0 (take n m) out
-copied m n out part h e = rw e (ap (λ (k : ℕ). take n m ++ drop k out) (sym (length-take-le n m h)) ∙ sym (laid_start (take n m) out))
+-- what is left of the words, laid over the output as it is now, makes the output that is wanted
+pub record Laying (m : List ℕ) (n : ℕ) (out₀ out : List ℕ) (i : ℕ) : Type 0 where
+  pub have : n ≤ length m
+  pub room : n ≤ length out
+  pub same : laid i (drop i (take n m)) out ≡ laid 0 (take n m) out₀
 
-pub lay_done : (l out part : List ℕ) → length l ≤ length out → part ≡ l → (Some (length l) ≡ room_for l out) × (part ++ drop (length l) out ≡ laid_over l out)
-lay_done l out part h e = let r = room_yes l out h in (sym r.0, ap (λ (s : List ℕ). s ++ drop (length l) out) e ∙ sym (r.1 ∙ laid_start l out))
+pub lay_turn : (m : List ℕ) (n : ℕ) (out₀ out : List ℕ) (i : ℕ) → Laying m n out₀ out i → i < n → Laying m n out₀ (set out i (get_or m i 0)) (i + 1)
+lay_turn m n out₀ out i G h = record {
+  have = G.have;
+  room = simp length-set G.room;
+  same = sym (laid_cons i (get_or m i 0) (drop (i + 1) (take n m)) out (omega (arith, G.room))) ∙ sym (ap (λ (l : List ℕ). laid i l out) (next_word m n i G.have h)) ∙ G.same;
+}
+
+pub copy_done : (m : List ℕ) (n : ℕ) (out₀ out : List ℕ) (i : ℕ) → Laying m n out₀ out i → n ≤ i → out ≡ laid 0 (take n m) out₀
+copy_done m n out₀ out i G h = sym (sym G.same ∙ ap (λ (s : List ℕ). laid i s out) (no_more m n i G.have h) ∙ laid_nil i out)
+
+pub lay_done : (l out out' : List ℕ) → length l ≤ length out → out' ≡ laid 0 (take (length l) l) out → (Some (length l) ≡ room_for l out) × (out' ≡ laid_over l out)
+lay_done l out out' h e = let r = room_yes l out h in (sym r.0, e ∙ ap (λ (s : List ℕ). laid 0 s out) (take-length l) ∙ sym r.1)
 
 pub lay_none : (l out : List ℕ) → length out < length l → (None ≡ room_for l out) × (out ≡ laid_over l out)
 lay_none l out h = let r = room_no l out h in (sym r.0, sym r.1)

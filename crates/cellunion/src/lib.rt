@@ -191,12 +191,15 @@ pub fn widen(mem: &mut [u64], k: usize, at: usize, c: u64) -> usize
     kept
 }
 
-// Copies the first n words to the output's first places: as a function, for its promise is in the words of `laid`, which callers count on.
+// Copies the first n words to the output's first places: as a function, for its promise is in the words of `laid`, which callers count on. Word by word, of which the
+// compiler makes a `memcpy`: std's `copy_from_slice` asks for `memmove`, a name more that whoever links the archive for C without a C library would have to give.
 pub fn copy(ids: &[u64], n: usize, out: &mut [u64])
     requires { (n ≤ length ids.now) × (n ≤ length out.old) }
     ensures { out.new ≡ laid 0 (take n ids.now) out.old }
 {
-    out[..n].copy_from_slice(&ids[..n]);
+    for i in 0..n {
+        out[i] = ids[i];
+    }
 }
 
 // Lays a list over the output's first places, as it is; gives its length, or nothing where it has no room and nothing was written.
@@ -207,6 +210,6 @@ pub fn lay(list: &[u64], out: &mut [u64]) -> Option<usize>
     if out.len() < n {
         return None;
     }
-    out[..n].copy_from_slice(list);
+    copy(list, n, out);
     Some(n)
 }

@@ -8,6 +8,13 @@ use Rattle.orders.specs.declared.Order.{Order}
 use Rattle.batch.specs.Batch.{is_head, head_of, order_of}
 use Rattle.night.specs.declared.Heard.{Heard}
 
+-- the input's end, where the night is served
+abbrev pub is_end : Found → Bool
+is_end (Found.Line s) = false
+is_end Found.TooLong = false
+is_end Found.End = true
+is_end Found.Failed = false
+
 abbrev pub head_heard : List ℕ → Result Heard Fault
 head_heard line = elim (head_of line) [ Ok head ↦ Ok (Heard.Begin head) | Err fault ↦ Err fault ]
 

@@ -5,7 +5,7 @@
 ghost use Rattle.std.specs.Prelude.{◌≡◌, ◌+◌, ◌*◌, ◌≤◌, length};
 ghost use Rattle.input.specs.Feed.{LineWithin};
 ghost use Rattle.orders.specs.Nights.{places_of};
-ghost use Rattle.night.specs.Night.{head_heard, order_heard, line_heard, heard_in};
+ghost use Rattle.night.specs.Night.{is_end, head_heard, order_heard, line_heard, heard_in};
 
 use batch::Head;
 use input::{Found, Span, Streams};
@@ -47,6 +47,13 @@ fn hear(found: Found, first: bool, buf: &[u8]) -> Result<Heard, Fault>
         Found::End => Ok(Heard::Silent),
         Found::Failed => Err(Fault::ReadFailed),
     }
+}
+
+// Whether the input has ended, so that all orders are heard: only then are they served.
+fn is_end(found: Found) -> bool
+    ensures { result ≡ is_end found }
+{
+    matches!(found, Found::End)
 }
 
 // Writes the line of an order that was served to standard output, and tells whether it could be written.
@@ -177,7 +184,7 @@ fn run(streams: Streams, buf: &mut [u8], mem: &mut [u64], out: &mut [u64], page:
     let mut unread = Span::NONE;
     for before in 0..u64::MAX {
         let feed = input::next_line(streams, buf, unread);
-        if let Found::End = feed.found {
+        if is_end(feed.found) {
             serve_and_tell(streams, &mut orders[..n], head, mem, out, page);
             return;
         }

@@ -80,18 +80,15 @@ impl Order {
         )
     }
 
-    // With its answer written into it.
-    fn answered(self, a: Result<Answer, Refusal>) -> Order
-        ensures { result ≡ with_answer self a }
+    // Writes its answer into it. By its own fields alone: neither what is asked nor what lies between the fields is stored again, since the record is C's.
+    fn write_answer(&mut self, a: Result<Answer, Refusal>)
+        ensures { self.new ≡ with_answer self.old a }
     {
         let values = Answer::told(a);
-        Order {
-            number: refusal::number(a),
-            count: values.count,
-            steps: values.steps,
-            aside: values.aside,
-            ..self
-        }
+        self.number = refusal::number(a);
+        self.count = values.count;
+        self.steps = values.steps;
+        self.aside = values.aside;
     }
 }
 
@@ -105,7 +102,7 @@ pub fn night(orders: &mut [Order], mem: &mut [u64], out: &mut [u64]) -> Result<(
     let mut used: usize = 0;
     for order in orders.iter_mut() {
         let a = order.serve(used, mem, out);
-        *order = order.answered(a);
+        order.write_answer(a);
         used += order.count;
     }
     Ok(())

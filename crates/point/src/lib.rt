@@ -26,8 +26,9 @@ pub const RIGHT: f64 = 2.0;
 
 pub const STRAIGHT: f64 = 4.0;
 
-// The float without its sign, by std's method; a NaN stays one.
-#[tactic(auto, using(crate::proofs::Laws::one_abs))]
+// The float without its sign, by std's method; a NaN stays one. The laws of its three ways by signs are named too, so that a body by them is refused where it is wrong
+// and nowhere else.
+#[tactic(auto, using(crate::proofs::Laws::one_abs, crate::proofs::Laws::abs_below, crate::proofs::Laws::abs_zero, crate::proofs::Laws::abs_above))]
 pub fn abs(x: f64) -> f64
     ensures { result ≡ abs_of x }
 {

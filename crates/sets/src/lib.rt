@@ -62,7 +62,8 @@ struct Cursor {
     inside: bool,
 }
 
-// Where a list stands at the leaf p, its next cell at place i.
+// Where a list stands at the leaf p, its next cell at place i. Here and in `move_to` by early returns, and by choices of a field: where branches that make a struct
+// join, it is copied with what lies between its fields, and a sweep takes twice as long.
 fn cursor_at(l: &[u64], i: usize, p: u64) -> Cursor
     requires { All Cell (drop i l.now) }
     ensures { result ≡ cursor_at l.now i p }
@@ -70,25 +71,17 @@ fn cursor_at(l: &[u64], i: usize, p: u64) -> Cursor
     if i < l.len() {
         let id = l[i];
         let first = lo(id);
-        if first <= p {
-            Cursor {
-                at: i,
-                edge: hi(id),
-                inside: true,
-            }
-        } else {
-            Cursor {
-                at: i,
-                edge: first,
-                inside: false,
-            }
-        }
-    } else {
-        Cursor {
+        let inside = first <= p;
+        return Cursor {
             at: i,
-            edge: LEAVES,
-            inside: false,
-        }
+            edge: if inside { hi(id) } else { first },
+            inside,
+        };
+    }
+    Cursor {
+        at: i,
+        edge: LEAVES,
+        inside: false,
     }
 }
 
@@ -98,12 +91,12 @@ fn move_to(l: &[u64], c: Cursor, q: u64) -> Cursor
     ensures { result ≡ moved_to l.now c q }
 {
     if q < c.edge {
-        c
-    } else if c.inside {
-        cursor_at(l, c.at + 1, q)
-    } else {
-        cursor_at(l, c.at, q)
+        return c;
     }
+    if c.inside {
+        return cursor_at(l, c.at + 1, q);
+    }
+    cursor_at(l, c.at, q)
 }
 
 // Writes the cells of the stretch [s, p) from place `at` on, as far as there are places, unless the leaves from p on are wanted too; gives the place after them.

@@ -114,6 +114,7 @@ readable_when form text room = (
 -- "the output unchanged in both"
 pub unchanged : (R : Result (List ℕ) Refusal) (e : Refusal) (out out' : List ℕ) → Answered R (Err e) out out' → out' ≡ out
 unfolding length_of output_after
+unchanged (Err (Refusal.Malformed k)) e out out' A = A.output
 unchanged (Err f) e out out' A = A.output
 unchanged (Ok l) e out out' A = let z = A.answer in cc
 

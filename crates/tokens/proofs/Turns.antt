@@ -84,6 +84,7 @@ answered_done s l d n r d' F w =
 -- what is refused leaves the output
 pub answered_bad : (R : Result (List ℕ) Refusal) (e : Refusal) (d : List ℕ) → Err e ≡ length_of R → Answered R (Err e) d d
 unfolding length_of output_after
+answered_bad (Err (Refusal.Malformed k)) e d h = record { answer = h; output = refl }
 answered_bad (Err f) e d h = record { answer = h; output = refl }
 answered_bad (Ok l) e d h = cc
 

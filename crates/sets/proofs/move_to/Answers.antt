@@ -12,5 +12,5 @@ cursor_at-requires c = cells_on c.args.l.now c.args.c.at c.requires.0
 pub returns-then-c : goal.returns-then-c
 returns-then-c c = c.cursor_at.ensures ∙ move_past _ c.args.c _ c.if-q-c.false c.if-c.true
 
-pub returns-else-c : goal.returns-else-c
-returns-else-c c = c.cursor_at-else-c.ensures ∙ move_on _ c.args.c _ c.if-q-c.false c.if-c.false
+pub returns : goal.returns
+returns c = c.cursor_at-2.ensures ∙ move_on _ c.args.c _ c.if-q-c.false c.if-c.false
